@@ -1,4 +1,4 @@
--- A walk over commits that are kept, where all that it meets is kept.
+-- A walk over commits that are kept, if all that it meets is kept.
 use Rattle.std.proofs.Common.{◌≡◌, ◌∙◌, ap, refl, sym, subst, arith, cond, Bool, true, false, ℕ, List, [], ◌∷◌, inl, inr, Some, None, Option, option_map, Vec}
 use Rattle.std.specs.Prelude.{◌⊎◌, IfSome, ℤ, pos, ◌≤ℤ◌}
 use Rattle.std.specs.declared.alloc.Global.{Global}
@@ -32,7 +32,7 @@ use Rattle.history_walks.specs.declared.error.WalkError.TheVariants.{Failed, Bro
 use Rattle.history_walks.proofs.Faulty.{reached_by_all}
 use Rattle.history_walks.proofs.Kept.{in_nil, reached_as}
 
--- ---- the rows and the commits that are kept tell their times; the others are of time 0
+-- ---- the rows and the commits that are kept say their times; the others are of time 0
 
 abbrev kept_time : Option Object → ℤ → ℤ
 kept_time None seconds = pos 0
@@ -90,7 +90,7 @@ module _ (rows : List Row) (contents : Contents) (table : Table) (g : Commits Ob
   same_commit : (x : ObjectId) (object : Object) → table_of contents (id_of x) ≡ Some object → alone rows contents g x ≡ g x
   same_commit x object there = ap (make (g x).parents) (time_for_there (row_of rows x) (table_of contents (id_of x)) (g x).time object there)
 
-  -- one that has a row is told by it
+  -- one that has a row stays as it is
   rowed_commit : (x : ObjectId) → Holds rows x → alone rows contents g x ≡ g x
   rowed_commit x held = ap (λ row. make (g x).parents (time_for row (table_of contents (id_of x)) (g x).time)) (row_there rows x held).1
 

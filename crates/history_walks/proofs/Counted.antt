@@ -1,4 +1,5 @@
--- The commits that are told are those that are stored, and of them those that are counted have rows.
+-- The commits that are described are those that are stored, and those of them that are counted have
+-- rows.
 use Rattle.std.proofs.Common.{◌≡◌, ◌∙◌, ◌≤◌, ◌+◌, ◌||◌, ℕ, zero, suc, ap, refl, sym, subst, arith, Bool, true, false, List, [], ◌∷◌, length, map, inl, inr, Option, Some, None, option_and_then, option_to_list}
 use Rattle.std.specs.Prelude.{Contains, nat_le}
 use Rattle.std.specs.List.{list_any}
@@ -20,7 +21,7 @@ use Rattle.history_walks.proofs.Members.{AreApart, contains_from_in, filter_apar
 pub same_object : (a b : ObjectId) → id_of a ≡ id_of b → a ≡ b
 same_object a b same = sym (object_id_of-id_of a) ∙ ap object_id_of same ∙ object_id_of-id_of b
 
--- ---- none is told twice
+-- ---- none is described twice
 
 abbrev pub ids_told : List Told → List Id
 ids_told commits = map (λ (told : Told). id_of told.id) commits
@@ -36,7 +37,7 @@ told_apart (told ∷ behind) order = (twice, told_apart behind order.2)
 
 -- ---- whether a commit is counted
 
--- what stands as a commit stands
+-- what is stored as a commit is stored
 stands_so : (r : Repository) (id : Id) (commit : CommitValue) → commit_at r id ≡ Some commit → (value : Value) × (get r.objects id ≡ Some value)
 stands_so r id commit at = go (get r.objects id) refl at
   where
@@ -70,7 +71,7 @@ counted_holds r id is = go (commit_at r id) refl is
     go None e h = let z : ⊥ = cc in absurd z
     go (Some commit) e h = subst (λ (x : Option CommitValue). Rattle.std.specs.Prelude.IsSome x) (sym e) refl
 
--- ---- all that is told is stored
+-- ---- all that is described is stored
 
 module _ (r : Repository) (commits : List Told) (all : AreAllTold r commits) where
   pub stored_in : (told : Told) → In told commits → TellsStored r told
@@ -91,13 +92,13 @@ module _ (r : Repository) (commits : List Told) (all : AreAllTold r commits) whe
       let as_len : len r.objects ≡ length (entries r.objects) = len-entries r.objects in
       omega (arith, most, as_told, as_keys, as_len)
 
-  -- a told commit that is counted is a counted key
+  -- a described commit that is counted is a counted key
   pub in_counted : (told : Told) → In told commits → generation r (id_of told.id) ≤ generation_limit → In (id_of told.id) (counted r)
   in_counted told i within =
       let is = stored_in told i in
       in_filter (is_counted r) (keys r.objects) (id_of told.id) (told_keys (id_of told.id) (in_map (λ (t : Told). id_of t.id) told commits i)) (is_within r (id_of told.id) is.commit is.stored within)
 
-  -- a counted key is told
+  -- a counted key is described
   pub counted_told : (id : Id) → In id (counted r) → (told : Told) × In told commits × (id_of told.id ≡ id) × (generation r (id_of told.id) ≤ generation_limit)
   counted_told id i =
       let is = of_filter (is_counted r) (keys r.objects) id i in

@@ -1,4 +1,4 @@
--- Generations of commits that are told each before its parents.
+-- Generations of commits that are described each before its parents.
 use Rattle.std.proofs.Common.{◌≡◌, ◌∙◌, ◌≤◌, ◌+◌, ℕ, zero, suc, ap, refl, sym, subst, arith, List, [], ◌∷◌, ◌++◌, length, map, max, inl, inr, Option, Some, None, option_map, unwrap_or}
 use Rattle.std.specs.Prelude.{Contains, fold, ◌⊎◌}
 use Rattle.std.specs.FinMap.{len, keys, entries, len-entries}
@@ -75,12 +75,12 @@ settled_one r k id parents (suc m) least =
     ∙ ap (λ xs. suc (fold max 0 xs)) (map_same (λ parent. generation_within m r parent) (λ parent. generation_within k r parent) (parents_at r id) (λ parent among. parents parent among m (omega (arith, least))))
     ∙ sym (step r k id)
 
--- ---- of commits that are told
+-- ---- of commits that are described
 
 pub told_parents : (r : Repository) (told : Told) → TellsStored r told → parents_at r (id_of told.id) ≡ map id_of told.parents.items
 told_parents r told is = ap (λ found. unwrap_or (option_map (λ (commit : CommitValue). commit.parents) found) []) is.stored ∙ sym is.parents
 
--- where the commits behind it are settled, so are its parents
+-- if the commits after it are settled, so are its parents
 parents_settled : (r : Repository) (first : Told) (behind : List Told) → TellsStored r first → ((parent : ObjectId) → Contains first.parents.items parent → IsTold behind parent)
     → ((told : Told) → In told behind → IsSettled r (length behind) (id_of told.id)) → (parent : Id) → In parent (parents_at r (id_of first.id)) → IsSettled r (length behind) parent
 parents_settled r first behind stored order rest parent i =
@@ -96,7 +96,7 @@ settled r (first ∷ behind) stored order told (inl same) =
 settled r (first ∷ behind) stored order told (inr later) =
     settled_more r (length behind) (suc (length behind)) (id_of told.id) (omega arith) (settled r behind (λ t j. stored t (inr j)) order.2 told later)
 
--- the generation of a told commit, of a map with as many ids at least
+-- the generation of a described commit, in a map with at least as many ids
 module _ (r : Repository) (commits : List Told) (stored : (told : Told) → In told commits → TellsStored r told) (order : AreInOrder commits) (fewer : length commits ≤ len r.objects) (told : Told) (i : In told commits) where
   pub one_more : generation r (id_of told.id) ≡ suc (fold max 0 (map (λ parent. generation r (id_of parent)) told.parents.items))
   one_more =

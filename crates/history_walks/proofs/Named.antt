@@ -1,4 +1,5 @@
--- A list that answers a walk over some values answers, named, the walk over their names.
+-- A list that a walk over some values may return is, named, one that the walk over their names may
+-- return.
 use Rattle.std.proofs.Common.{◌≡◌, inl, inr, ℕ, zero, suc, List, [], ◌∷◌, refl, sym, ◌∙◌, ap, subst, true, Option, Some, None, slice_get, take}
 use Rattle.std.specs.Prelude.{Contains, map, filter, option_map, ℤ, ◌≤ℤ◌, ◌<ℤ◌, IfSome, ⊤}
 use Rattle.std.proofs.lemmas.Option.{slice_get-map}

@@ -43,7 +43,7 @@ module _ {F : Type 0} (honest may_fail : F → Type 0) (table : F → Table) (id
 
   module _ (goes : All → Id → All → Type 0) (before after : Simple F All) (old : Contents) (read : HasRead before old) (answer : Result Info simple.Error) (info : Info)
       (next : GivesNext (λ _ _. true) goes (honest (objects_of before)) (may_fail (objects_of before)) (table (objects_of before)) (ids (objects_of before)) before (Some answer) after) (was : answer ≡ Ok info) where
-    -- its row tells its generation, where it has one
+    -- its row says its generation, if it has one
     generation_told : honest (objects_of walk) → (h : Commits ObjectId) → AreTold (rows_of (graph_of walk)) (table (objects_of walk)) h → HasRowsGeneration (rows_of (graph_of walk)) info.id info.generation
     generation_told is h told =
         let there = subst (λ (o : F). honest o → (g : Commits ObjectId) → AreTold (rows_of (graph_of before)) (table o) g

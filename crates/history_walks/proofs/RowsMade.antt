@@ -25,7 +25,7 @@ use Rattle.history_walks.proofs.Members.{AreApart, contains_from_in, in_from_con
 use Rattle.history_walks.proofs.Generations.{attained, below_greatest, bounded, map_same, one_more, told_parents}
 use Rattle.history_walks.proofs.Counted.{counted_apart, counted_told, fewer, in_counted, same_object, stored_in}
 
--- the row of what is told, with its generation
+-- the row of a described commit, with its generation
 pub record IsRowOf (r : Repository) (row : Row) (told : Told) : Type 0 where
   pub id : row.id ≡ told.id
   pub tree : row.tree ≡ told.tree
@@ -134,7 +134,7 @@ parent_told (first ∷ behind) order told (inl same) parent among =
     (other, inr (in_from_contains behind other c), named)
 parent_told (first ∷ behind) order told (inr i) parent among = let (other, c, named) = parent_told behind order.2 told i parent among in (other, inr c, named)
 
--- no commit has two rows, so none of their ids stands twice
+-- no commit has two rows, so none of their ids occurs twice
 rows_apart : (some : List Row) → IsOnce some → AreApart (map (λ (row : Row). id_of row.id) some)
 rows_apart [] once = tt
 rows_apart (row ∷ rest) once = (twice, rows_apart rest (λ j k first second a b same. let e = once (suc j) (suc k) first second a b same in omega (arith, e)))

@@ -35,7 +35,7 @@ ahead here there last (part ∷ parts) (token ∷ tokens) (next, is, reads) (nex
     let rest = ahead next there last parts tokens reads (subst (λ p. Reads p tokens last) (sym same.1) all) ends in
     (rest.0, (λ i. sym same.0 i ∷ rest.1 i), rest.2)
 
--- ---- the parents that stand in front
+-- ---- the parents that come first
 
 abbrev leading : List Part → List Id
 leading [] = []

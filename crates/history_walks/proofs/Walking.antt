@@ -123,7 +123,7 @@ module _ (goes : All → Id → All → Type 0) (walk before after : Topo All) (
           | inr stops ↦ inr (stops.0, error, stops.1, refl, subst (λ (p : Parents). Listed g (topo_request tips ends p all_accepted) stops.0) same stops.2.listed)
         ]
 
--- ---- what is asked for
+-- ---- what is requested
 
 -- the store and the rows are these
 pub over_same : {F : Type 0} (honest : F → Type 0) (table : F → Table) (Q : F → Option (List Row) → Commits ObjectId → Type 0) (other store : F) (graph rows : Option (List Row)) → other ≡ store → graph ≡ rows
