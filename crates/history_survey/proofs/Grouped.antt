@@ -1,4 +1,4 @@
--- Files that stand in the order of a tree's entries: they ascend, and their entries are those again.
+-- Files in the order of a tree's entries: they ascend, and their entries are those again.
 use Rattle.std.proofs.Common.{◌≡◌, Bool, true, false, cond, List, [], ◌∷◌, ◌++◌, map, refl, sym, ◌∙◌, ap, subst, arith, tests, inl, inr, bytes_eq, ◌==◌, nat_cmp, Less, Equal, Greater, append_assoc, ℕ}
 use Rattle.std.specs.List.{before_first, after_first, flat_map}
 use Rattle.std.specs.Ordering.{ordering_then, is_lt}

@@ -141,7 +141,7 @@ root_listed kind tree ids rooted below = record {
 
 -- ---- the id of a place
 
--- the digits stand in the place of an id
+-- the digits are in the place of an id
 pub digits_placed : (kind : Kind) (id : Id) (path : Bytes) → is_id kind id ≡ true → path ≡ object_place id → (take 2 (drop 8 path) ++ drop 11 path ≡ hex id) × (11 ≤ length path)
 digits_placed kind id path formed is = go (hex id) refl
   where
@@ -165,7 +165,7 @@ digits_placed kind id path formed is = go (hex id) refl
         let whole : path ≡ codes "objects/" ++ take 2 (a ∷ b ∷ rest) ++ 47 ∷ drop 2 (a ∷ b ∷ rest) = is ∙ ap (λ h. codes "objects/" ++ take 2 h ++ 47 ∷ drop 2 h) e in
         (ap (λ (p : Bytes). take 2 (drop 8 p) ++ drop 11 p) whole ∙ sym e, subst (λ (p : Bytes). 11 ≤ length p) (sym whole) (omega arith))
 
--- the place of an id tells it
+-- the place of an id is that of no other id
 pub other_place : (kind : Kind) (id other : Id) (path digits : Bytes) → is_id kind id ≡ true → is_id kind other ≡ true → path ≡ object_place id → digits ≡ take 2 (drop 8 path) ++ drop 11 path → digits ≡ hex other → path ≡ object_place other
 other_place kind id other path digits formed other_formed is cut spelled =
     is ∙ ap object_place (hex_tells kind id other formed other_formed (sym (digits_placed kind id path formed is).0 ∙ sym cut ∙ spelled))

@@ -74,7 +74,7 @@ module _ (kind : Kind) (tree : Tree) (values : Values) (in_tree : AreInTree kind
   plain : (q : Id) (m : FileMap) → get values q ≡ Some (StoredFolder m) → ArePlain (entries m)
   plain q m at = plain_written m (((in_tree.sound).written q (StoredFolder m) at).0)
 
-  -- all of a folder that is stored stands
+  -- all that a stored folder holds is stored or to come
   stored_comes : (vs : List Value) (q : Id) (m : FileMap) → get values q ≡ Some (StoredFolder m) → HasAll (Coming r vs) m
   stored_comes vs q m at = has_map (IsStored r) (Coming r vs) (λ v h. inr (near_stored kind values v h)) m (has_stored r (in_tree.sound).whole q m at)
 

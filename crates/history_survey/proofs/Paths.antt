@@ -21,7 +21,7 @@ one_part (b ∷ path) h =
     let parts = or_parts (b == 47) (has_byte 47 path) h in
     ap (λ t. cond t ([] ∷ components path) (onto_first b (components path))) parts.0 ∙ ap (onto_first b) (one_part path parts.1)
 
--- the components of what stands below a folder
+-- the components of a path below a folder
 pub parts_below : (folder rest : Bytes) → components (folder ++ 47 ∷ rest) ≡ components folder ++ components rest
 parts_below [] rest = refl
 parts_below (b ∷ folder) rest = go (b == 47) (parts_below folder rest) (some_parts folder)

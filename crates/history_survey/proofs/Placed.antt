@@ -1,4 +1,4 @@
--- Places tell ids of the kind, also those that content alone names.
+-- Places are those of ids of the kind, also the ids that only contents name.
 use Rattle.std.proofs.Common.{◌≡◌, ℕ, zero, suc, ◌<◌, ◌≤◌, Bool, true, false, not, ◌&&◌, List, [], ◌∷◌, ◌++◌, map, length, take, drop, refl, sym, ◌∙◌, ap, subst, arith, tests, nat_lt, ◌==◌, codes, slice_index, inl, inr}
 use Rattle.std.specs.List.{list_all}
 use Rattle.gix_hash_id.specs.Id.{Id}

@@ -438,7 +438,7 @@ module _ (kind : Kind) (tree : Tree) (ids : List ObjectId) (unmet : Unmet) (done
         either true o h = refl
         either false o h = h
 
-  -- ---- what is wrong where a link is to nothing that is done or to come
+  -- ---- what is wrong if a link is to nothing that is done or to come
 
   module _ (frame : Frame) (frames : List Frame) (s : Stands kind tree ids unmet done (frame ∷ frames) None) (link : Id) (as_kind : ObjectKind) (named : Names kind tree (id_of frame.id) link as_kind) where
     ways : (f : Frame) (fs : List Frame) → AreOpen kind tree s.values (f ∷ fs) → (id : Id) → IsAmong id fs → Reaching kind tree id (id_of f.id)

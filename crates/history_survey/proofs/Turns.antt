@@ -33,14 +33,14 @@ module _ (kind : Kind) (tree : Tree) (ids : List ObjectId) (unmet : Unmet) (done
       closed kind tree ids unmet done frame (reverse rest) s (subst (λ n. n ≤ frame.next) (sym (length_map link_of frame.links.items)) ended)
       (record { kind = frame.kind; longest = frame.longest }) refl refl new put.0
 
-  -- where none is open the first of those that are to come is next
+  -- if none is open, the first of those that are to come is next
   pub first : (items : List Frame) → items ≡ [] → Stands kind tree ids unmet done (reverse items) None → (id : ObjectId) → IsTrue (sets.contains by_id unmet id) → (new : Unmet) → sets.Updates by_id unmet new id false
       → Stands kind tree ids new done (reverse items) (Some id)
   first items none s id has new removed =
       subst (λ fs. Stands kind tree ids new done (reverse fs) (Some id)) (sym none)
       (taken kind tree ids unmet done [] (subst (λ fs. Stands kind tree ids unmet done (reverse fs) None) none s) id has tt new removed.0)
 
-  -- where none is to come nothing changes
+  -- if none is to come, nothing changes
   unchanged : (frames : List Frame) → Stands kind tree ids unmet done frames None → (new : Unmet) → new.keys ≡ unmet.keys → Stands kind tree ids new done frames None
   unchanged frames s new same = record {
     values = s.values;

@@ -3,7 +3,6 @@ use Rattle.history_survey.specs.Surveyed.{StandsAt, left_of}
 use Rattle.history_survey.specs.Surveying.{AreListed}
 use Rattle.history_survey.proofs.order.survey_objects.Given as goal
 
--- the survey stands
 abbrev pub invariant-survey : goal.invariant-survey
 invariant-survey g l = g.F.Files.is_honest l.fn.files → AreListed l.kind (g.F.Files.history l.fn.files).tree l.fn.ids
     → StandsAt l.kind (g.F.Files.history l.fn.files).tree l.fn.ids l.survey None

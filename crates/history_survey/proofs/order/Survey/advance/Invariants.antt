@@ -6,7 +6,7 @@ use Rattle.history_survey.specs.Passing.{IsSame}
 use Rattle.history_survey.specs.Surveyed.{StandsOver}
 use Rattle.history_survey.proofs.order.Survey.advance.Given as goal
 
--- the survey stands with the object that goes on
+-- what is true of the survey stays so with the object that goes on
 abbrev pub invariant-links : goal.invariant-links
 invariant-links l = record {
   stands : (kind : Kind) (tree : Tree) (ids : List ObjectId) → StandsOver kind tree ids l.fn.self (l.fn.frame ∷ reverse l.fn.self.waiting.items) None

@@ -5,7 +5,7 @@ use Rattle.gix_ref_file.specs.Tree.{Tree}
 use Rattle.history_survey.specs.Surveyed.{StandsAt, left_of}
 use Rattle.history_survey.proofs.order.Survey.next.Given as goal
 
--- the survey stands, and none more has come
+-- what is true of the survey stays so, and none more has come
 abbrev pub invariant-noted : goal.invariant-noted
 invariant-noted l = record {
   stands : (kind : Kind) (tree : Tree) (ids : List ObjectId) → StandsAt kind tree ids l.fn.self None → StandsAt kind tree ids l.self None;
