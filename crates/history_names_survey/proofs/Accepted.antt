@@ -104,7 +104,7 @@ ends_before [] t b x lacks e = omega arith
 ends_before (c ∷ s) t [] x lacks e = clash (subst (λ n. (n == 10) ≡ true) (sym (head_same e)) refl) (or_parts (c == 10) (has_byte 10 s) lacks).0
 ends_before (c ∷ s) t (d ∷ b) x lacks e = let rest = ends_before s t b x (or_parts (c == 10) (has_byte 10 s) lacks).1 (tail_same e) in omega (arith, rest)
 
--- what is left behind some lines of a log is lines
+-- the rest after some lines of a log is lines
 record Left (kind : Kind) (rest : Bytes) : Type 0 where
   lines : List LogEntry
   formed : list_all (is_log_entry kind) lines ≡ true
@@ -166,7 +166,7 @@ private_front path h = elim (or_cases (begins (codes "refs/bisect/") path || beg
   | inr one ↦ ap (begins refs_front) (begins_parts (codes "refs/rewritten/") path one)
 ]
 
--- ---- what stands in a repository's names part
+-- ---- what is in a repository's names part
 
 module _ (tree : Tree) (r : Repository) (facts : Facts) (are : AreFactsOf facts r.objects) (s : StandsNames tree r) where
   record Stood (name : Bytes) : Type 0 where
@@ -187,7 +187,7 @@ module _ (tree : Tree) (r : Repository) (facts : Facts) (are : AreFactsOf facts 
           let parts = and_parts (is_name name) (not (is_private name)) both in
           record { id = ref.id; at = at; reads = (s.holds.names name ref.id).1 at; named = parts.0; common = not-true (is_private name) parts.1 }
 
-  -- where a file stands
+  -- the places of the part's files
   abbrev Stands : Bytes → Type 0
   Stands path = (path ≡ head_place) ⊎ (path ≡ packed_place) ⊎ Stood path ⊎ ((is_log_place path ≡ true) × Stood (log_name path))
 
@@ -259,7 +259,7 @@ module _ (tree : Tree) (r : Repository) (facts : Facts) (are : AreFactsOf facts 
       ap (λ b. cond b (unwrap_or (option_map (loose_state r.kind) (file_at tree name)) (packed_read r.kind name (file_at tree packed_place))) Absent) named
       ∙ ap (unwrap_or (option_map (loose_state r.kind) (file_at tree name))) (read_by r.kind name (file_at tree packed_place) packs.packed packs.read)
 
-  -- a name that stands for another has a file
+  -- a symbolic name has a file
   has_file : (name target : Bytes) → name_state r.kind tree name ≡ states.Symbolic target → (is_name name ≡ true) × (is_file_at tree name ≡ true)
   has_file name target reads = by_name (is_name name) refl
     where
@@ -275,7 +275,7 @@ module _ (tree : Tree) (r : Repository) (facts : Facts) (are : AreFactsOf facts 
           clash refl (sym (ap is_absent (sym reads ∙ ap (λ b. cond b (unwrap_or (option_map (loose_state r.kind) (file_at tree name)) (packed_read r.kind name (file_at tree packed_place))) Absent) is)))
       by_name true is = by_text is (file_at tree name) refl (sym (reads_by name is) ∙ reads)
 
-  -- what reads as something is a name that stands
+  -- a name exists if it reads as something
   reads_stands : (name : Bytes) → is_absent (name_state r.kind tree name) ≡ false → stands r name ≡ true
   reads_stands name some = by_state (name_state r.kind tree name) refl some
     where

@@ -42,6 +42,6 @@ module _ (kind : Kind) (facts : Facts) (tree : Tree) (rooted : IsRooted tree) wh
       at (Some (file text)) e = cc
       at (Some folder) e = may
 
-  -- all that stands is sound where all below the root is
+  -- each path is sound if all below the root is
   pub all_at : IsSoundBelow kind facts [] tree → (path : Bytes) → IsSoundAt kind facts tree path (get tree path)
   all_at sound = found_all tree rooted (IsSoundAt kind facts tree) nothing sound

@@ -1,4 +1,4 @@
--- Names that may stand one behind another in a file of packed names.
+-- Names that may follow one another in a file of packed names.
 use Rattle.std.proofs.Common.{◌≡◌, ℕ, Bool, true, false, not, ◌&&◌, ◌||◌, List, [], ◌∷◌, ◌++◌, map, refl, sym, ◌∙◌, ap, bytes_eq}
 use Rattle.std.specs.List.{list_any, list_all}
 use Rattle.std.specs.FinMap.Entries.{below_all}
@@ -96,7 +96,7 @@ below_one x (z ∷ front) l y e less =
     let parts = and_parts (is_lt (by_bytes x z)) (below_all by_bytes x (map pair_of (front ++ l ∷ []))) e in
     and_from (is_lt (by_bytes x z)) (below_all by_bytes x (map pair_of (front ++ l ∷ y ∷ []))) parts.0 (below_one x front l y parts.1 less)
 
--- behind names that ascend, one that comes behind the last of them
+-- one more name after names that ascend: they ascend exactly if it is greater than the last of them
 pub ascending_one : (front : List (List ℕ)) (l y : List ℕ) → is_ascending (front ++ l ∷ []) ≡ true → is_ascending (front ++ l ∷ y ∷ []) ≡ is_lt (by_bytes l y)
 ascending_one [] l y e = and_true (is_lt (by_bytes l y) && true) ∙ and_true (is_lt (by_bytes l y))
 ascending_one (x ∷ front) l y e =
@@ -140,7 +140,7 @@ module _ (sorted : Bool) where
       let g = good_parts (xs ++ ys) e in
       good_from xs (and_parts (list_all is_name xs) (list_all is_name ys) (sym (list_all-append is_name xs ys) ∙ g.all)).0 (twice_front xs ys g.once) (rises_front xs ys g.rises)
 
-  -- one more is good where it may follow and isn't there yet
+  -- one more is good exactly if it may follow and isn't there yet
   pub good_next : (xs : List (List ℕ)) (y : List ℕ) → are_good_names sorted xs ≡ true → (is_name y && rises (xs ++ y ∷ [])) ≡ true → list_any (bytes_eq y) xs ≡ false → are_good_names sorted (xs ++ y ∷ []) ≡ true
   good_next xs y e follows new =
       let g = good_parts xs e in

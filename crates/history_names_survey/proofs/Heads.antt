@@ -1,4 +1,4 @@
--- What HEAD tells.
+-- What HEAD says.
 use Rattle.std.proofs.Common.{◌≡◌, ℕ, true, false, [], ◌∷◌, ◌++◌, length, Option, Some, None, option_map, sym, ◌∙◌, ap, subst, codes}
 use Rattle.std.specs.Prelude.{MatchOption}
 use Rattle.std.proofs.lemmas.List.{append_cancel_left, append_cancel_right}

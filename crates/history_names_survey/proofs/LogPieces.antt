@@ -53,7 +53,7 @@ line_fails kind log rest more front behind lines Memory told cut lacks wrong = t
 
 -- ---- the lines of a piece
 
--- of a piece, behind so many lines of a log, this much is taken, and this is the rest
+-- of a piece, after so many lines of a log, this much is taken, and this is the rest
 pub record LinesTaken (kind : Kind) (piece rest : Bytes) (before lines : ℕ) : Type 0 where
   pub taken : Bytes
   pub cut : piece ≡ taken ++ rest
@@ -94,7 +94,7 @@ module _ (kind : Kind) (piece rest : Bytes) (before lines : ℕ) (read : LinesTa
           ap (λ t. drop (length piece - length rest) t) (ap (λ t. t ++ more) read.cut ∙ append_assoc read.taken rest more)
           ∙ drop_at read.taken (rest ++ more) (length piece - length rest) (omega (arith, sizes))
 
-  -- where nothing is taken, the rest is the piece
+  -- if nothing is taken, the rest is the piece
   pub piece_lacks : length piece - length rest ≡ 0 → has_byte 10 rest ≡ false → has_byte 10 piece ≡ false
   piece_lacks none lacks = ap (has_byte 10) (read.cut ∙ ap (λ t. t ++ rest) (nothing read.taken (omega (arith, sizes, none)))) ∙ lacks
     where
@@ -189,7 +189,7 @@ pub counted : (o : Option Bytes) (at most : ℕ) → unwrap_or (option_map (λ b
 counted None at most = none_there [] at most refl
 counted (Some bytes) at most = refl
 
--- a buffer of so many bytes that was filled at its beginning, without the bytes behind that
+-- a buffer of so many bytes that was filled at its beginning, without the bytes after that
 pub piece_filled : (text : Bytes) (at room all count : ℕ) (buffer read rest piece : Bytes) → piece ≡ take count (take all (read ++ rest)) → read ≡ overwritten buffer (part text at (length buffer)) → length read ≡ all
     → count ≡ length (part text at (length buffer)) → length buffer ≡ room → piece ≡ part text at room
 piece_filled text at room all count buffer read rest piece is filled long told size =

@@ -1,4 +1,4 @@
--- Texts of logs: what their lines tell, and where they begin with none.
+-- Texts of logs: what their lines say, and when they begin with no move's line.
 use Rattle.std.proofs.Common.{◌≡◌, ◌≢◌, ℕ, ◌<◌, ◌≤◌, Bool, true, false, not, ◌&&◌, ◌||◌, List, [], ◌∷◌, ◌++◌, length, take, drop, reverse, refl, sym, ◌∙◌, ap, subst, arith, append_assoc, append-nil, length-append, take-append-drop, nat_le, ◌==◌, Option, Some, None, is_some}
 use Rattle.std.specs.Bool.{Decides}
 use Rattle.std.specs.List.{flat_map, list_all}
@@ -55,7 +55,7 @@ entry_cut kind entry is =
       actor = actor_no_tab entry.actor parts.actor;
     }
 
--- no line feed stands in it
+-- it has no line feed
 pub body_lacks : (kind : Kind) (entry : LogEntry) → is_log_entry kind entry ≡ true → has_byte 10 (body entry) ≡ false
 body_lacks kind entry is =
     let parts = entry_parts kind entry is in
@@ -89,7 +89,7 @@ parts_same a b text p q =
 parts_are : (kind : Kind) (text : Bytes) (entry : LogEntry) (parts : Parts) → is_log_entry kind entry ≡ true → line text ≡ log_line entry → AreParts parts text → SameParts parts (parts_in entry)
 parts_are kind text entry parts is same cut = parts_same parts (parts_in entry) text cut (subst (AreParts (parts_in entry)) (sym (is_body text entry same)) (entry_cut kind entry is))
 
--- what isn't cut tells no move
+-- what isn't cut spells no move
 pub uncut_tells_none : (kind : Kind) (text : Bytes) → IsUncut text → SpellsEntry kind text false
 uncut_tells_none kind text uncut = λ entry is same. uncut (parts_in entry) (subst (AreParts (parts_in entry)) (sym (is_body text entry same)) (entry_cut kind entry is))
 
@@ -111,7 +111,7 @@ long_tells_none kind text parts cut long = λ entry is same.
 pub no_actor_tells_none : (kind : Kind) (text : Bytes) (parts : Parts) → AreParts parts text → ((actor : Actor) → IsTrue (is_actor actor) → parts.actor ≢ actor_text actor) → SpellsEntry kind text false
 no_actor_tells_none kind text parts cut none = λ entry is same. none entry.actor (entry_parts kind entry is).actor (parts_are kind text entry parts is same cut).actor
 
--- parts that are a move's tell it
+-- parts that are a move's spell it
 pub parts_tell : (kind : Kind) (text : Bytes) (parts : Parts) (actor : Actor) → has_byte 10 text ≡ false → AreParts parts text → TellsIds kind parts true → length parts.message ≤ max_title
     → parts.actor ≡ actor_text actor → IsTrue (is_actor actor) → SpellsEntry kind text true
 parts_tell kind text parts actor lacks cut ids fits spelled formed =
@@ -129,7 +129,7 @@ parts_tell kind text parts actor lacks cut ids fits spelled formed =
     all_of : (a b c d e : Bool) → a ≡ true → b ≡ true → c ≡ true → d ≡ false → e ≡ true → (a && b && c && not d && e) ≡ true
     all_of a b c d e p q r s t = λ i. p i && q i && r i && not (s i) && t i
 
--- what a reader of actors tells of the third part
+-- the text spells a move exactly if a reader of actors finds one in its third part
 pub actor_told : {X : Type 0} (kind : Kind) (text : Bytes) (parts : Parts) (actor_in : X → Actor) (found : Option X) (b : Bool) → has_byte 10 text ≡ false → AreParts parts text → TellsIds kind parts true → length parts.message ≤ max_title
     → MatchOption found ((actor : Actor) → IsTrue (is_actor actor) → parts.actor ≢ actor_text actor) (λ x. (parts.actor ≡ actor_text (actor_in x)) × IsTrue (is_actor (actor_in x))) → b ≡ is_some found → SpellsEntry kind text b
 actor_told kind text parts actor_in None true lacks cut ids fits told is = absurd (cc is)
@@ -149,7 +149,7 @@ no_second text before rest is lacks none = λ parts cut.
     let first = split_at 32 before parts.before rest (parts.after ++ 32 ∷ (parts.actor ++ 9 ∷ parts.message)) lacks cut.before (sym is ∙ cut.spelled) in
     absurd (cc (sym none ∙ ap (has_byte 32) first.1 ∙ one_is_in 32 parts.after (parts.actor ++ 9 ∷ parts.message)))
 
--- one without a tab behind its second space
+-- one without a tab after its second space
 pub no_third : (text before after rest : Bytes) → text ≡ before ++ 32 ∷ (after ++ 32 ∷ rest) → has_byte 32 before ≡ false → has_byte 32 after ≡ false → has_byte 9 rest ≡ false → IsUncut text
 no_third text before after rest is lacks free none = λ parts cut.
     let first = split_at 32 before parts.before (after ++ 32 ∷ rest) (parts.after ++ 32 ∷ (parts.actor ++ 9 ∷ parts.message)) lacks cut.before (sym is ∙ cut.spelled) in
@@ -162,7 +162,7 @@ no_third text before after rest is lacks free none = λ parts cut.
 pub no_lower : (kind : Kind) (text : Bytes) → id_from_hex kind text ≡ None → TellsLower kind text false
 no_lower kind text none = λ spelled. let wrong : None ≡ Some spelled.0 = sym none ∙ ap (id_from_hex kind) spelled.2 ∙ id_from_hex-hex kind spelled.0 spelled.1 in absurd (cc wrong)
 
--- an id's digits are in lower case where they are as it is written
+-- an id's digits are in lower case exactly if they are as it is written
 pub lower_so : (kind : Kind) (text : Bytes) (id : Id) (written : Bytes) (b : Bool) → id_from_hex kind text ≡ Some id → written ≡ hex id → Decides b (written ≡ text) → TellsLower kind text b
 lower_so kind text id written true reads is same = (id, id_from_hex-is_id kind text id reads, sym (same.0 refl) ∙ is)
 lower_so kind text id written false reads is same = λ spelled.

@@ -44,7 +44,7 @@ some_made {X = X} f q found is (key ∷ keys) there = by_value (f key) refl (eq_
     by_value (Some x) has false apart there rest =
         get-insert nat_list_cmp_total (made f keys) key x q ∙ ap (λ b. cond b (Some x) (get (made f keys) q)) apart ∙ rest there
 
--- It has just what the function has, where the function has nothing at other keys.
+-- It has just what the function has, if the function has nothing at other keys.
 pub made_at : {X : Type 0} (f : Bytes → Option X) (keys : List Bytes) (q : Bytes) → (is_some (f q) ≡ true → list_any (eq_by_cmp by_bytes q) keys ≡ true) → get (made f keys) q ≡ f q
 made_at {X = X} f keys q there = by_value (f q) refl
   where

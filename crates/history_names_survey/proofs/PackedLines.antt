@@ -68,7 +68,7 @@ not_good : {A : Type 0} {n : ℕ} {l : List ℕ} {r : Record} → Bad n l ≡ Go
 not_good e = cc
 
 module _ (kind : Kind) where
-  -- the lines behind some records, and what the first of all lines give
+  -- the lines after some records, and what the first of all lines give
   pub record Passed (seen : List Record) (left : List Item) (ls : List (List ℕ)) : Type 0 where
     pub rest : List (List ℕ)
     pub number : ℕ
@@ -84,7 +84,7 @@ module _ (kind : Kind) where
   one_more r seen None = refl
   one_more r seen (Some rs) = refl
 
-  -- a record's own line, in whatever comes behind
+  -- a record's own line, whatever comes after it
   at_record : (m : ℕ) (line : List ℕ) (ls : List (List ℕ)) (r : Record) → record_line kind line ≡ Some r
       → all_good (items kind m false (line ∷ ls)) ≡ with_item (Good (with_peel r (peel_behind kind (Some r) ls))) (all_good (items kind (next_number m) (is_some (peel_behind kind (Some r) ls)) ls))
   at_record m line ls r is = ap (λ o. all_good (item_of m line (peel_behind kind o ls) o ∷ items kind (next_number m) (is_some (peel_behind kind o ls)) ls)) is

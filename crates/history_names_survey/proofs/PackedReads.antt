@@ -142,7 +142,7 @@ hit_any (r ∷ records) name = ap (λ b. b || list_any (bytes_eq name) (record_n
     go true = refl
     go false = refl
 
--- what is told of each of a list is told of one in it
+-- what holds of each of a list holds of one in it
 pub all_of : {X : Type 0} (P : X → Type 0) (xs : List X) → AllByRecursion P xs → (x : X) → Contains xs x → P x
 all_of P [] all x (k, below, at) = absurd (omega (arith, below))
 all_of P (y ∷ ys) all x (zero, below, at) = subst P at all.0
@@ -156,7 +156,7 @@ pub none_of : (p : Bytes → Bool) (records : List Record) → AllByRecursion (�
 none_of p [] all = refl
 none_of p (r ∷ records) all = or_from (p r.name) (list_any p (record_names records)) all.0 (none_of p records all.1)
 
--- where no name stands twice, a record is found by its name
+-- if no name occurs twice, a record is found by its name
 pub found_among : (records : List Record) → has_twice bytes_eq (record_names records) ≡ false → (e : Record) → Contains records e → hit records e.name ≡ Some e
 found_among [] once e (k, below, at) = absurd (omega (arith, below))
 found_among (r ∷ records) once e (zero, below, at) = ap (λ (x : Record). cond (bytes_eq r.name x.name) (Some r) (hit records x.name)) (sym at) ∙ ap (λ b. cond b (Some r) (hit records r.name)) (text_itself r.name) ∙ ap Some at
@@ -170,9 +170,9 @@ found_among (r ∷ records) once e (suc k, below, at) =
     by_test true is none there =
         clash (ap (λ n. list_any (bytes_eq n) (record_names records)) (one_text r.name e.name is) ∙ hit_any records e.name ∙ ap is_some there) none
 
--- ---- names that stand
+-- ---- names that exist
 
--- a name that neither a file nor a record tells reads as absent
+-- a name that neither a file nor a record has reads as absent
 pub absent_so : (kind : Kind) (tree : Tree) (name : Bytes) → is_packed_text kind (bytes_at tree packed_place) ≡ true → has_name kind tree name ≡ false → is_absent (name_state kind tree name) ≡ true
 absent_so kind tree name good none = by_name (is_name name) refl
   where
@@ -212,7 +212,7 @@ loose_there kind text = by_line (whole_line text)
     by_line None = refl
     by_line (Some digits) = by_symbol digits _ _
 
--- one that a file or a record tells, and that is no worktree's own, reads as something
+-- one that a file or a record has, and that is no worktree's own, reads as something
 pub stands_so : (kind : Kind) (tree : Tree) (name : Bytes) → is_packed_text kind (bytes_at tree packed_place) ≡ true → is_private name ≡ false → has_name kind tree name ≡ true → is_absent (name_state kind tree name) ≡ false
 stands_so kind tree name good common there =
     ap (λ b. is_absent (cond b (unwrap_or (option_map (loose_state kind) (file_at tree name)) (packed_read kind name (file_at tree packed_place))) Absent)) parts.0

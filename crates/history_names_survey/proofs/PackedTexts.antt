@@ -1,4 +1,4 @@
--- Which line of a text is the first that may not stand in a file of packed names.
+-- Which line of a text is the first that a file of packed names can't have.
 use Rattle.std.proofs.Common.{◌≡◌, ◌≢◌, ℕ, zero, suc, ◌+◌, ◌≤◌, Bool, true, false, cond, not, ◌&&◌, List, [], ◌∷◌, ◌++◌, map, take, length, Option, Some, None, option_map, unwrap_or, refl, sym, ◌∙◌, ap, subst, arith, append-nil}
 use Rattle.std.specs.Prelude.{◌==◌, option_and_then}
 use Rattle.std.specs.List.{AllByRecursion, onto_first}
@@ -39,7 +39,7 @@ sorted_first n text = ap (λ ls. unwrap_or (option_map (λ (header : Header). he
     go [] = refl
     go (l ∷ ls) = refl
 
--- the lines behind the header, of which all items are
+-- the lines after the header, of which all items are
 pub record Behind (kind : Kind) (text : List ℕ) (all : List Item) : Type 0 where
   pub rest : List (List ℕ)
   pub number : ℕ
@@ -225,7 +225,7 @@ module _ (kind : Kind) (text : List ℕ) where
               by_record None at first = ap (λ o. option_map (λ rs. seen ++ rs) (all_good (item_of (p.gives b.number 1).0 l (peel_behind kind o []) o ∷ []))) at
               by_record (Some r) at first = absurd (none (with_peel r (peel_behind kind (Some r) ls)) (sym first ∙ ap (λ o. item_of p.number l (peel_behind kind o ls) o) at))
 
-      -- a record whose name may not stand there
+      -- a record whose name can't follow the names before it
       pub bad_name : (r : Record) (more : List Item) → left ≡ Good r ∷ more → are_good_names (says_sorted text) (record_names seen ++ r.name ∷ []) ≡ false → HasBadRecord kind text line_next
       bad_name r more is bad = bad_at (by_lines p.rest (p.left_is ∙ is) next_gives)
         where

@@ -1,4 +1,4 @@
--- Which line of a text with a carriage return is the first that may not stand in a file of packed names.
+-- Which line of a text with a carriage return is the first that a file of packed names can't have.
 use Rattle.std.proofs.Common.{◌≡◌, ◌⊎◌, inl, inr, refl, sym, ◌∙◌, ap, subst, ℕ, zero, suc, ◌+◌, ◌-◌, ◌<◌, ◌≤◌, Bool, true, false, cond, not, ◌&&◌, ◌||◌, List, [], ◌∷◌, ◌++◌, length, take, Option, Some, None, arith, length-append, append-nil, append_assoc}
 use Rattle.std.specs.Prelude.{◌==◌}
 use Rattle.std.proofs.lemmas.Bool.{cases_lt, or_parts}
@@ -27,7 +27,7 @@ first_first (suc m) (suc n) (byte ∷ rest) few = by_end (first_first m n rest (
     by_end ended going true is = ap (λ b. cond b (byte ∷ first_lines m (first_lines n rest)) (byte ∷ first_lines (suc m) (first_lines n rest))) is ∙ ap (λ t. byte ∷ t) ended
     by_end ended going false is = ap (λ b. cond b (byte ∷ first_lines m (first_lines (suc n) rest)) (byte ∷ first_lines (suc m) (first_lines (suc n) rest))) is ∙ ap (λ t. byte ∷ t) going
 
--- the first lines go on behind bytes that end no line
+-- the first lines go on after bytes that end no line
 into_line : (line more : Bytes) (n : ℕ) → has_byte 10 line ≡ false → first_lines (suc n) (line ++ more) ≡ line ++ first_lines (suc n) more
 into_line [] more n none = refl
 into_line (b ∷ line) more n none =

@@ -22,7 +22,7 @@ use Rattle.history_names_survey.specs.Causes.{HasBadHead}
 use Rattle.history_names_survey.specs.Sound.{is_symbolic_line}
 use Rattle.history_names_survey.proofs.LooseTexts.{none_read}
 
--- ---- what a path's kind tells
+-- ---- what a path's kind says
 
 pub file_size : (tree : Tree) (path : Bytes) (size : ℕ) → place_of (node_at tree path) ≡ places.File size → Some size ≡ option_map length (file_at tree path)
 file_size tree path size there = go (node_at tree path) there

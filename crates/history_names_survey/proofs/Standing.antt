@@ -135,13 +135,13 @@ module _ (kind : Kind) (facts : Facts) (tree : Tree) (sound : (path : Bytes) →
   abbrev names : FinMap by_bytes Reference
   names = made ref_at all_names
 
-  -- ---- what stands
+  -- ---- what exists
 
   some_mapped : {X Y : Type 0} (f : X → Y) (o : Option X) → is_some (option_map f o) ≡ is_some o
   some_mapped f None = refl
   some_mapped f (Some x) = refl
 
-  -- the names that hold an id are those that a file or a record tells
+  -- the names that hold an id are those that a file or a record has
   has_ref : (name : Bytes) → is_some (ref_at name) ≡ has_name kind tree name
   has_ref name = go (is_name name) refl (file_at tree name) refl
     where
@@ -153,7 +153,7 @@ module _ (kind : Kind) (facts : Facts) (tree : Tree) (sound : (path : Bytes) →
   has_file : (name text : Bytes) → is_name name ≡ true → file_at tree name ≡ Some text → has_name kind tree name ≡ true
   has_file name text is at = λ i. is i && (is_some (at i) || has_record kind tree name)
 
-  -- a name that stands, by its file or its record
+  -- an existing name, by its file or its record
   record Named (name : Bytes) : Type 0 where
     named : is_name name ≡ true
     by : ((text : Bytes) × (file_at tree name ≡ Some text)) ⊎ ((file_at tree name ≡ None) × ((e : Record) × (entry_of name ≡ Some e)))
@@ -358,7 +358,7 @@ module _ (kind : Kind) (facts : Facts) (tree : Tree) (sound : (path : Bytes) →
         go true h None e is = by_entry e (entry_of name) refl is
         go true h (Some text) e is = let named = name_file name text h e in held_fact id named.id (inside is) named.held
 
-    -- none that stands is a folder of a name
+    -- no existing name is a folder of another
     is_apart : (name : Bytes) → is_some (ref_at name) ≡ true → IsApart kind tree name
     is_apart name there = let it = named_by name there in elim it.by [
       | inl (text, at) ↦ (name_file name text it.named at).apart
@@ -397,7 +397,7 @@ module _ (kind : Kind) (facts : Facts) (tree : Tree) (sound : (path : Bytes) →
       names = written_so;
     }
 
--- where each part is sound
+-- if each part is sound
 pub is_names_part : (kind : Kind) (facts : Facts) (tree : Tree) (branch : Bytes) → ((path : Bytes) → IsSoundAt kind facts tree path (get tree path)) → is_packed_text kind (bytes_at tree packed_place) ≡ true → AreSoundRecords kind facts tree → NamesBranch tree branch
     → IsNamesPart kind facts tree branch
 is_names_part kind facts tree branch sound good records named = record {

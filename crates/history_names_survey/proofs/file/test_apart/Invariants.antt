@@ -5,7 +5,7 @@ use Rattle.history_names_survey.specs.PackedRead.{ReadsPacked}
 use Rattle.history_names_survey.proofs.Folders.{AreBefore}
 use Rattle.history_names_survey.proofs.file.test_apart.Given as goal
 
--- no folder of the name that ends before this place is a name that stands
+-- no folder of the name that ends before this place is an existing name
 abbrev pub invariant-loop-end : goal.invariant-loop-end
 invariant-loop-end g l = (kind : Kind) → g.F.Files.is_honest l.fn.files → ReadsPacked kind l.fn.packed (g.F.Files.history l.fn.files).tree
     → AreBefore (λ place. has_name kind (g.F.Files.history l.fn.files).tree place ≡ false) l.end l.name

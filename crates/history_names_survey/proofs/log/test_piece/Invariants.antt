@@ -2,7 +2,7 @@ use Rattle.std.proofs.Common.{length}
 use Rattle.history_names_survey.proofs.LogPieces.{LinesTaken}
 use Rattle.history_names_survey.proofs.log.test_piece.Given as goal
 
--- the lines so far tell moves
+-- the lines so far spell moves
 abbrev pub invariant-lines : goal.invariant-lines
 invariant-lines l = LinesTaken l.kind l.piece l.rest l.before l.number
 

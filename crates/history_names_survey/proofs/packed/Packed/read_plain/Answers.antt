@@ -9,7 +9,7 @@ use Rattle.history_names_survey.proofs.PackedTexts.{bad_header}
 use Rattle.history_names_survey.proofs.ReadSoFar.{all_so, bad_follow, bad_item, bad_twice, one_next, rises, small}
 use Rattle.history_names_survey.proofs.packed.Packed.read_plain.Goals as goal
 
--- whether the next record may follow, by what was asked of those that are kept
+-- whether the next record may follow the kept ones, if those ascend or needn't
 abbrev Tells : Bool → List Reference → Reference → Bool → Type 0
 Tells sorted records one may = IsTrue (not sorted || is_ascending (record_names (map record_of records)))
     → may ≡ (is_name (record_of one).name && (not sorted || is_ascending (record_names (map record_of records ++ record_of one ∷ []))))

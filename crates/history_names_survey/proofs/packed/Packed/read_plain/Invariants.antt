@@ -2,7 +2,7 @@ use Rattle.gix_ref_format.specs.PackedIter.{items_left}
 use Rattle.history_names_survey.proofs.ReadSoFar.{IsSoFar}
 use Rattle.history_names_survey.proofs.packed.Packed.read_plain.Given as goal
 
--- the records so far may stand in a file of packed names
+-- a file of packed names may have the records so far
 abbrev pub invariant-loop-item : goal.invariant-loop-item
 invariant-loop-item l =
     (goal.iterator-loop-item).can_next l.left × (goal.iterator-loop-item).is_finite l.left
