@@ -65,7 +65,7 @@ module _ (folders : List Folder) (numbered : IsNumbered folders) where
       let same = back_one (onto p []) (onto q []) n (back_on (numbers_of folders) 0 p n [] refl one) (back_on (numbers_of folders) 0 q n [] refl two) in
       sym (none_behind p) ∙ sym (onto_twice p [] []) ∙ ap (λ back. onto back []) same ∙ onto_twice q [] [] ∙ none_behind q
 
--- ---- one answer, where the store answers by its table
+-- ---- one result, if the store returns what the table has
 
 all_head : {A : Type 0} (P : A → Type 0) (x : A) (xs : List A) → All P (x ∷ xs) → P x
 all_head P x xs all = all 0 x (omega arith)

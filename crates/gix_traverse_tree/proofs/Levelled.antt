@@ -13,7 +13,7 @@ use Rattle.gix_traverse_tree.specs.declared.error.Error.{Error}
 use Rattle.gix_traverse_tree.proofs.Called.{runs_more, memory_or}
 use Rattle.gix_traverse_tree.proofs.Ways.{stand_more, stand_append, stand_added, all_under, under_append}
 
--- what was read of a level's trees, where `left` are to come
+-- what was read of a level's trees; `left` are still to come
 pub record Levelled {S : Type 0} (G : S → Call → S → Type 0) (H M : Type 0) (table : Table) (ids : List Id) (trees : List Tree) (number end : ℕ) (before : S) (nodes : List Node) (after : S) (queued : List Node) : Type 0 where
   pub calls : List Call
   pub below : List Tree

@@ -28,7 +28,7 @@ queues_more above a b c xs ys (first, named, put) (second, named2, put2) = (
       ∙ ap (λ (ns : List Node). a ++ ns) (sym (map-append (node_under above) first second)),
 )
 
--- what was shown from `start` on, where `now` is left
+-- what was shown from `start` on; `now` is still to be shown
 pub record Listed {S : Type 0} (G : S → Call → S → Type 0) (ids : Kind) (start now : List ℕ) (above : Option ℕ) (before : S) (nodes : List Node) (after : S) (queued : List Node) : Type 0 where
   pub calls : List Call
   pub below : List Id

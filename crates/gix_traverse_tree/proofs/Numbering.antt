@@ -205,7 +205,7 @@ way_one a from (name ∷ path) x y one two =
     let same = same_Some _ _ (sym one.1 ∙ two.1) in
     way_one a two.0 path x y (subst (λ k. Way a k path x) same one.2) two.2
 
--- where a way goes past names
+-- the numbers before and after a name that a way goes past
 pub way_past : (a : Numbers) (from : ℕ) (front : Path) (name : Name) (rest : Path) (end : ℕ) → Way a from (front ++ name ∷ rest) end → (mid next : ℕ) × Way a from front mid × (a mid name ≡ Some next)
 way_past a from [] name rest end way = (from, way.0, refl, way.1)
 way_past a from (n ∷ front) name rest end way =

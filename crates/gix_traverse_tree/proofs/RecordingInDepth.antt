@@ -108,7 +108,7 @@ at_root (Some Path) entries = record { queue = []; path = []; is = ap (λ (es : 
 at_root (Some FileName) entries = record { queue = []; path = []; is = ap (λ (es : List Recorded). state (Some FileName) [] [] es) (sym (append-nil entries)); stands = tt }
 at_root None entries = record { queue = []; path = []; is = ap (λ (es : List Recorded). state None [] [] es) (sym (append-nil entries)); stands = refl }
 
--- a walk from a root, where nothing is queued
+-- a walk from a root, with nothing queued
 from_root : {H M : Type 0} {table : Table} (location : Option Location) {id : Id} {calls : List Call}
     → InDepth H M table [] (before id) calls whole → HasNames calls → AllByRecursion GoesOn calls → (entries : List Recorded)
     → CameBefore H table location [] [] id entries (after_calls (state location [] [] entries) calls)

@@ -1,5 +1,5 @@
 -- What is at several paths below a root, and the trees that are looked up on the way. H says
--- whether the store answers by the table, M whether its lookups may fail.
+-- whether the store returns what the table has, M whether its lookups may fail.
 use Rattle.std.specs.Prelude.{ℕ, ◌≡◌, ◌≢◌, ◌==◌, ◌⊎◌, ⊤, true, false, List, [], ◌∷◌, ◌++◌, Option, Some, length, option_map, Contains}
 use Rattle.std.specs.List.{AllByRecursion, AllZip, slice_split}
 use Rattle.gix_hash_id.specs.Id.{Id, id_of}
@@ -87,7 +87,7 @@ pub record AsksFor (H : Type 0) (table : Table) (root : Id) (paths : List Path)
   pub once : AreDifferent fronts
   pub above : AllByRecursion (IsTreeAbove H table root paths) fronts
 
--- all that the paths lead into, if the store answers by its table
+-- all that the paths lead into, if the store returns what the table has
 pub record AsksForAll (H : Type 0) (table : Table) (root : Id) (paths : List Path)
     (asked : ℕ) : Type 0 where
   pub asks : AsksFor H table root paths asked

@@ -60,7 +60,7 @@ abbrev pub AreUnderSome : List Id → ℕ → List Tree → Type 0
 AreUnderSome ids depth [] = ⊤
 AreUnderSome ids depth (tree ∷ trees) = IsUnderSome ids depth tree × AreUnderSome ids depth trees
 
--- ---- what each step of the walk has done, where G is what a call makes of the delegate
+-- ---- what each step of the walk has done; G says what a call makes of the delegate
 
 -- an error that isn't for want of memory has its cause in the walk
 abbrev pub MemoryOr : (Error → Type 0) → Error → Type 0

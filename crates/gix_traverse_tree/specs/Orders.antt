@@ -1,5 +1,5 @@
 -- The entries that lie under a tree, with their paths, in both orders. H says whether the store
--- answers by the table.
+-- returns what the table has.
 use Rattle.std.specs.Prelude.{ℕ, ◌≡◌, ◌≢◌, ⊤, true, false, List, [], ◌∷◌, ◌++◌, Option, Some, None, if◌then◌else◌}
 use Rattle.std.specs.List.{AllByRecursion}
 use Rattle.gix_hash_id.specs.Id.{Id}

@@ -1,4 +1,4 @@
--- Trees as a walk comes to them. H says whether the store answers by the table, M whether its
+-- Trees as a walk comes to them. H says whether the store returns what the table has, M whether its
 -- lookups may fail.
 use Rattle.std.specs.Prelude.{ℕ, ◌≡◌, Bool, true, false, List}
 use Rattle.std.specs.List.{list_any}
