@@ -153,7 +153,7 @@ pub and_not : (a b : Bool) → (not a && b) ≡ true → a ≡ false
 and_not true b e = let z : ⊥ = cc in absurd z
 and_not false b e = refl
 
--- a commit is queued where it wasn't met and joins
+-- a commit is queued if it wasn't met and joins
 pub gains_queued : (nodes nodes' : List Node) (queue queue' : List ObjectId) (y : ObjectId) (joins : Bool) → ((x : ObjectId) → is_met nodes x ≡ true → is_met nodes' x ≡ true) → (joins ≡ true → is_met nodes' y ≡ true) → queue' ≡ cond (is_met nodes y) queue (cond joins (queue ++ y ∷ []) queue) → NoneGains nodes (times_in queue) nodes' (times_in queue')
 gains_queued nodes nodes' queue queue' y joins grown now e = go (is_met nodes y) refl joins refl
   where
@@ -180,7 +180,7 @@ value_of id = go (id_eq id (id_of (object_id_of id))) refl
         let u : id_eq id (id_of (object_id_of id)) ≡ true = subst (λ (z : ObjectId). id_eq id (id_of z) ≡ true) (sym s) t in
         let z : ⊥ = cc in z))
 
--- of all ids no one may come more often, where no commit may
+-- no id may come more often, if no commit may
 each_id : (nodes nodes' : List Node) (queue queue' : List ObjectId) (turns turns' : List Turn)
     → NoneGains nodes (λ id. times_in queue id + times_waiting turns id) nodes' (λ id. times_in queue' id + times_waiting turns' id)
     → (id : Id) → may_come nodes' (λ id. times_in queue' id + times_waiting turns' id) id ≤ may_come nodes (λ id. times_in queue id + times_waiting turns id) id

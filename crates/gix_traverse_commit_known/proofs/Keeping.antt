@@ -31,7 +31,7 @@ met_more has has' y q new h = new q ∙ go (same_id y q)
     go true = refl
     go false = h
 
--- the same where a hidden commit is passed by
+-- the same if a hidden commit is passed by
 pub stays_met : (has has' : ObjectId → Bool) (hides : Bool) (y q : ObjectId) → ((q : ObjectId) → has' q ≡ cond hides (has q) (cond (same_id y q) true (has q))) → has q ≡ true → has' q ≡ true
 stays_met has has' true y q new h = new q ∙ h
 stays_met has has' false y q new h = met_more has has' y q new h
@@ -103,7 +103,7 @@ module _ (along : ObjectId → List ObjectId) (tips : List ObjectId) (keep : Obj
     known = known_none keep has xs e h;
   }
 
-  -- one name is met: it is queued where it was not met and is kept
+  -- one name is met: it is queued if it was not met and is kept
   pub kept_meet : (has has' : ObjectId → Bool) (kept : Bool) (listed queue queue' : List ObjectId) (p m : ℕ) (y : ObjectId) → Kept along tips keep has (listed ++ queue) p m → Named along tips (listed ++ queue) p m y → Queues (has y) kept queue queue' y → Meets has has' y → (has y ≡ false → keep y ≡ kept) → Kept along tips keep has' (listed ++ queue') p (m + 1)
   kept_meet has has' kept listed queue queue' p m y w n e new which = rw add-one (go (has y) refl kept refl)
     where

@@ -107,7 +107,7 @@ turns_kept nodes nodes' (p ∷ ps) w up =
     let rest : map (turn_at nodes') ps ≡ map (turn_at nodes) ps = turns_kept nodes nodes' ps (have_rest nodes p.number (numbers_of ps) w) up in
     ap (λ (z : ObjectId). record { time = p.time; id = z } ∷ map (turn_at nodes') ps) here ∙ ap (λ (ts : List Turn). turn_at nodes p ∷ ts) rest
 
--- all that wait have nodes, where those did that waited, and the one more does
+-- all that wait have nodes, if those did that waited, and the one more does
 pub have_joined : (nodes : List Node) (old new : List Pending) (pending : Pending) (x : ObjectId) → ((p : Pending) → Contains new p ↔ ((p ≡ pending) ⊎ Contains old p)) → HaveNodes nodes (numbers_of old) → At (ids_of nodes) pending.number.0 x → HaveNodes nodes (numbers_of new)
 have_joined nodes old new pending x joins w a n c =
     let (p, k, e) = from_map (λ (p : Pending). p.number) new n c in
@@ -116,7 +116,7 @@ have_joined nodes old new pending x joins w a n c =
       | inr d ↦ w n (subst (λ (m : Number). Contains (numbers_of old) m) e (in_map (λ (p : Pending). p.number) old p d))
     ]
 
--- those that wait have nodes, where they were among these
+-- those that wait have nodes, if they were among these
 pub have_among : (nodes : List Node) (old new : List Pending) → ((p : Pending) → Contains new p → Contains old p) → HaveNodes nodes (numbers_of old) → HaveNodes nodes (numbers_of new)
 have_among nodes old new from w n c =
     let (p, k, e) = from_map (λ (p : Pending). p.number) new n c in

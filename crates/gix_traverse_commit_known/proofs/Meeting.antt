@@ -134,7 +134,7 @@ module _ (has hides mid has' : ObjectId → Bool) (hidden : Bool) (xs met : List
         | inr e ↦ subst (λ (z : ObjectId). Contains (met ++ y ∷ []) z) (sym e) (Contains-push met y)
       ]
 
-  -- the next of these commits is met, where it is fresh
+  -- the next of these commits is met, if it is fresh
   pub meets_step : MeetsOnce has hides has' (take (i + 1) xs) (met ++ cond (mid y) [] (cond hidden [] (y ∷ [])))
   meets_step = go (mid y) refl hidden refl
     where

@@ -28,7 +28,7 @@ find_passes {I} p (x ∷ xs) y e = go (p x) refl (find_passes p xs y)
 
 -- ---- finding
 
--- the first that passes, where only one can
+-- the first that passes, if only one can
 pub find_one : (p : Node → Bool) (xs : List Node) (x : Node) (k : ℕ) → At xs k x → p x ≡ true → ((y : Node) (j : ℕ) → At xs j y → p y ≡ true → y ≡ x) → find p xs ≡ Some x
 find_one p [] x k a h only = absurd (none_at_nil k x a)
 find_one p (w ∷ xs) x k a h only = here (p w) refl k a (λ j b. find_one p xs x j b h (λ s i c. only s (suc i) c))
@@ -191,6 +191,6 @@ hidden_among (n ∷ nodes) q h = go (same_id q n.id) refl h (hidden_among nodes 
         let (k, a) = at_from_contains (ids_of nodes) q (next g) in
         contains_from_at (n.id ∷ ids_of nodes) (suc k) q a
 
--- where a commit has a node, no id is added
+-- if a commit has a node, no id is added
 pub stays : (ids : List ObjectId) (n : ℕ) (x : ObjectId) → At ids n x → ids ≡ cond (list_any (same_id x) ids) ids (ids ++ x ∷ [])
 stays ids n x a = sym (ap (λ b. cond b ids (ids ++ x ∷ [])) (any_from_contains same_id same_id_apart ids x (contains_from_at ids n x a)))

@@ -95,7 +95,7 @@ pub pushes_queues : (b : Bool) (xs xs' : List ObjectId) (y : ObjectId) → Pushe
 pushes_queues true xs xs' y e = e
 pushes_queues false xs xs' y e = e
 
--- all is painted where all places are read
+-- all is painted if all places are read
 pub painted_all : (g : Commits ObjectId) (hidden : List ObjectId) (nodes : List Node) (xs : List ObjectId) (p : ℕ) → KeptAll (λ y. (g y).parents) hidden every (is_hidden nodes) xs p → length xs ≤ p → Paints g hidden nodes
 painted_all g hidden nodes xs p w l = go (omega (arith, w.kept.read.within))
   where

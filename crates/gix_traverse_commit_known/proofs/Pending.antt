@@ -39,7 +39,7 @@ from_filter {A} p xs x c = let (k, a) = at_from_contains (filter p xs) x c in go
         here true e (suc k) a next = next k a
         here false e k a next = next k a
 
--- one more of a list, mapped where it passes
+-- one more of a list, mapped if it passes
 pub pass_push : {A B : Type 0} (f : A → B) (p : A → Bool) (xs : List A) (x : A) → map f (filter p (xs ++ x ∷ [])) ≡ map f (filter p xs) ++ cond (p x) (f x ∷ []) []
 pass_push {A} {B} f p xs x = ap (map f) (filter-append p xs (x ∷ [])) ∙ map-append f (filter p xs) (filter p (x ∷ [])) ∙ ap (λ (zs : List B). map f (filter p xs) ++ zs) (one (p x))
   where

@@ -108,7 +108,7 @@ accepts_more f f' nodes nodes' a e grown w = record {
 
 -- ---- marks of one commit
 
--- where a met commit is marked so again nothing changes
+-- if a met commit is marked so again, nothing changes
 pub met_already : (nodes : List Node) (id : ObjectId) → is_met nodes id ≡ true → (q : ObjectId) → is_met nodes q ≡ cond (same_id id q) true (is_met nodes q)
 met_already nodes id h q = go (same_id id q) refl
   where
@@ -244,7 +244,7 @@ fetch_fault P along honest may_fail rows table hidden id (fault.ObjectDecode err
 fetch_fault P along honest may_fail rows table hidden id (fault.HiddenGraph error) p h = absurd h
 fetch_fault P along honest may_fail rows table hidden id fault.Memory p h = tt
 
--- ---- tips are kept where they are accepted and not hidden
+-- ---- tips are kept if they are accepted and not hidden
 
 pub kept_tip : (hides : ObjectId → Bool) (accepts : Id → Bool) (x : ObjectId) → accepts (id_of x) ≡ true → keep_of hides accepts x ≡ not (hides x)
 kept_tip hides accepts x e = go (not (hides x)) (accepts (id_of x)) e

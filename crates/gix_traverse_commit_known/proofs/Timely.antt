@@ -160,7 +160,7 @@ module _ (g : Commits ObjectId) (keep : ObjectId → Bool) (listed : List Object
     known = w.known;
   }
 
-  -- the same with a test that answers alike
+  -- the same with a test that returns the same
   pub met_kept : (keep' : ObjectId → Bool) (has : ObjectId → Bool) (named : ObjectId → Type 0) (turns : List Turn) → ((x : ObjectId) → keep x ≡ keep' x) → IsMetSoFar g keep has named listed turns → IsMetSoFar g keep' has named listed turns
   met_kept keep' has named turns e w = record {
     timed = w.timed;
@@ -228,7 +228,7 @@ step_parent g keep has has' true front i turns turns' y here j new out named lis
     (λ x c. elim c [ inl n ↦ inl n | inr d ↦ inr (subst (λ (zs : List ObjectId). Contains zs x) (sym longer) (Contains-append_left (take i front) (y ∷ []) x d)) ])
     (λ x c. elim c [ inl n ↦ inl (inl n) | inr d ↦ elim (in_push (take i front) y x (subst (λ (zs : List ObjectId). Contains zs x) longer d)) [ inl e ↦ inl (inr e) | inr e ↦ inr e ] ])
 
--- a turn that joins has a row where its commit has
+-- a turn that joins has a row if its commit has
 pub joins_rowed : (rows : List Row) (old : List Turn) (turn : Turn) (new : List Turn) → Joins true old turn new → Holds rows turn.id → AllRowed rows old → AllRowed rows new
 joins_rowed rows old turn new j h all t c = elim ((j t).0 c) [ inl s ↦ subst (λ (u : Turn). Holds rows u.id) (sym s.1) h | inr d ↦ all t d ]
 

@@ -87,7 +87,7 @@ pub record AreTold (rows : List Row) (table : Table) (commits : Commits ObjectId
 
 -- ---- what a clause says over rows and objects
 
--- this holds of all commits that they describe, if the objects answer by their table
+-- this holds of all commits that they describe, if the objects return what their table has
 abbrev pub OverTold : {F : Type 0} → (F → Type 0) → (F → Table) → Source F
     → (Commits ObjectId → Type 0) → Type 0
 OverTold IsHonest table source What = IsHonest source.objects → (g : Commits ObjectId)
