@@ -19,7 +19,7 @@ all_paths (m ∷ ms) = place_of m ∷ lock_path_of m ∷ log_path_of m ∷ all_p
 abbrev pub IsNone : Bytes → List Bytes → Type 0
 IsNone path paths = AllByRecursion (λ other. path ≢ other) paths
 
--- each of these paths stands once
+-- each of these paths occurs once
 abbrev pub Once : List Bytes → Type 0
 Once [] = ⊤
 Once (path ∷ paths) = IsNone path paths × Once paths

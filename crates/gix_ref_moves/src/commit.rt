@@ -19,12 +19,14 @@ use gix_ref_file::{FileError, Files};
 use gix_ref_transaction::packed::Transaction;
 use std::alloc::Global;
 
-/// Makes moves, and replaces the packed records whose transaction is prepared. First all updates: each log gets its line, and then
-/// the lock is put in the place of the file. Then the logs go of what is removed, then packed records are replaced, and at last the
-/// files go. So at each moment, and wherever a stop comes, each file is as before or as in the end, with its log as in the end where the
-/// file is; and nothing is removed before all updates show.
+/// Makes moves, and replaces the packed records whose transaction is prepared. First all updates:
+/// each log gets its line, and then the lock is put in the place of the file. Then the logs of what
+/// is removed go, then packed records are replaced, and at last the files go. So at each moment,
+/// and also after a stop, each file is as before or as in the end, with its log as in the end if
+/// the file is; and nothing is removed before all updates show.
 ///
-/// The errors name the call of the files that failed. After one, no lock stands, as far as giving them back succeeds.
+/// The errors name the call of the files that failed. After one, no lock exists, as far as giving
+/// them back succeeds.
 pub fn commit<F: Files>(
     alloc: Global,
     files: &mut F,
@@ -159,7 +161,7 @@ fn show_updates<F: Files>(alloc: Global, files: &mut F, moves: &[Move]) -> Resul
     make_all(alloc, files, Step::Forget, moves)
 }
 
-// Puts the packed records in their place, where there are new ones.
+// Puts the packed records in their place, if there are new ones.
 fn replace_packed<F: Files>(
     alloc: Global,
     files: &mut F,
