@@ -145,7 +145,7 @@ kept_reads b tree records name keeps = by_text (packed_text_in b tree) keeps
         ap (λ found. cond (is_full_name name) (read_by b.kind (loose_text_at b tree name) (packed_state found)) Absent) (same_hits records keeps.0 (packed_key name) keeps.2.first)
         ∙ sym (ap (λ all. cond (is_full_name name) (read_by b.kind (loose_text_at b tree name) (told_by all name)) Absent) keeps.1)
 
--- where no records are packed there are none
+-- if no records are packed, there are none
 pub none_reads : (b : Base) (tree : Tree) (name : List ℕ) → KeepsFile b.kind (packed_text_in b tree) None → state_among b tree [] name ≡ ref_state b tree name
 none_reads b tree name keeps = by_text (packed_text_in b tree) keeps
   where

@@ -26,7 +26,7 @@ gathers_all tree base asked names refs gathers name it =
     at_base [] rest = refl
     at_base (x ∷ base) rest = sym (append_assoc (x ∷ base) (47 ∷ codes "refs") (47 ∷ rest))
 
--- where they are
+-- the place of a name below `refs/`
 place_refs : (b : Base) (rest : List ℕ) → (place b (codes "refs/" ++ rest) ≡ under b.git (codes "refs/" ++ rest)) ⊎ (place b (codes "refs/" ++ rest) ≡ under b.common (codes "refs/" ++ rest))
 place_refs b rest = by_case (is_own (codes "refs/" ++ rest)) refl
   where

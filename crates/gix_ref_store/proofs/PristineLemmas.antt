@@ -63,7 +63,7 @@ one_stands read asked out left after r listing passed is =
     let each = (listing.each r.name (met_of r).ref_state).0 there in
     (r.name, _, _, each.0, each.1)
 
--- none does where nothing is left
+-- none exists if nothing is left
 pub none_stands : (read : List ℕ → RefState) (asked : List ℕ → Bool) (out left : List Met) → IsListing read asked out → Passed out left → left ≡ [] → SomeStands read asked → ⊥
 none_stands read asked out left listing passed none (name, points, peeled, so, reads) =
     by_case (passed.gone (record { name = name; ref_state = Stands points peeled }) ((listing.each name (Stands points peeled)).1 (so, reads, λ e. cc)))

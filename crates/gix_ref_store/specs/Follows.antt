@@ -52,7 +52,7 @@ EndsBy r id followed =
     (target_view r.target ≡ ToObject (id_of id))
     × (followed ≡ Ends r.name (id_of id) (option_map id_of r.peeled))
 
--- ---- the results, where `Unopened` says why packed references aren't opened
+-- ---- the results; `Unopened` says why packed references aren't opened
 
 -- the packed references that a caller gives are open
 abbrev pub IsGiven : OpenError → Type 0
@@ -62,7 +62,7 @@ IsGiven error = ⊥
 abbrev pub CantOpen : Base → Tree → OpenError → Type 0
 CantOpen b tree error = FileFault b.kind (packed_text_in b tree) error
 
--- why a name isn't read, where `Broken` says why it can't be
+-- why a name isn't read; `Broken` says why it can't be
 abbrev pub ReadFault : (OpenError → Type 0) → (Fault → Type 0) → FindError → Type 0
 ReadFault Unopened Broken (find.ReferenceCreation error) = Broken (InFile error)
 ReadFault Unopened Broken (find.PackedOpen error) = Unopened error

@@ -1,5 +1,5 @@
 -- The objects that references lead to in the end, over names and tags. H says whether the store of
--- objects answers by its table, M whether its lookups may fail.
+-- objects returns what its table has, M whether its lookups may fail.
 use Rattle.std.specs.Prelude.{ℕ, ◌≡◌, ◌≢◌, ◌⊎◌, ⊤, List, [], ◌∷◌, Option, Some, None, option_map, codes, IsTrue}
 use Rattle.std.specs.List.{list_any}
 use Rattle.gix_hash_id.specs.Id.{Id, id_of}
@@ -100,7 +100,7 @@ IsUnopened error = (cause : OpenError) × (error ≡ unopened cause)
 abbrev pub LacksObject : Reference → Error → Type 0
 LacksObject r error = (r.peeled ≡ None) ⊎ IsUnopened error
 
--- why it leads to none, where `Unopened` says why packed references aren't opened
+-- why it leads to none; `Unopened` says why packed references aren't opened
 abbrev pub PeelFault : (OpenError → Type 0) → (List ℕ → RefState) → Table → Reference → Error
     → Type 0
 PeelFault Unopened read table r (FollowToObject error) =
