@@ -46,7 +46,7 @@ more_on lock old mid new more stay path none there = more path none (stays_there
 pub more_after : (lock : Bytes) (old mid new : Tree) → NoFileMore old mid → OthersStay lock mid new → MoreFilesAt (lock ∷ []) old new
 more_after lock old mid new none_more stay path none there = none_more path (stays_there lock path mid new stay none.0 there)
 
--- a path where a file exists is none where none does
+-- a path of a file isn't a path without one
 apart_of : (path other : Bytes) (new : Tree) → IsTrue (is_file_at new path) → is_file_at new other ≡ false → path ≢ other
 apart_of path other new there gone same = let wrong : true ≡ false = sym there ∙ ap (is_file_at new) same ∙ gone in cc
 

@@ -46,9 +46,9 @@ use Rattle.gix_ref_loose_transaction.specs.declared.asked.Refusal.TheVariants.{D
 use Rattle.gix_ref_loose_transaction.specs.declared.error.PrepareError.{PrepareError}
 use Rattle.gix_ref_loose_transaction.specs.declared.error.PrepareError.TheVariants.{Packed, PackedTransactionAcquire, PackedTransactionPrepare, PreprocessingFailed, SamePlace, LockAcquire, Io, Refused, ReferenceDecode, CreateOrUpdateRefLog, Resolve, Memory}
 
--- ---- a reference isn't as its edit asks
+-- ---- a reference isn't as its edit expects
 
--- of a deletion, by whether the reference stands
+-- of a deletion, by whether the reference exists
 abbrev pub refused_deletion : PreviousValue → Option Points → Refusal
 refused_deletion asks.MustNotExist found = DeleteMustNotExist
 refused_deletion asks.Any None = DeleteReferenceMustExist
@@ -74,7 +74,7 @@ refused (Delete expected log) found = refused_deletion expected found
 
 -- ---- a log's line can't be made
 
--- the committer's time tells none, or its parts have no spelling
+-- the committer's time isn't a time, or its parts have no spelling
 abbrev pub HasNoSpelling : ActorRef → Type 0
 HasNoSpelling who =
     (¬ TellsTime (bstr_bytes who.time))
@@ -143,7 +143,7 @@ abbrev pub LineFault : Logging → Bool → Type 0 → Bytes → Change → Prep
 LineFault l stands may_fail name change error =
     ReadFault may_fail error ⊎ NoLine (Unlined l stands name change) error
 
--- what is told of a chain that couldn't be followed to its end; none where it ends at no object
+-- the error for a chain that couldn't be followed to its end; none if it ends at no object
 abbrev pub end_fault : FollowError → Option PrepareError
 end_fault follow.Cycle = None
 end_fault follow.DepthLimitExceeded = None
@@ -154,7 +154,7 @@ end_fault (follow.Follow (existing.Find find.ReadFileContents)) = Some Io
 end_fault (follow.Follow (existing.Find find.Memory)) = Some Memory
 end_fault follow.Memory = Some Memory
 
--- a reference can't be read, or isn't as its edit asks
+-- a reference can't be read, or isn't as its edit expects
 abbrev pub TestFault : Type 0 → RefEdit → RefState → PrepareError → Type 0
 TestFault may_fail edit state (Refused why) =
     (found : Option Reference) × TellsState edit.name state (Ok found)

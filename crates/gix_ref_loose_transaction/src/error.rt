@@ -37,7 +37,7 @@ pub enum PrepareError {
     /// A lock can't be written.
     #[error("the lock of a reference can't be written")]
     Io,
-    /// A reference isn't as its edit asks.
+    /// A reference isn't as its edit expects.
     #[error(transparent)]
     Refused(Refusal),
     /// A reference can't be read.
@@ -46,7 +46,7 @@ pub enum PrepareError {
     /// A line for a log can't be made.
     #[error(transparent)]
     CreateOrUpdateRefLog(LogError),
-    /// The object that a reference is to stand for isn't found, whose id its record would tell.
+    /// No object is found whose id the packed record of a reference would hold.
     #[error(transparent)]
     Resolve(peel::Error),
     /// No memory is left.

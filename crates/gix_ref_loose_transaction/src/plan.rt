@@ -211,7 +211,7 @@ fn act_of<F: Files, O>(
     }
 }
 
-// Whether a record alone tells what the name points to.
+// Returns whether only a record says what the name points to.
 fn is_packed_alone(removes: bool, name: &[u8], new: &Target) -> bool
     ensures { result ≡ spec.is_packed_alone removes name.now (target_view new.now) }
 {
@@ -221,7 +221,8 @@ fn is_packed_alone(removes: bool, name: &[u8], new: &Target) -> bool
     }
 }
 
-// The update that is made so, with its text in the lock where that is put in the file's place.
+// Returns the update that is made so. Its text is written into the lock, if the lock is put in the
+// file's place.
 fn update_by<F: Files>(
     alloc: Global,
     files: &mut F,

@@ -96,7 +96,8 @@ pub fn prepare<F: Files, O: FindInto>(
         → IfOk result (λ t. AreRepacked (base_of store.old)
         (option_map O.table (objects_in packed_refs.entry)) (F.history store.old.files).tree
         (F.history store.new.files).tree t.edits.items t.packed) }
-    // What is prepared can be committed as its edits say, where their ids are of the store's hash function.
+    // What is prepared can be committed as its edits say, if their ids are of the store's hash
+    // function.
     ensures prepared { F.is_honest store.old.files → IfSome (objects_in packed_refs.entry) O.is_honest
         → IfOk result (λ t. AllGiveKind (base_of store.old).kind t.edits.items
         → IsAsPrepared (base_of store.old) (option_map O.table (objects_in packed_refs.entry))
@@ -159,7 +160,8 @@ pub fn prepare_with<F: Files, O: FindInto>(
         KeepsFile b.kind (packed_text_in b old) (option_map (λ buffer. kept buffer.now) packed.entry)
         → IfOk result (λ t. AreRepacked b (option_map O.table (objects_in packed_refs.entry)) old
         (F.history store.new.files).tree t.edits.items t.packed) }
-    // What is prepared can be committed as its edits say, where their ids are of the store's hash function.
+    // What is prepared can be committed as its edits say, if their ids are of the store's hash
+    // function.
     ensures prepared { F.is_honest store.old.files → IfSome (objects_in packed_refs.entry) O.is_honest
         → let b = base_of store.old in let old = (F.history store.old.files).tree in
         KeepsFile b.kind (packed_text_in b old) (option_map (λ buffer. kept buffer.now) packed.entry)
@@ -473,9 +475,10 @@ impl Transaction {
 
     /// Makes the edits: first all updates, each with its line in the log before it shows; then the logs of what is removed go, then
     /// packed records, and at last the files. At each moment, and so wherever a stop comes, each file is as before or as in the end,
-    /// and nothing is removed before all updates show. It answers the edits.
+    /// and nothing is removed before all updates show. Returns the edits.
     ///
-    /// The errors name the call of the files that failed. After one, no lock stands, as far as giving them back succeeds.
+    /// The errors name the call of the files that failed. After one, no lock exists, as far as
+    /// giving them back succeeds.
     pub fn commit<F: Files>(self, alloc: Global, files: &mut F) -> Result<Vec<RefEdit>, CommitError>
         ensures honest { F.is_honest files.old → F.is_honest files.new }
         ensures later { F.failures files.old ≤ F.failures files.new }
