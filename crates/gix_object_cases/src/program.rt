@@ -1,11 +1,11 @@
-//! A program that signs or verifies, and answers from a table.
+//! A program that signs or verifies, whose answers are in a table.
 
 use case_words::Page;
 use gix_object_lines::ByteString;
 use gix_object_signature::run::{Answer, RunError, Word};
 use std::alloc::Global;
 
-/// Answers its requests one after the other, or all with the first answer; if no answer is left, it
+/// Returns its answers to requests one after the other, or always the first; if none is left, it
 /// can't be started. It notes its requests.
 #[derive(Drop)]
 pub struct Program<'a> {
@@ -17,7 +17,7 @@ pub struct Program<'a> {
 }
 
 impl<'a> Program<'a> {
-    /// A program that gives these answers, or again and again the first.
+    /// Returns a program with these answers, of which each or always the first is returned.
     pub fn new(alloc: Global, answers: &'a [Vec<u8>], is_repeating: bool) -> Program<'a> {
         Program {
             alloc,
@@ -32,7 +32,7 @@ impl<'a> Program<'a> {
         page.add(&self.notes);
     }
 
-    /// The answer to a request.
+    /// Returns the answer to a request.
     pub fn answer(&mut self, words: &[Word<'_>], input: &[u8]) -> Result<Answer, RunError> {
         self.note(words, input);
         let [status, output, errors, rest @ ..] = self.answers else {
