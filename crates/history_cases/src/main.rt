@@ -1,4 +1,4 @@
-//! Answers cases of `history` and, after `files`, of `history_files`, a line each.
+//! Runs cases of `history` and, after `files`, of `history_files`, a line each.
 //!
 //! A line is a hash function, and words.
 #![tactic(auto)]
