@@ -1,4 +1,4 @@
-//! Answers cases of `history_actions` and its command line, a line each.
+//! Runs cases of `history_actions` and its command line, a line each.
 //!
 //! A line is words of a command line, or a folder in memory or a real one, and what is done with
 //! it.
