@@ -1,4 +1,4 @@
-//! Answers cases of the crates below `gix_traverse`, a line each: a family and a case of it.
+//! Runs cases of the crates below `gix_traverse`, a line each: a family and a case of it.
 #![tactic(auto)]
 
 mod copies;
