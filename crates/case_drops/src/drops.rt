@@ -14,7 +14,7 @@ pub struct Drops<'a> {
 }
 
 impl<'a> Drops<'a> {
-    /// The source of these bytes, which fails behind so many.
+    /// Returns the source of these bytes, which fails after so many.
     pub fn new(rest: &'a [u8], good: usize) -> Drops<'a> {
         Drops {
             rest,
