@@ -1,4 +1,4 @@
-//! What is answered, as it is written.
+//! Pages of results, as they are written.
 
 use bstr::BStr;
 use std::alloc::{AllocError, Global};

@@ -11,9 +11,9 @@ use std::io;
 
 /// The reply to a line.
 ///
-/// After `sizes ` the rest is answered for the sizes 0, 1, 2, 63 to 65, each of 1,000 to 1,025, and
-/// 4,097, each shown by the first four digits of a SHA-1 digest. The rest is lines with `&` between
-/// them; the digest is that of their replies, each with a line feed after it.
+/// After `sizes ` a reply to the rest is made for the sizes 0, 1, 2, 63 to 65, each of 1,000 to
+/// 1,025, and 4,097, each shown by the first four digits of a SHA-1 digest. The rest is lines with
+/// `&` between them; the digest is that of their replies, each with a line feed after it.
 ///
 /// In a line `[PART]` is the part, so many times as the size says; if it ends with a comma, there
 /// is none after the last, and `-` at size 0. In it `#` is the running number, from 0, and `^` the
