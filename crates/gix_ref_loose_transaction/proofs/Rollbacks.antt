@@ -104,7 +104,7 @@ pub all_dropped : (moves : List Move) (t : Option Transaction) (old mid then new
 all_dropped moves t old mid then new first second gone path there =
     first path (packed_apart path t new there gone.packed) (second path (all_apart path moves new there gone.locks) (gone.none path there))
 
--- the locks are given back behind an error
+-- the locks are given back after an error
 pub dropped_back : (a b c d : ℕ) (moves : List Move) (t : Option Transaction) (old mid then new : Tree) (error told : PrepareError) → a ≤ b → b ≤ c → c ≤ d → MoreFilesAt (packed_locks t) old mid
     → MoreFilesAt (lock_paths moves) mid then ⊎ (HasRisen b c ⊎ WantsMemory error) → (told ≡ error) ⊎ (told ≡ Memory) → IsDropped moves t c d then new told → IsRolledBack a d old new told
 dropped_back a b c d moves t old mid then new error told one two three first (inr (inl risen)) says dropped = inr (inl (risen_later a b c d one risen three))

@@ -173,7 +173,7 @@ TestFault may_fail edit state LockAcquire = ⊥
 TestFault may_fail edit state (CreateOrUpdateRefLog error) = ⊥
 TestFault may_fail edit state (Resolve error) = ⊥
 
--- ---- one edit, by what its name reads as and whether its log stands
+-- ---- one edit, by what its name reads as and whether its log exists
 abbrev pub EditFault : Logging → Bool → Type 0 → RefEdit → PrepareError → Type 0
 EditFault l stands may_fail edit (Refused why) =
     TestFault may_fail edit (l.read edit.name) (Refused why)
@@ -217,7 +217,7 @@ ReadyFault read b may_fail asked (ReferenceDecode error) = ⊥
 ReadyFault read b may_fail asked (CreateOrUpdateRefLog error) = ⊥
 ReadyFault read b may_fail asked (Resolve error) = ⊥
 
--- packed records aren't locked, or the object isn't found whose id one is to tell
+-- packed records aren't locked, or no object is found whose id one is to hold
 abbrev pub of_repacking : RepackError → PrepareError
 of_repacking (repack.PackedTransactionAcquire error) = PackedTransactionAcquire error
 of_repacking (repack.PackedTransactionPrepare error) = PackedTransactionPrepare error

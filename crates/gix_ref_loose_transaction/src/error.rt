@@ -31,7 +31,7 @@ pub enum PrepareError {
     /// Two edits are of one place, as `refs/heads/x` and `main-worktree/refs/heads/x` are.
     #[error("two edits are of one place")]
     SamePlace,
-    /// A lock stands already, or can't be made.
+    /// A lock exists already, or can't be made.
     #[error("the lock of a reference can't be made")]
     LockAcquire,
     /// A lock can't be written.

@@ -41,7 +41,8 @@ use gix_ref_transaction::lock::{Lock, acquire};
 use gix_ref_way::make_way;
 use std::alloc::Global;
 
-// Locks a reference, tests it, and tells what becomes of its files. After an error its lock has gone, as far as that succeeds.
+// Locks a reference, tests it, and returns what becomes of its files. After an error its lock is
+// gone, unless its removal fails.
 pub(crate) fn plan<F: Files, O>(
     alloc: Global,
     store: &mut Store<F>,
@@ -87,7 +88,7 @@ pub(crate) fn plan<F: Files, O>(
     }
 }
 
-// Gives the lock of an edit back that isn't planned, and tells why.
+// Gives the lock of an edit back that isn't planned, and returns the error, or `Memory`.
 fn unplanned<F: Files>(
     alloc: Global,
     files: &mut F,
@@ -131,7 +132,7 @@ fn take<F: Files>(alloc: Global, files: &mut F, place: &[u8]) -> Result<Lock, Pr
     held(acquire(alloc, files, place))
 }
 
-// What a call of the files told, as this error where it failed.
+// Returns this error if a call of the files failed.
 fn told(outcome: Result<(), FileError>, why: PrepareError) -> Result<(), PrepareError>
     ensures ok { OnOk result (outcome ≡ Ok tt) }
     ensures failed { IfErr result (λ error. (error ≡ why) ⊎ (error ≡ Memory)) }
@@ -143,7 +144,7 @@ fn told(outcome: Result<(), FileError>, why: PrepareError) -> Result<(), Prepare
     }
 }
 
-// The lock that was made, where none stood.
+// Returns the lock that was made, or `LockAcquire` if none was.
 fn held(made: Result<Option<Lock>, FileError>) -> Result<Lock, PrepareError>
     ensures ok { IfOk result (λ lock. made ≡ Ok (Some lock)) }
     ensures none { IfErr result (λ error. (error ≡ Memory)

@@ -55,17 +55,21 @@ pub struct Transaction {
     ghost once: { has_twice (commit_paths packed moves.items) ≡ false },
 }
 
-/// Prepares edits: those of symbolic references are split, each reference is locked, read and tested, and its new text is written into the
-/// lock. `committer` is who log lines tell of. The new packed references are written into theirs, as `packed_refs` asks: without the records
-/// of what is deleted, and in the two modes of packing with a record of each reference that is updated to an object; a tag's tells also what
-/// the tag leads to. In the last mode the own files of these go with [`Transaction::commit`].
+/// Prepares edits: those of symbolic references are split, each reference is locked, read and
+/// tested, and its new text is written into the lock. `committer` is whom log lines name. The new
+/// packed references are written into theirs, as `packed_refs` says: without the records of what is
+/// deleted, and in the two modes of packing with a record of each reference that is updated to an
+/// object; a tag's has also the id that the tag leads to. In the last mode the own files of these
+/// go with [`Transaction::commit`].
 ///
-/// `PreprocessingFailed` where symbolic references lead too far or a name has two edits, `SamePlace` where two edits concern one file, or
-/// one concerns that of packed references, `LockAcquire` where a lock stands or a file is in its way, `Refused` where a reference isn't as
-/// its edit asks, `ReferenceDecode` where it can't be read, `CreateOrUpdateRefLog` where a line for its log can't be made, `Packed`,
-/// `PackedTransactionAcquire` and `PackedTransactionPrepare` where packed references can't be opened, locked or written, `Resolve` where of
-/// an object that is to be packed isn't found what it leads to, and `Io` where a lock can't be written. At each moment each file but locks
-/// is as before, and after an error the locks have gone, as far as that succeeds.
+/// Returns `PreprocessingFailed` if symbolic references lead too far or a name has two edits,
+/// `SamePlace` if two edits concern one file, or one concerns that of packed references,
+/// `LockAcquire` if a lock exists or a file is in its way, `Refused` if a reference isn't as its
+/// edit expects, `ReferenceDecode` if it can't be read, `CreateOrUpdateRefLog` if a line for its
+/// log can't be made, `Packed`, `PackedTransactionAcquire` and `PackedTransactionPrepare` if packed
+/// references can't be opened, locked or written, `Resolve` if no object is found whose id a packed
+/// record is to hold, and `Io` if a lock can't be written. At each moment each file but locks is as
+/// before, and after an error the locks are gone, as far as that succeeds.
 pub fn prepare<F: Files, O: FindInto>(
     alloc: Global,
     store: &mut Store<F>,
@@ -372,7 +376,7 @@ fn are_apart<F: Files>(
     Ok(())
 }
 
-// Gives all locks back of edits that aren't prepared, and tells why.
+// Gives all locks back of edits that aren't prepared, and returns the error, or `Memory`.
 fn drop_all<F: Files>(
     alloc: Global,
     files: &mut F,
@@ -393,7 +397,7 @@ fn drop_all<F: Files>(
     or_memory(records, locks, error)
 }
 
-// Want of memory, if one of the outcomes tells it, else this error.
+// Returns `Memory` if one of the outcomes is want of memory, and else this error.
 fn or_memory(
     records: Result<(), packed::CommitError>,
     locks: Result<(), FileError>,
@@ -436,7 +440,7 @@ fn drop_records<F: Files>(
     }
 }
 
-// What giving locks back told: of packed records, and of references.
+// Returns whether the locks were given back, of packed records and of references.
 fn given_back(
     records: Result<(), packed::CommitError>,
     locks: Result<(), FileError>,
@@ -513,8 +517,9 @@ impl Transaction {
         Ok(edits)
     }
 
-    /// Gives all locks back; nothing else changes. It answers the edits. `PackedTransactionCommit` and `LockCommit` where one couldn't be
-    /// given back: then the others are.
+    /// Gives all locks back; nothing else changes. Returns the edits. Returns
+    /// `PackedTransactionCommit` or `LockCommit` if one couldn't be given back: then the others
+    /// are.
     pub fn rollback<F: Files>(
         self,
         alloc: Global,
