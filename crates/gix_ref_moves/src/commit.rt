@@ -55,8 +55,8 @@ pub fn commit<F: Files>(
     outcome
 }
 
-/// Gives the locks back of all moves; also if one can't be given back, then the others. The error is `Memory` if memory was wanting for
-/// one, else `Failed`.
+/// Gives the locks back of all moves; also if one can't be given back, then the others. The error
+/// is `Memory` if memory was wanting for one, else `Failed`.
 pub fn give_back_all<F: Files>(
     alloc: Global,
     files: &mut F,
@@ -89,7 +89,7 @@ pub fn give_back_all<F: Files>(
     outcome
 }
 
-// Want of memory, if one of them tells it, else the error of one that failed.
+// Returns `Memory` if one of them is want of memory, else the error of one that failed.
 fn both(earlier: Result<(), FileError>, later: Result<(), FileError>) -> Result<(), FileError>
     ensures done { OnOk result ((earlier ≡ Ok tt) × (later ≡ Ok tt)) }
     ensures told { (result ≡ earlier) ⊎ (result ≡ later) }
