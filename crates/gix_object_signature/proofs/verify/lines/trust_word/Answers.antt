@@ -8,7 +8,7 @@ use borrow.Author.Tests.{ltb-false}
 use Rattle.gix_object_signature.specs.Status.{trust_word}
 use Rattle.gix_object_signature.proofs.verify.lines.trust_word.Goals as goal
 
--- all where nothing passes
+-- all, if nothing passes
 cut : (p : ℕ → Bool) (xs : List ℕ) → take (unwrap_or (position p xs) (length xs)) xs ≡ take (position_or_len p xs) xs
 cut p xs = by_test (nat_lt (position_or_len p xs) (length xs)) refl
   where
