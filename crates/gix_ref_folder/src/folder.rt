@@ -23,7 +23,7 @@ const LONGEST_NAME: usize = 250;
 /// A part of a real folder. What exists at a path is looked up by each call anew, but for the file
 /// that the last change made or wrote: it is renamed without a look.
 ///
-/// A call answers `Failed` also for a path that isn't UTF-8, and where what is there is neither a file nor a folder, as a link. The root always
+/// A call returns `Failed` also for a path that isn't UTF-8, and if what is there is neither a file nor a folder, as a link. The root always
 /// counts as a folder. Nothing exists at a path that is too long for the system, so that only changes fail there.
 ///
 /// It does what [`Files`] says where the system does what [`System`] says of this part of what is below the root.

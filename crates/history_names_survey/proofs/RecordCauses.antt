@@ -1,4 +1,4 @@
--- What is told of a record of `packed-refs`: that it is sound, or why it isn't.
+-- What is reported of a record of `packed-refs`: that it is sound, or why it isn't.
 use Rattle.std.proofs.Common.{◌≡◌, ◌⊎◌, ℕ, zero, suc, ◌+◌, ◌<◌, Bool, true, false, ◌||◌, List, [], ◌∷◌, map, length, take, get_or, refl, sym, ◌∙◌, ap, subst, bytes_eq, arith, Vec, Result}
 use Rattle.std.specs.Prelude.{IsTrue, IfErr}
 use Rattle.std.specs.List.{AllByRecursion, Contains, list_all, list_any}

@@ -1,4 +1,4 @@
--- What a file that was read tells: that it is sound, or why it isn't.
+-- What a file that was read says: that it is sound, or why it isn't.
 use Rattle.std.proofs.Common.{◌≡◌, ◌⊎◌, inl, inr, Bool, true, false, cond, ◌&&◌, ◌||◌, [], Option, Some, None, option_map, unwrap_or, is_some, refl, sym, ◌∙◌, ap, subst, bytes_eq, Vec, ℕ, Result, Ok, Err}
 use Rattle.std.specs.Prelude.{IsTrue, IfErr, IfOk, OnOk}
 use Rattle.std.specs.List.{list_any}
@@ -82,7 +82,7 @@ unnamed_file kind tree name none = sym (ap (λ n. n && (is_file_at tree name || 
 pub kept_record : (kind : Kind) (packed : Packed) (tree : Tree) (name : Bytes) (b : Bool) → b ≡ list_any (bytes_eq name) (names_in packed.names.keys) → ReadsPacked kind packed tree → b ≡ has_record kind tree name
 kept_record kind packed tree name b is reads = is ∙ reads.names name
 
--- ---- what a store tells
+-- ---- what a store says
 
 kinds_told : (kind : Kind) (table : Table) (id : Id) → kind_in (facts_in kind table) id ≡ kind_at table id
 kinds_told kind table id = go (table id)
@@ -221,7 +221,7 @@ file_named kind tree name named there = λ i. named i && (there i || has_record 
 pub private_file : (kind : Kind) (tree : Tree) (name : Bytes) → is_file_at tree name ≡ true → (is_file_at tree name || has_record kind tree name) ≡ true
 private_file kind tree name there = ap (λ b. b || has_record kind tree name) there
 
--- where one stands that is a folder of this one, the two collide
+-- if one exists that is a folder of this one, the two collide
 pub collision_cause : (A B : Type 0) (kind : Kind) (facts : Facts) (tree : Tree) (name : Bytes) (error : NamesError) → is_packed_text kind (bytes_at tree packed_place) ≡ true → is_private name ≡ false → has_name kind tree name ≡ true
     → IsCollision A kind tree name error → HasCause (A ⊎ B) kind facts tree error
 collision_cause A B kind facts tree name error good common there h = go error h
@@ -263,7 +263,7 @@ module _ (kind : Kind) (facts : Facts) (tree : Tree) (name text found : Bytes) (
   name_sound id (Ok t) common apart holds held = inr (inr (inl (record { named = named; common = common; apart = apart; id = id; holds = read_as (states.Holds id) holds; held = held })))
   name_sound id (Err e) common apart holds held = held
 
-  -- one that doesn't tells why
+  -- one that doesn't says why
   pub name_causes : {T : Type 0} (A B : Type 0) (id : ObjectId) (holder : Vec ℕ Global) (r : Result T NamesError) → holder.items ≡ name → loose_state kind found ≡ states.Holds (id_of id)
       → IfErr r (IsUnheld B (kind_in facts (id_of id)) id holder) → IfErr r (HasCause (A ⊎ B) kind facts tree)
   name_causes A B id holder r is holds unheld = unheld_causes A B kind facts tree id holder r (ap (name_state kind tree) is ∙ state_is (states.Holds (id_of id)) holds) unheld

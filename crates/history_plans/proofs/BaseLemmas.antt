@@ -299,7 +299,7 @@ all_more {X} P xs more x all one is = subst (λ (ys : List X). AllByRecursion P 
     go [] all = (one, tt)
     go (y ∷ ys) all = (all.0, go ys all.1)
 
--- ---- ids that stand twice
+-- ---- ids that occur twice
 
 pub twice_told : (ids : List ObjectId) (d : ObjectId) → (length ids == 0) ≡ false
     → has_twice id_eq (map id_of ids) ≡ (list_any (λ id. id_eq (id_of (get_or ids 0 d)) (id_of id)) (drop 1 ids) || has_twice id_eq (map id_of (drop 1 ids)))

@@ -28,7 +28,7 @@ use Rattle.history_plans.proofs.Edits.{AreSoFar, no_paths, read_more}
 use Rattle.history_plans.proofs.LineLemmas.{zip_split}
 use Rattle.history_plans.proofs.Zipped.{zip_get, zip_length}
 
--- the words of the lines stand for these commits
+-- the words of the lines mean these commits
 abbrev pub SourcesAt : plain.Repository → List EditLine → List (Option PeeledCommit) → Type 0
 SourcesAt r lines sources = (i : ℕ) (line : EditLine) → i < length lines → HasSource r (get_or lines i line) (get_or sources i None)
 

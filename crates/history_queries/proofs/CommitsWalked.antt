@@ -1,4 +1,4 @@
--- The commits of a repository that stands, as walks read them from its store.
+-- The commits of a repository, as walks read them from its store.
 use Rattle.std.proofs.Common.{◌≡◌, ◌∙◌, ap, refl, sym, subst, ℕ, zero, suc, pos, Bool, ◌||◌, true, false, List, [], ◌∷◌, map, Option, Some, None, is_some, option_map, inl, inr, Vec, arith}
 use Rattle.std.specs.declared.alloc.Global.{Global}
 use Rattle.std.specs.Prelude.{ℤ, Contains, IfErr, IsErrAnd, IsTrue, IsSome, Result, Ok, Err, ⊤, option_and_then, unwrap_or}
@@ -368,7 +368,7 @@ module _ (r : Repository) (store : IsWholeStore r) (written : IsWritten r) where
     walk_rowed tips hidden tips_held hidden_held MayFail (Err stopped) Broken is (x, met, unheld, unread) = absurd (unheld (met_held tips hidden tips_held hidden_held x met))
     walk_rowed tips hidden tips_held hidden_held MayFail (Err stopped) Memory is fails = is
 
--- ---- a walk over the store of a repository that stands, with its rows
+-- ---- a walk over the store of a repository, with its rows
 
 module _ {F : Type 0} (IsHonest : F → Type 0) (history : F → History) (repository : face.Repository F) (r : Repository) (stands : standing.Stands IsHonest history repository r) (rows : Option (List Row)) (copied : rows ≡ rows_in repository) where
   abbrev pub commits_there : Commits ObjectId

@@ -50,7 +50,7 @@ use Rattle.history_repository.proofs.NoFlaws.{fault_alone}
 same_branch : (a b : Bytes) → head_text a ≡ head_text b → a ≡ b
 same_branch a b e = append_cancel_left (codes "ref: ") a b (append_cancel_right (codes "ref: " ++ a) (codes "ref: " ++ b) (10 ∷ []) e)
 
--- ---- what a tag's first line tells
+-- ---- what a tag's first line says
 
 tag_id : (kind : Kind) (tag : TagValue) → is_tag_form kind tag ≡ true → is_id kind tag.target ≡ true
 tag_id kind tag form =
@@ -76,7 +76,7 @@ target_read kind tag is =
     (length-hex tag.target ∙ id_length kind tag.target is))
     ∙ id_from_hex-hex kind tag.target is
 
--- ---- the files of values tell their ids and facts
+-- ---- the files of values say their ids and facts
 
 same_ids : (kind : Kind) (tree : Tree) (a b : Values) → HoldsValues kind tree a → HoldsValues kind tree b → HaveOwnIds kind a → HaveOwnIds kind b → (id : Id) → contains_key a id ≡ contains_key b id
 same_ids kind tree a b in_a in_b own_a own_b id = go (get a id) refl (get b id) refl
@@ -106,7 +106,7 @@ module _ (kind : Kind) (tree : Tree) (values : Values) (holds : HoldsValues kind
       small : length (content_of kind v) < 2 ^ 64
       small = let most = (sound.written id v at).1 in omega arith
 
-  -- what the text of a value tells is the value's fact
+  -- the fact read from the text of a value is the value's fact
   told_so : (v : Value) → IsWrittenValue kind v → fact_told kind (record { kind = object_kind v; content = content_of kind v }) ≡ fact_of v
   told_so (StoredCommit commit) written = refl
   told_so (StoredTag tag) written = ap (λ o. record { kind = kinds.Tag; target = o }) (target_read kind tag (tag_id kind tag written.0))
@@ -161,7 +161,7 @@ pub cause_of : {F : Type 0} (history : F → History) (MayFail : Type 0) (facts 
 cause_of history MayFail facts error known own k kind e f h =
     subst (λ files. HasCause MayFail kind (facts kind) (history files).tree error) e (subst (λ (q : Kind). HasCause MayFail q (facts q) (history known).tree error) f h)
 
--- the facts that a store tells of the ids that it knows
+-- the facts that a store reads of the ids that it knows
 abbrev pub told_facts : Kind → Tree → IdSet → Facts
 told_facts kind tree ids id = option_map (fact_told kind) (cond (contains_key ids id) (object_at tree id) None)
 
