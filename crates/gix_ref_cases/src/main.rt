@@ -1,4 +1,4 @@
-//! Answers cases of the crates below `gix_ref`: lines of a family, an operation and arguments.
+//! Runs cases of the crates below `gix_ref`: lines of a family, an operation and arguments.
 #![tactic(auto)]
 
 mod file;
