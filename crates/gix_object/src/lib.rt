@@ -33,7 +33,7 @@ pub mod commit {
 pub mod data {
     /// The test that an object has the expected id.
     pub mod verify {
-        pub use gix_object_tree::data::verify::Error;
+        pub use gix_object_any::data::verify::Error;
     }
 }
 
@@ -87,7 +87,7 @@ pub mod lines {
 
 /// Objects of any kind.
 pub mod object {
-    pub use gix_object_tree::object::LooseDecodeError;
+    pub use gix_object_any::object::LooseDecodeError;
 }
 
 /// Signatures.
@@ -141,7 +141,7 @@ pub mod tree {
     }
 
     pub use gix_object_editor::tree::editor::Editor;
-    pub use gix_object_entries::tree::{Entry, EntryKind, EntryMode, EntryRef, name_order};
+    pub use gix_object_tree::tree::{Entry, EntryKind, EntryMode, EntryRef, name_order};
 }
 
 /// Keeping objects, and why one isn't kept.
@@ -149,14 +149,14 @@ pub mod write {
     pub use gix_object_write::write::Error;
 }
 
+pub use gix_object_any::{Data, Object, ObjectRef};
 pub use gix_object_commit::{Commit, CommitRef};
 pub use gix_object_commit_tokens::CommitRefIter;
-pub use gix_object_entries::{Tree, TreeRef, TreeRefIter};
 pub use gix_object_find::{Find, FindExt, FindObjectOrHeader, HeaderExt};
 pub use gix_object_hash::{Blob, BlobRef, compute_hash, compute_stream_hash};
 pub use gix_object_lines::write::Error as WriteToError;
 pub use gix_object_lines::{ByteString, Header, Kind, WriteTo};
 pub use gix_object_lookup::{Exists, FindHeader, FindInto, Lookup};
 pub use gix_object_tag::{Tag, TagRef, TagRefIter};
-pub use gix_object_tree::{Data, Object, ObjectRef};
+pub use gix_object_tree::{Tree, TreeRef, TreeRefIter};
 pub use gix_object_write::Write;

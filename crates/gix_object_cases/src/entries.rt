@@ -1,12 +1,12 @@
-//! Cases of `gix_object_entries`.
+//! Cases of `gix_object_tree`.
 
 mod modes;
 
 use case_words::{Case, Page};
 use gix_hash::ObjectId;
-use gix_object_entries::tree::{Entry, EntryKind, EntryMode, EntryRef, name_order};
-use gix_object_entries::{Tree, TreeRef, TreeRefIter};
 use gix_object_lines::{ByteString, WriteTo};
+use gix_object_tree::tree::{Entry, EntryKind, EntryMode, EntryRef, name_order};
+use gix_object_tree::{Tree, TreeRef, TreeRefIter};
 use std::alloc::{AllocError, Global};
 
 /// Adds what the operation gives. `None` if there is no such operation.

@@ -1,4 +1,4 @@
-//! Cases of `gix_object_tree`.
+//! Cases of `gix_object_any`.
 
 mod borrowed;
 mod data;

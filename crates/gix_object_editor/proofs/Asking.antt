@@ -7,8 +7,8 @@ use Rattle.std.proofs.lemmas.List.{append_assoc, append-nil, length-append, get_
 use Rattle.std.proofs.lemmas.Bool.{cases_eq}
 use Rattle.std.proofs.lemmas.List.Elements.{All-append, Contains-get_or}
 use Rattle.gix_hash_id.specs.Id.{Id}
-use Rattle.gix_object_entries.specs.Entry.{Item}
-use Rattle.gix_object_entries.specs.Mode.{is_tree_value}
+use Rattle.gix_object_tree.specs.Entry.{Item}
+use Rattle.gix_object_tree.specs.Mode.{is_tree_value}
 use Rattle.gix_object_lookup.specs.Table.{Table}
 use Rattle.gix_object_editor.specs.declared.tree.editor.error.Error.{Error}
 use Rattle.gix_object_editor.specs.declared.tree.editor.error.Error.TheVariants.{EmptyPathComponent, FindExistingObject, CannotRemoveNonLeaf, MalformedTree, EmptyTree, Memory}

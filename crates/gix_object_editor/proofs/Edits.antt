@@ -4,7 +4,7 @@ use Rattle.std.specs.Prelude.{is_some}
 use Rattle.std.specs.Borrow.{Bor}
 use Rattle.std.proofs.lemmas.List.{get_or-map, length-drop, take_all}
 use Rattle.std.proofs.lemmas.List.Elements.{All-map}
-use Rattle.gix_object_entries.specs.Entry.{Item}
+use Rattle.gix_object_tree.specs.Entry.{Item}
 use Rattle.gix_object_nodes.specs.declared.node.NodeId.{NodeId}
 use Rattle.gix_hash_id.specs.Id.{Id, id_of}
 use Rattle.gix_object_nodes.specs.declared.node.Slot.{Slot}

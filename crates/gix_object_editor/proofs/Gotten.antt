@@ -1,7 +1,7 @@
 -- What is got at a path, and the files.
 use Rattle.std.proofs.Common.{ℕ, ◌≡◌, ◌⊎◌, Bool, true, false, [], ◌∷◌, Option, Some, None, refl, sym, ap, subst, ◌++◌, ◌∙◌, inl, inr, if◌then◌else◌}
-use Rattle.gix_object_entries.specs.Entry.{Item}
-use Rattle.gix_object_entries.specs.Mode.{is_tree_value}
+use Rattle.gix_object_tree.specs.Entry.{Item}
+use Rattle.gix_object_tree.specs.Mode.{is_tree_value}
 use Rattle.gix_object_nodes.specs.declared.node.NodeId.{NodeId}
 use Rattle.gix_object_nodes.specs.declared.node.Slot.{Slot}
 use Rattle.gix_object_nodes.specs.Files.{Bytes, Path, Leaf, Trees, is_null, through, leaf_of, tree_under, unless_tree, files_of_entry}

@@ -2,7 +2,7 @@
 use Rattle.std.proofs.Common.{◌≡◌, Bool, true, false, Some, None, [], refl, ap, ◌∙◌, if◌then◌else◌}
 use Rattle.std.specs.Prelude.{Result, Ok, Err, IfErr}
 use Rattle.gix_hash_id.specs.Id.{Id}
-use Rattle.gix_object_entries.specs.Mode.{is_tree_value}
+use Rattle.gix_object_tree.specs.Mode.{is_tree_value}
 use Rattle.gix_object_lookup.specs.Table.{Table}
 use Rattle.gix_object_editor.specs.declared.tree.editor.error.Error.{Error}
 use Rattle.gix_object_editor.specs.declared.tree.editor.error.Error.TheVariants.{EmptyPathComponent, FindExistingObject, CannotRemoveNonLeaf, MalformedTree, EmptyTree, Memory}

@@ -3,12 +3,12 @@ use Rattle.std.proofs.Common.{ℕ, zero, suc, ◌≡◌, ◌≢◌, ◌<◌, ◌
 use Rattle.std.specs.Prelude.{bytes_eq, is_some}
 use Rattle.std.proofs.lemmas.List.{get_or-map, get_or_default, get_or-take, take-map, map-append, length-take}
 use Rattle.std.proofs.Math.Seq.{take-suc}
-use Rattle.gix_object_entries.specs.Entry.{Item}
+use Rattle.gix_object_tree.specs.Entry.{Item}
 use Rattle.gix_object_nodes.specs.declared.node.NodeId.{NodeId}
 use Rattle.gix_object_nodes.specs.declared.node.Slot.{Slot}
 use Rattle.gix_object_nodes.specs.Files.{Bytes, Path, Trees, leaf_of, named, through, files_of_entry, files_of_tree}
 use Rattle.gix_object_nodes.specs.Nodes.{Slots, StandsFor, leaf_in, child_of, child_or, files_of_slot, files_of_node, IsForest}
-use Rattle.gix_object_entries.specs.WellFormed.{IsWellFormed, HasNamesOnce}
+use Rattle.gix_object_tree.specs.WellFormed.{IsWellFormed, HasNamesOnce}
 use Rattle.gix_object_nodes.proofs.Paths.{same_name, name_itself, by_test}
 
 named-more : (xs : List Item) (x : Item) (m : Bytes) → named m xs ≡ None → bytes_eq m x.name ≡ true → named m (xs ++ x ∷ []) ≡ Some x

@@ -3,7 +3,7 @@ use Rattle.std.proofs.Common.{ℕ, List, [], ◌∷◌, ◌++◌, refl, ◌∙�
 use Rattle.std.proofs.lemmas.List.{append-nil}
 use Rattle.std.proofs.lemmas.List.Elements.{All-push}
 use Rattle.gix_hash_id.specs.Id.{Id}
-use Rattle.gix_object_entries.specs.Entry.{Item}
+use Rattle.gix_object_tree.specs.Entry.{Item}
 use Rattle.gix_object_nodes.specs.Files.{Path}
 use Rattle.gix_object_nodes.specs.Nodes.{slots_of, Way, onto}
 use Rattle.gix_object_nodes.specs.Marks.{marks_of, due, due_in}

@@ -4,8 +4,8 @@ use Rattle.std.specs.Borrow.{Bor}
 use Rattle.gix_hash_id.specs.Id.{Id, id_of}
 use Rattle.gix_hash_id.specs.declared.kind.Kind.{Kind}
 use Rattle.gix_hash_id.specs.declared.object_id.ObjectId.{ObjectId}
-use Rattle.gix_object_entries.specs.Mode.{kind_value, is_tree_value}
-use Rattle.gix_object_entries.specs.declared.tree.mode.EntryKind.{EntryKind}
+use Rattle.gix_object_tree.specs.Mode.{kind_value, is_tree_value}
+use Rattle.gix_object_tree.specs.declared.tree.mode.EntryKind.{EntryKind}
 use Rattle.gix_object_lookup.specs.Table.{Table}
 use Rattle.gix_object_nodes.specs.declared.node.Slot.{Slot}
 use Rattle.gix_object_editor.specs.declared.tree.editor.state.Editor.{Editor}

@@ -2,13 +2,13 @@
 use Rattle.std.specs.Prelude.{ℕ, ◌≡◌, ⊤, List, ◌∷◌, Some}
 use Rattle.gix_hash_id.specs.Id.{Id, id_of}
 use Rattle.gix_object_lines.specs.declared.kind.Kind.TheVariants as kinds
-use Rattle.gix_object_entries.specs.Entry.{Item, SpellsTree, TreeFault}
+use Rattle.gix_object_tree.specs.Entry.{Item, SpellsTree, TreeFault}
 use Rattle.gix_object_lookup.specs.Table.{Table}
 use Rattle.gix_object_lookup.specs.Existing.{Stands, LookupFault, IsAbsent, HasOtherKind}
 use Rattle.gix_object_lines.specs.declared.decode.Error.TheVariants as decode
 use Rattle.gix_object_lookup.specs.declared.find.existing_object.Error as existing
 use Rattle.gix_object_lookup.specs.declared.find.existing_object.Error.TheVariants as existing_case
-use Rattle.gix_object_entries.specs.WellFormed.{IsWellFormed}
+use Rattle.gix_object_tree.specs.WellFormed.{IsWellFormed}
 use Rattle.gix_object_nodes.specs.Files.{Bytes, Path, Leaf, Trees}
 use Rattle.gix_object_nodes.specs.Nodes.{Slots, files_of_node, AreFilled, IsUnopened}
 use Rattle.gix_object_nodes.specs.declared.node.Slot.{Slot}

@@ -4,7 +4,7 @@ use Rattle.gix_hash_id.specs.Id.{Id}
 use Rattle.gix_object_lines.specs.declared.kind.Kind.TheVariants as kinds
 use Rattle.gix_object_lookup.specs.Table.{Table}
 use Rattle.gix_object_lookup.specs.Existing.{Stands}
-use Rattle.gix_object_entries.specs.Entry.{Item, SpellsTree}
+use Rattle.gix_object_tree.specs.Entry.{Item, SpellsTree}
 use Rattle.gix_object_nodes.specs.declared.node.Node.{Node}
 use Rattle.gix_object_nodes.specs.declared.node.Slot.{Slot}
 use Rattle.gix_object_nodes.specs.Files.{Bytes, Path, Leaf, Trees, leads_on, named}

@@ -7,12 +7,12 @@ use Rattle.gix_object_lines.specs.declared.kind.Kind.{Kind}
 use Rattle.gix_object_lines.specs.declared.decode.Error as decode
 use Rattle.gix_object_commit.specs.Views.{parts_of}
 use Rattle.gix_object_commit.specs.declared.commit.CommitRef.{CommitRef}
-use Rattle.gix_object_entries.specs.Entry.{item_of}
-use Rattle.gix_object_entries.specs.declared.tree.whole.TreeRef.{TreeRef}
+use Rattle.gix_object_tree.specs.Entry.{item_of}
+use Rattle.gix_object_tree.specs.declared.tree.whole.TreeRef.{TreeRef}
 use Rattle.gix_object_tag.specs.Views.{parts_of as tag_parts_of}
 use Rattle.gix_object_tag.specs.declared.tag.TagRef.{TagRef}
-use Rattle.gix_object_tree.specs.Object.{Value, Commit, Tag, Tree, Tells, ContentFault}
-use Rattle.gix_object_tree.specs.declared.data.Data.{Data}
+use Rattle.gix_object_any.specs.Object.{Value, Commit, Tag, Tree, Tells, ContentFault}
+use Rattle.gix_object_any.specs.declared.data.Data.{Data}
 use Rattle.gix_object_lookup.specs.Existing.{Stands, LookupFault, IsAbsent, HasOtherKind}
 use Rattle.gix_object_lookup.specs.Table.{Object, Table}
 use Rattle.gix_object_lookup.specs.declared.find.existing_object.Error as existing_object

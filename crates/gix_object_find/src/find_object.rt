@@ -6,9 +6,9 @@ ghost use Rattle.gix_object_find.specs.Values.{object_of};
 ghost use Rattle.gix_object_lookup.specs.declared.find.Error.TheVariants.{Failed};
 
 use gix_hash::oid;
+use gix_object_any::Data;
 use gix_object_lookup::FindInto;
 use gix_object_lookup::find::Error;
-use gix_object_tree::Data;
 
 /// Gives objects.
 pub trait Find: FindInto {

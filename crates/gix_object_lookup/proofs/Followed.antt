@@ -5,10 +5,10 @@ use Rattle.std.specs.Bool.{MatchBool}
 use Rattle.std.proofs.Math.Seq.{drop-cons}
 use Rattle.gix_hash_id.specs.Id.{Id}
 use Rattle.gix_object_lines.specs.declared.kind.Kind.TheVariants as kinds
-use Rattle.gix_object_entries.specs.Entry.{Item}
+use Rattle.gix_object_tree.specs.Entry.{Item}
 use Rattle.gix_object_lookup.specs.Existing.{Stands}
-use Rattle.gix_object_entries.specs.Order.{is_tree}
-use Rattle.gix_object_entries.specs.Reading.{Place, start}
+use Rattle.gix_object_tree.specs.Order.{is_tree}
+use Rattle.gix_object_tree.specs.Reading.{Place, start}
 use Rattle.gix_object_lookup.specs.Path.{Path, FindsFirst, NameFault, IsNamedBy, IsBelow, Follows, BelowFault, PathFault}
 use Rattle.gix_object_lookup.specs.Table.{Table}
 use Rattle.gix_object_lookup.specs.declared.lookup.Error.{Error}

@@ -1,8 +1,8 @@
 -- No entry of a name among those that a content spells.
 use Rattle.std.proofs.Common.{◌≡◌, subst, ℕ, List, []}
 use Rattle.std.specs.Prelude.{None}
-use Rattle.gix_object_entries.specs.Entry.{Item, SpellsEntries}
-use Rattle.gix_object_entries.specs.Reading.{Place}
+use Rattle.gix_object_tree.specs.Entry.{Item, SpellsEntries}
+use Rattle.gix_object_tree.specs.Reading.{Place}
 use Rattle.gix_object_lookup.specs.Path.{FindsFirst, LackName}
 
 -- all entries were read, and none has the name

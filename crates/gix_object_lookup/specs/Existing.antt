@@ -4,8 +4,8 @@ use Rattle.std.specs.Prelude.{ℕ, ◌≡◌, ◌≢◌, ⊤, List, None, Some}
 use Rattle.gix_hash_id.specs.Id.{Id, id_of}
 use Rattle.gix_object_lines.specs.declared.kind.Kind.{Kind}
 use Rattle.gix_object_lines.specs.declared.kind.Kind.TheVariants as kinds
-use Rattle.gix_object_entries.specs.Reading.{place_of, start}
-use Rattle.gix_object_entries.specs.declared.tree.ref_iter.TreeRefIter.{TreeRefIter}
+use Rattle.gix_object_tree.specs.Reading.{place_of, start}
+use Rattle.gix_object_tree.specs.declared.tree.ref_iter.TreeRefIter.{TreeRefIter}
 use Rattle.gix_object_lookup.specs.Table.{Table, kind_at}
 use Rattle.gix_object_lookup.specs.declared.find.Error as find
 use Rattle.gix_object_lookup.specs.declared.find.Error.TheVariants.{Failed, Memory}

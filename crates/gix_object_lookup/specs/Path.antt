@@ -5,9 +5,9 @@ use Rattle.std.specs.Bool.{MatchBool}
 use Rattle.std.specs.List.{All, slice_split}
 use Rattle.gix_object_lines.specs.declared.decode.Error as decode
 use Rattle.gix_object_lines.specs.declared.kind.Kind.TheVariants as kinds
-use Rattle.gix_object_entries.specs.Entry.{Item, SpellsEntries, SpellsTree, FaultBehind}
-use Rattle.gix_object_entries.specs.Order.{is_tree}
-use Rattle.gix_object_entries.specs.Reading.{Place}
+use Rattle.gix_object_tree.specs.Entry.{Item, SpellsEntries, SpellsTree, FaultBehind}
+use Rattle.gix_object_tree.specs.Order.{is_tree}
+use Rattle.gix_object_tree.specs.Reading.{Place}
 use Rattle.gix_object_lookup.specs.Existing.{Stands, KindFault}
 use Rattle.gix_object_lookup.specs.Table.{Table}
 use Rattle.gix_object_lookup.specs.declared.lookup.Error.{Error}

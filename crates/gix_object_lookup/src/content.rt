@@ -8,8 +8,8 @@ ghost use Rattle.gix_object_lookup.specs.Existing.{Stands, IsReadFrom, KindFault
 use crate::FindInto;
 use crate::find::existing_iter::Error;
 use gix_hash::{ObjectId, oid};
-use gix_object_entries::TreeRefIter;
 use gix_object_lines::Kind;
+use gix_object_tree::TreeRefIter;
 
 /// Returns the content of the object of this id and kind, which the buffer holds. Returns
 /// `NotFound` if there is no object, `ObjectKind` if it is of another kind, and `Find` if the

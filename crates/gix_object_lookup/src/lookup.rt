@@ -1,16 +1,16 @@
 //! Entries by their paths.
 
 ghost use Rattle.std.specs.Prelude.{◌≡◌, ◌↔◌, IsTrue, Some, map, IfOk, IfErr, option_map};
-ghost use Rattle.gix_object_entries.specs.Entry.{item_of, own_item};
-ghost use Rattle.gix_object_entries.specs.Reading.{place_of};
+ghost use Rattle.gix_object_tree.specs.Entry.{item_of, own_item};
+ghost use Rattle.gix_object_tree.specs.Reading.{place_of};
 ghost use Rattle.gix_object_lookup.specs.Path.{FindsFirst, IsUnspelled, NameFault, IsBelow, Follows, LooksUp, BelowFault, FollowFault, PathFault, names_in};
 ghost use Rattle.gix_object_lookup.specs.declared.lookup.Error.TheVariants as fault;
 
 use crate::find::existing_iter;
 use crate::{FindInto, entries_of};
-use gix_object_entries::TreeRefIter;
-use gix_object_entries::tree::{Entry, EntryRef};
 use gix_object_lines::decode;
+use gix_object_tree::TreeRefIter;
+use gix_object_tree::tree::{Entry, EntryRef};
 use std::alloc::{AllocError, Global};
 
 /// Why an entry can't be looked up.

@@ -10,9 +10,9 @@ use Rattle.std.proofs.lemmas.Fn.{FoldsTo-push}
 use Rattle.std.proofs.lemmas.List.Elements.{All-push, All-weaker, All-contains, Contains-append_left, Contains-push, Contains-get_or}
 use Rattle.gix_hash_id.specs.Id.{Id, id_of}
 use Rattle.gix_hash_id.specs.declared.object_id.ObjectId.{ObjectId}
-use Rattle.gix_object_entries.specs.Entry.{Item, own_item}
-use Rattle.gix_object_entries.specs.declared.tree.entry.Entry.{Entry}
-use Rattle.gix_object_entries.specs.declared.tree.owned.Tree.{Tree}
+use Rattle.gix_object_tree.specs.Entry.{Item, own_item}
+use Rattle.gix_object_tree.specs.declared.tree.entry.Entry.{Entry}
+use Rattle.gix_object_tree.specs.declared.tree.owned.Tree.{Tree}
 use Rattle.gix_object_nodes.specs.declared.node.Node.{Node}
 use Rattle.gix_object_nodes.specs.declared.write.error.Error.{Error}
 use Rattle.gix_object_nodes.specs.declared.write.error.Error.TheVariants.{Out, Memory}

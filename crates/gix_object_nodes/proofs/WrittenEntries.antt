@@ -17,11 +17,11 @@ use Rattle.gix_hash_id.specs.declared.object_id.ObjectId.{ObjectId}
 use Rattle.gix_hash_id.specs.Order.{digits_cmp, id_cmp, id_eq}
 use Rattle.gix_hash_id.specs.OrderLaws.{id_equivalence, id_eq-same, id_eq-itself}
 use Rattle.gix_object_lines.specs.Bytes.{Lacks}
-use Rattle.gix_object_entries.specs.Entry.{Item, own_item}
-use Rattle.gix_object_entries.specs.Order.{git_key, is_tree, item_key, item_cmp, mode_cmp}
-use Rattle.gix_object_entries.specs.OrderLaws.{item_total}
-use Rattle.gix_object_entries.specs.WellFormed.{ComesBefore, HasNamesOnce, IsFilename, IsInOrder, IsWellFormed}
-use Rattle.gix_object_entries.specs.declared.tree.entry.Entry.{Entry}
+use Rattle.gix_object_tree.specs.Entry.{Item, own_item}
+use Rattle.gix_object_tree.specs.Order.{git_key, is_tree, item_key, item_cmp, mode_cmp}
+use Rattle.gix_object_tree.specs.OrderLaws.{item_total}
+use Rattle.gix_object_tree.specs.WellFormed.{ComesBefore, HasNamesOnce, IsFilename, IsInOrder, IsWellFormed}
+use Rattle.gix_object_tree.specs.declared.tree.entry.Entry.{Entry}
 use Rattle.gix_object_nodes.specs.declared.node.NodeId.{NodeId}
 use Rattle.gix_object_nodes.specs.declared.node.Slot.{Slot}
 use Rattle.gix_object_nodes.specs.Files.{Bytes, is_null, through, named}

@@ -6,9 +6,9 @@ use Rattle.std.specs.List.{All}
 use Rattle.gix_hash_id.specs.Id.{Id, null_id}
 use Rattle.gix_hash_id.specs.Hasher.{id_of_message, empty_tree_text}
 use Rattle.gix_hash_id.specs.Order.{id_eq}
-use Rattle.gix_object_entries.specs.Entry.{Item}
-use Rattle.gix_object_entries.specs.Mode.{is_tree_value}
-use Rattle.gix_object_entries.specs.ModeText.{Mode}
+use Rattle.gix_object_tree.specs.Entry.{Item}
+use Rattle.gix_object_tree.specs.Mode.{is_tree_value}
+use Rattle.gix_object_tree.specs.ModeText.{Mode}
 
 abbrev pub Bytes : Type 0
 Bytes = List ℕ

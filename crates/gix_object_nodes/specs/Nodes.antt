@@ -6,9 +6,9 @@ use Rattle.std.specs.Cmp.Lexicographic.{slice_cmp}
 use Rattle.std.specs.Ordering.{nat_cmp}
 use Rattle.std.specs.declared.alloc.Global.{Global}
 use Rattle.gix_hash_id.specs.Id.{Id, id_of}
-use Rattle.gix_object_entries.specs.Entry.{Item}
-use Rattle.gix_object_entries.specs.Mode.{is_tree_value}
-use Rattle.gix_object_entries.specs.ModeText.{mode_of}
+use Rattle.gix_object_tree.specs.Entry.{Item}
+use Rattle.gix_object_tree.specs.Mode.{is_tree_value}
+use Rattle.gix_object_tree.specs.ModeText.{mode_of}
 use Rattle.gix_object_nodes.specs.declared.node.Node.{Node}
 use Rattle.gix_object_nodes.specs.declared.node.NodeId.{NodeId}
 use Rattle.gix_object_nodes.specs.declared.node.Slot.{Slot}

@@ -3,12 +3,12 @@ use Rattle.std.specs.Prelude.{ℕ, zero, suc, ◌≡◌, false, ◌++◌, List, 
 use Rattle.std.specs.List.{All}
 use Rattle.gix_hash_id.specs.Id.{Id, id_of}
 use Rattle.gix_hash_id.specs.declared.object_id.ObjectId.{ObjectId}
-use Rattle.gix_object_entries.specs.Entry.{Item}
-use Rattle.gix_object_entries.specs.Mode.{kind_value}
-use Rattle.gix_object_entries.specs.ModeText.{Mode, mode_of}
-use Rattle.gix_object_entries.specs.WellFormed.{HasNamesOnce, IsFilename, IsWellFormed}
-use Rattle.gix_object_entries.specs.declared.tree.mode.EntryKind.TheVariants as kinds
-use Rattle.gix_object_entries.specs.declared.tree.mode.EntryMode.{EntryMode}
+use Rattle.gix_object_tree.specs.Entry.{Item}
+use Rattle.gix_object_tree.specs.Mode.{kind_value}
+use Rattle.gix_object_tree.specs.ModeText.{Mode, mode_of}
+use Rattle.gix_object_tree.specs.WellFormed.{HasNamesOnce, IsFilename, IsWellFormed}
+use Rattle.gix_object_tree.specs.declared.tree.mode.EntryKind.TheVariants as kinds
+use Rattle.gix_object_tree.specs.declared.tree.mode.EntryMode.{EntryMode}
 use Rattle.gix_object_nodes.specs.declared.node.Slot.{Slot}
 use Rattle.gix_object_nodes.specs.Files.{Bytes, Path, is_null, through, named}
 use Rattle.gix_object_nodes.specs.Nodes.{Slots, child_or, Way}

@@ -5,9 +5,9 @@ use Rattle.std.specs.Fn.{Mut, CalledAt}
 use Rattle.std.specs.List.{All, Contains, FoldsTo}
 use Rattle.gix_hash_id.specs.Id.{Id, id_of}
 use Rattle.gix_hash_id.specs.declared.object_id.ObjectId.{ObjectId}
-use Rattle.gix_object_entries.specs.Entry.{Item, own_item}
-use Rattle.gix_object_entries.specs.WellFormed.{IsFilename, IsWellFormed}
-use Rattle.gix_object_entries.specs.declared.tree.owned.Tree.{Tree}
+use Rattle.gix_object_tree.specs.Entry.{Item, own_item}
+use Rattle.gix_object_tree.specs.WellFormed.{IsFilename, IsWellFormed}
+use Rattle.gix_object_tree.specs.declared.tree.owned.Tree.{Tree}
 use Rattle.gix_object_nodes.specs.declared.node.Slot.{Slot}
 use Rattle.gix_object_nodes.specs.declared.write.error.Error.{Error}
 use Rattle.gix_object_nodes.specs.declared.write.error.Error.TheVariants.{Out, Memory}

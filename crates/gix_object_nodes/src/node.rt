@@ -6,7 +6,7 @@ ghost use Rattle.gix_object_nodes.specs.Nodes.{slot_in, slots_of};
 ghost use Rattle.gix_object_nodes.specs.Marks.{mark_of, marks_of, mark_below};
 
 use gix_hash::ObjectId;
-use gix_object_entries::tree::EntryMode;
+use gix_object_tree::tree::EntryMode;
 use std::alloc::{AllocError, Global};
 use std::collections::BTreeMap;
 

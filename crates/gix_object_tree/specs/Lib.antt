@@ -1,7 +1,10 @@
-pub mod Object
-pub mod Loose
-pub mod Views
-pub mod Readers
-pub mod Checks
-pub mod Owned
-pub mod Format
+pub mod Mode
+pub mod ModeText
+pub mod Entry
+pub mod Reading
+pub mod Order
+pub mod OrderLaws
+pub mod Writing
+pub mod WellFormed
+pub mod SameItem
+pub mod Hashing

@@ -1,97 +1,106 @@
-//! Laws of loose objects, each the contract of a function.
+//! Laws of trees, their entries and modes, each the contract of a function.
 //!
-//! The functions call the laws of trees, commits and tags, and do nothing else.
+//! The function makes the calls whose promises its law has.
 
-ghost use Rattle.std.specs.Prelude.{◌≡◌, ℕ, List, None};
-ghost use Rattle.gix_object_lines.specs.declared.kind.Kind.{Kind};
-ghost use Rattle.gix_object_tree.specs.Format.{HasIds, IsWritable, IsSpelledAsWritten};
-ghost use Rattle.gix_object_tree.specs.Loose.{IsLoose, loose_text};
-ghost use Rattle.gix_object_tree.specs.Object.{Value, Tells, kind_of, value_text, value_refusal};
-ghost use Rattle.gix_object_tree.specs.Views.{value_of};
+ghost use Rattle.std.specs.Prelude.{◌≡◌, ◌↔◌, List, None, IsTrue, map, []};
+ghost use Rattle.std.specs.List.{All};
+ghost use Rattle.gix_object_tree.specs.Entry.{Item, item_of, own_item, SpellsTree};
+ghost use Rattle.gix_object_tree.specs.Hashing.{item_input};
+ghost use Rattle.gix_object_tree.specs.ModeText.{SpellsMode, mode_of, mode_text};
+ghost use Rattle.gix_object_tree.specs.OrderLaws.{item_eq};
+ghost use Rattle.gix_object_tree.specs.Reading.{Gives, start};
+ghost use Rattle.gix_object_tree.specs.WellFormed.{IsWellFormed};
+ghost use Rattle.gix_object_tree.specs.Writing.{HasIds, IsToldAgain, SpellsAsWritten, tree_text, tree_refusal};
+ghost use Rattle.gix_object_tree.specs.declared.tree.entry.EntryRef as borrowed;
 
-pub mod owned;
+use crate::tree::entry::AsEntry;
+use crate::tree::{Entry, EntryMode, EntryRef};
+use crate::{Tree, TreeRef};
+use gix_hash::Kind;
 
-use crate::ObjectRef;
-use gix_object_commit::laws::{one_commit, read_is_written, written_is_read};
-use gix_object_entries::laws::{
-    bytes_spell_one_tree, read_tree_is_written, written_tree_is_read_back,
-};
-use gix_object_lines::decode::loose_header;
-use gix_object_tag::laws as tags;
-use gix_object_tag::laws::one_tag;
-
-/// Bytes are a header and as much content as it says in at most one way.
-pub fn one_kind_and_content(bytes: &[u8])
-    ensures { (kind other : Kind) (content rest : List ℕ) → bytes.now ≡ loose_text kind content
-        → bytes.now ≡ loose_text other rest → (kind ≡ other) × (content ≡ rest) }
-{
-    let _header = loose_header(bytes);
-}
-
-/// Content of a kind has at most one value.
-pub fn one_value(content: &[u8], hash_kind: gix_hash::Kind)
-    ensures { (kind : Kind) (one other : Value) → Tells hash_kind kind content.now one
-        → Tells hash_kind kind content.now other → one ≡ other }
-{
-    bytes_spell_one_tree(content, hash_kind);
-    one_commit(content, hash_kind);
-    one_tag(content, hash_kind);
-}
-
-/// Bytes are at most one loose object, so they alone determine what `ObjectRef::from_loose` reads.
-pub fn one_loose_object(bytes: &[u8], hash_kind: gix_hash::Kind)
-    ensures { (one other : Value) → IsLoose hash_kind bytes.now one
-        → IsLoose hash_kind bytes.now other → one ≡ other }
-{
-    one_kind_and_content(bytes);
-    one_value(content_of(bytes), hash_kind);
-}
-
-/// What is written of an object that isn't refused, after its header, is a loose object with the
-/// same value, if its ids are of this hash function. So `ObjectRef::from_loose` reads it as that
-/// value.
-pub fn written_object_is_read_back(object: &ObjectRef<'_>, hash_kind: gix_hash::Kind)
-    ensures { let value = value_of object.now in value_refusal value ≡ None → HasIds hash_kind value
-        → IsLoose hash_kind (loose_text (kind_of value) (value_text value)) value }
-{
-    match object {
-        ObjectRef::Blob(_) => {}
-        ObjectRef::Tree(tree) => written_tree_is_read_back(tree, hash_kind),
-        ObjectRef::Commit(_) => written_is_read(),
-        ObjectRef::Tag(_) => tags::written_is_read(hash_kind),
-    }
-}
-
-/// The ids of an object that was read are of its hash function, so that it is read back if its
-/// writing isn't refused. Nothing is done: the contract is the law.
-pub fn read_object_has_ids(_bytes: &[u8], _hash_kind: gix_hash::Kind)
-    ensures { (value : Value) → IsLoose _hash_kind _bytes.now value → HasIds _hash_kind value }
+/// Bytes spell at most one tree.
+pub fn bytes_spell_one_tree(_content: &[u8], _hash_kind: Kind)
+    ensures { (one other : List Item) → SpellsTree _hash_kind _content.now one
+        → SpellsTree _hash_kind _content.now other → one ≡ other }
 {}
 
-/// An object that was read is written to the bytes that it was read from, unless it is a tree with
-/// further zeros before a mode, or a tag with an empty message: such a tag may end after its lines,
-/// or have a line feed more before its signature. Its writing is refused only if a name or an email
-/// holds `<` or `>`, a commit's encoding has no name, or a tag's name is none that Git makes.
-pub fn read_object_is_written_back(bytes: &[u8], hash_kind: gix_hash::Kind)
-    ensures bytes { (value : Value) → (is : IsLoose hash_kind bytes.now value)
-        → IsSpelledAsWritten hash_kind is.content value
-        → loose_text (kind_of value) (value_text value) ≡ bytes.now }
-    ensures accepted { (value : Value) → IsLoose hash_kind bytes.now value → IsWritable value
-        → value_refusal value ≡ None }
+/// The text that is written of a mode is read as that mode.
+pub fn written_mode_is_read_back(mode: EntryMode)
+    ensures { SpellsMode (mode_text (mode_of mode)) (mode_of mode) }
 {
-    let content = content_of(bytes);
-    read_tree_is_written(content, hash_kind);
-    read_is_written(content, hash_kind);
-    tags::read_is_written(content, hash_kind);
+    let _value = mode.value();
+    let mut backing = [0; 6];
+    let _text = mode.as_bytes(&mut backing);
 }
 
-// What follows the header of a loose object.
-fn content_of(bytes: &[u8]) -> &[u8]
-    ensures { (kind : Kind) (content : List ℕ) → bytes.now ≡ loose_text kind content
-        → result.now ≡ content }
+/// What is written of a tree that isn't refused spells its entries if its ids are of this hash
+/// function: it is read as that tree.
+pub fn written_tree_is_read_back(tree: &TreeRef<'_>, _hash_kind: Kind)
+    ensures { let items = map item_of tree.now.entries.items in
+        tree_refusal items ≡ None → HasIds _hash_kind items
+        → SpellsTree _hash_kind (tree_text items) items }
 {
-    match loose_header(bytes) {
-        Ok((_, _, header)) => &bytes[header..],
-        Err(_) => bytes,
+    entries_are_told_again(tree.entries.as_slice());
+}
+
+/// The same of a tree that owns its entries.
+pub fn owned_written_tree_is_read_back(tree: &Tree, _hash_kind: Kind)
+    ensures { let items = map own_item tree.now.entries.items in
+        tree_refusal items ≡ None → HasIds _hash_kind items
+        → SpellsTree _hash_kind (tree_text items) items }
+{
+    entries_are_told_again(tree.entries.as_slice());
+}
+
+/// A tree that was read has ids of its hash function, and is written without a refusal: to the
+/// bytes that it was read from, if each mode has the digits there that are written for it.
+pub fn read_tree_is_written(_content: &[u8], _hash_kind: Kind)
+    ensures ids { (items : List Item) → SpellsTree _hash_kind _content.now items
+        → HasIds _hash_kind items }
+    ensures accepted { (items : List Item) → SpellsTree _hash_kind _content.now items
+        → tree_refusal items ≡ None }
+    ensures bytes { (items : List Item) → SpellsAsWritten _hash_kind _content.now items
+        → tree_text items ≡ _content.now }
+{}
+
+/// A well-formed tree is written without a refusal.
+pub fn well_formed_tree_is_written()
+    ensures { (items : List Item) → IsWellFormed items → tree_refusal items ≡ None }
+{}
+
+/// The entries that a content spells are those that the reader gives one after another, to the end
+/// of the content: so it gives no error exactly if `TreeRef::from_bytes` reads a tree, and then the
+/// same entries.
+pub fn entries_are_read_one_by_one(_content: &[u8], _hash_kind: Kind)
+    ensures { (entries : List borrowed.EntryRef)
+        → SpellsTree _hash_kind _content.now (map item_of entries)
+        ↔ Gives (start _hash_kind _content.now) entries (start _hash_kind []) }
+{}
+
+/// Entries are equal exactly if their modes, names and ids are.
+pub fn equal_entries_are_one(_entry: &Entry, _other: &Entry)
+    ensures { IsTrue (item_eq (own_item _entry.now) (own_item _other.now))
+        ↔ (own_item _entry.now ≡ own_item _other.now) }
+{}
+
+/// Equal entries feed a hasher the same bytes, also if one borrows its parts and the other owns
+/// them.
+pub fn equal_entries_are_fed_alike(_entry: &Entry, _other: &EntryRef<'_>)
+    ensures { IsTrue (item_eq (own_item _entry.now) (item_of _other.now))
+        → item_input (own_item _entry.now) ≡ item_input (item_of _other.now) }
+{}
+
+fn entries_are_told_again<T: AsEntry>(entries: &[T])
+    ensures { All IsToldAgain (map T.item entries.now) }
+{
+    for entry in entries {
+        entry_is_told_again(entry.as_entry());
     }
+}
+
+fn entry_is_told_again(entry: EntryRef<'_>)
+    ensures { IsToldAgain (item_of entry.entry) }
+{
+    written_mode_is_read_back(entry.mode);
+    let _id = entry.oid.as_bytes();
 }

@@ -1,11 +1,7 @@
-//! Git's objects of any kind, after the crate `gix-object` 0.64: their bytes, borrowed and owned.
+//! Git's trees: their entries, read whole or one by one, and written, after `gix-object` 0.64.
 #![tactic(auto)]
 
-pub mod data;
 pub mod laws;
-pub mod object;
-mod owned;
+pub mod tree;
 
-pub use crate::data::Data;
-pub use crate::object::ObjectRef;
-pub use crate::owned::Object;
+pub use crate::tree::{Tree, TreeRef, TreeRefIter};

@@ -6,7 +6,7 @@ ghost use Rattle.gix_hash_id.specs.Hasher.{id_of_message};
 ghost use Rattle.gix_hash_id.specs.declared.kind.Kind.TheVariants as hashes;
 ghost use Rattle.gix_hash_id.specs.declared.kind.Kind as hash;
 ghost use Rattle.gix_object_lines.specs.Writes.{cause_of};
-ghost use Rattle.gix_object_tree.specs.Loose.{loose_text};
+ghost use Rattle.gix_object_any.specs.Loose.{loose_text};
 ghost use Rattle.gix_object_write.specs.Keeping.{Keeps, told_as};
 ghost use Rattle.gix_object_write.specs.Streams.{KeepsNext};
 

@@ -127,19 +127,19 @@ pub mod packed {
     pub mod transaction {
         /// Writing the new text beside the file.
         pub mod prepare {
-            pub use gix_ref_transaction::packed::PrepareError as Error;
+            pub use gix_ref_lock::packed::PrepareError as Error;
         }
 
         /// Putting it in the file's place.
         pub mod commit {
-            pub use gix_ref_transaction::packed::CommitError as Error;
+            pub use gix_ref_lock::packed::CommitError as Error;
         }
 
-        pub use gix_ref_transaction::packed::{Error, LockError, RecordEdit};
+        pub use gix_ref_lock::packed::{Error, LockError, RecordEdit};
     }
 
     pub use gix_ref_format::packed::{Buffer, Header, Iter, Peeled, Records, Reference};
-    pub use gix_ref_transaction::packed::Transaction;
+    pub use gix_ref_lock::packed::Transaction;
 }
 
 /// Lines of logs.
@@ -166,7 +166,7 @@ pub mod store {
 pub mod transaction {
     /// Preparing a transaction.
     pub mod prepare {
-        pub use gix_ref_loose_transaction::{PrepareError as Error, Refusal};
+        pub use gix_ref_transaction::{PrepareError as Error, Refusal};
     }
 
     /// Committing it.
@@ -178,8 +178,8 @@ pub mod transaction {
         Change, FindTarget, FindTargetError, LogChange, PreProcessError, PreviousValue, RefEdit,
         RefEditsExt, RefLog, SplitError, TwiceError,
     };
-    pub use gix_ref_loose_transaction::PackedRefs;
-    pub use gix_ref_loose_transaction::transaction::{Transaction, prepare as prepare_edits};
+    pub use gix_ref_transaction::PackedRefs;
+    pub use gix_ref_transaction::transaction::{Transaction, prepare as prepare_edits};
 }
 
 pub use gix_ref_file::{FileError, Files, MemoryFiles, Place};

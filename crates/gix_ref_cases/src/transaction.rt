@@ -1,4 +1,4 @@
-//! Cases of `gix_ref_transaction` and `gix_ref_loose_transaction`.
+//! Cases of `gix_ref_lock` and `gix_ref_transaction`.
 
 mod cases;
 mod edits;

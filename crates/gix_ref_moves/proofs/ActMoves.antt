@@ -3,7 +3,7 @@ use Rattle.std.proofs.Common.{◌≡◌, ◌≢◌, ◌⊎◌, inl, inr, sym, �
 use Rattle.std.specs.Prelude.{unwrap_or}
 use Rattle.std.specs.declared.alloc.Global.{Global}
 use Rattle.gix_ref_file.specs.Tree.{Tree, file, node_at, bytes_of, bytes_at}
-use Rattle.gix_ref_transaction.specs.Locks.{OthersStay, MayBePut, IsPut}
+use Rattle.gix_ref_lock.specs.Locks.{OthersStay, MayBePut, IsPut}
 use Rattle.gix_ref_way.specs.Ways.{Bytes, file_at}
 use Rattle.gix_ref_moves.specs.Contents.{contents, noted, MayBeNoted, updated, forgotten, gone, removed, place_of, lock_path_of, log_path_of}
 use Rattle.gix_ref_moves.specs.Moments.{MayNote, NotesLog, MayGo, IsGone, MayMove, Has, AreApart, IsUpdating, IsForgetting, IsGoing, IsRemoving}

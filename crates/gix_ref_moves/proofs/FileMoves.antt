@@ -10,8 +10,8 @@ use Rattle.gix_ref_file.proofs.Histories.{adds_weaker, adds_joined}
 use Rattle.gix_ref_file.proofs.Others.{others_stay}
 use Rattle.gix_ref_file.proofs.Rooted.{adds_now}
 use Rattle.gix_ref_file.proofs.Trees.{get_inserted, node_at_path}
-use Rattle.gix_ref_transaction.specs.Locks.{OthersStay}
-use Rattle.gix_ref_transaction.proofs.LockLemmas.{removed_others, given_back, one_other}
+use Rattle.gix_ref_lock.specs.Locks.{OthersStay}
+use Rattle.gix_ref_lock.proofs.LockLemmas.{removed_others, given_back, one_other}
 use Rattle.gix_ref_way.specs.Ways.{Bytes, file_at, SameFiles}
 use Rattle.gix_ref_moves.specs.Contents.{MayBeNoted}
 use Rattle.gix_ref_moves.specs.Moments.{OtherFilesStay, MayNote, NotesLog, MayGo, IsGone}

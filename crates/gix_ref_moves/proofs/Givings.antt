@@ -5,7 +5,7 @@ use Rattle.std.specs.List.{AllByRecursion}
 use Rattle.gix_ref_file.specs.Tree.{Tree, node_at, bytes_of}
 use Rattle.gix_ref_file.specs.Changes.{is_file_at}
 use Rattle.gix_ref_file.specs.declared.files.FileError.{FileError}
-use Rattle.gix_ref_transaction.specs.Locks.{OthersStay}
+use Rattle.gix_ref_lock.specs.Locks.{OthersStay}
 use Rattle.gix_ref_way.specs.Ways.{Bytes, file_at}
 use Rattle.gix_ref_moves.specs.Contents.{contents, place_of, lock_path_of, log_path_of}
 use Rattle.gix_ref_moves.specs.Moves.{all_paths, IsNone, Once, AllMay}

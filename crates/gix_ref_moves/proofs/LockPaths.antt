@@ -6,7 +6,7 @@ use Rattle.gix_object_lines.specs.NameTest.{ends}
 use Rattle.gix_ref_file.specs.Tree.{Tree, bytes_of}
 use Rattle.gix_ref_file.specs.History.{History, Adds}
 use Rattle.gix_ref_file.proofs.Histories.{adds_weaker, adds_joined}
-use Rattle.gix_ref_transaction.specs.Locks.{lock_of, OthersStay}
+use Rattle.gix_ref_lock.specs.Locks.{lock_of, OthersStay}
 use Rattle.gix_ref_way.specs.Ways.{Bytes, SameFiles}
 use Rattle.gix_ref_moves.specs.Moments.{is_lock, SameButLocks}
 use Rattle.gix_ref_moves.proofs.FileMoves.{now_of}

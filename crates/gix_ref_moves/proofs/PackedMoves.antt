@@ -3,10 +3,10 @@ use Rattle.std.proofs.Common.{◌≡◌, ◌≢◌, ◌⊎◌, inl, inr, refl, s
 use Rattle.gix_ref_file.specs.Tree.{Tree, file, node_at, bytes_of, bytes_at}
 use Rattle.gix_ref_file.specs.History.{History, Adds}
 use Rattle.gix_ref_file.proofs.Histories.{adds_weaker}
-use Rattle.gix_ref_transaction.specs.Locks.{OthersStay, MayBePut, IsPut}
-use Rattle.gix_ref_transaction.specs.PackedEdits as packed
-use Rattle.gix_ref_transaction.specs.declared.packed.Transaction.{Transaction}
-use Rattle.gix_ref_transaction.proofs.LockLemmas.{lock_apart}
+use Rattle.gix_ref_lock.specs.Locks.{OthersStay, MayBePut, IsPut}
+use Rattle.gix_ref_lock.specs.PackedEdits as packed
+use Rattle.gix_ref_lock.specs.declared.packed.Transaction.{Transaction}
+use Rattle.gix_ref_lock.proofs.LockLemmas.{lock_apart}
 use Rattle.gix_ref_way.specs.Ways.{Bytes, file_at}
 use Rattle.gix_ref_moves.specs.Moves.{IsNone}
 use Rattle.gix_ref_moves.specs.Committing.{packed_paths, PackedStays, PackedIsNew, MayReplace, Replaces, KeepsPacked}

@@ -8,7 +8,7 @@ use Rattle.gix_ref_file.specs.Changes.{is_file_at}
 use Rattle.gix_ref_file.specs.History.{HasRisen}
 use Rattle.gix_ref_file.specs.declared.files.FileError.{FileError}
 use Rattle.gix_ref_file.specs.declared.files.FileError.TheVariants.{Failed, Memory}
-use Rattle.gix_ref_transaction.specs.Locks.{OthersStay}
+use Rattle.gix_ref_lock.specs.Locks.{OthersStay}
 use Rattle.gix_ref_way.specs.Ways.{Bytes}
 use Rattle.gix_ref_way.proofs.FoldersMade.{risen_later}
 use Rattle.gix_ref_moves.specs.Contents.{lock_path_of}

@@ -4,8 +4,8 @@ use Rattle.std.specs.List.{AllByRecursion}
 use Rattle.gix_ref_file.specs.Tree.{Tree, bytes_at}
 use Rattle.gix_ref_file.specs.Changes.{is_file_at}
 use Rattle.gix_ref_way.specs.Ways.{Bytes, file_at}
-use Rattle.gix_ref_transaction.specs.PackedEdits as packed
-use Rattle.gix_ref_transaction.specs.declared.packed.Transaction.{Transaction}
+use Rattle.gix_ref_lock.specs.PackedEdits as packed
+use Rattle.gix_ref_lock.specs.declared.packed.Transaction.{Transaction}
 use Rattle.gix_ref_moves.specs.Contents.{Contents, contents, updated, forgotten, moved, IsBetween, lock_path_of}
 use Rattle.gix_ref_moves.specs.Moments.{NoFileMore}
 use Rattle.gix_ref_moves.specs.Moves.{all_paths, IsNone, AllMay}

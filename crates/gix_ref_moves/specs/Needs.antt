@@ -5,9 +5,9 @@ use Rattle.std.specs.List.{AllByRecursion}
 use Rattle.std.specs.declared.alloc.Global.{Global}
 use Rattle.gix_ref_file.specs.Tree.{Tree, is_path}
 use Rattle.gix_ref_file.specs.Changes.{is_file_at, may_hold_file}
-use Rattle.gix_ref_transaction.specs.PackedEdits as packed
-use Rattle.gix_ref_transaction.specs.PackedErrors.{IsUncommitted}
-use Rattle.gix_ref_transaction.specs.declared.packed.Transaction.{Transaction}
+use Rattle.gix_ref_lock.specs.PackedEdits as packed
+use Rattle.gix_ref_lock.specs.PackedErrors.{IsUncommitted}
+use Rattle.gix_ref_lock.specs.declared.packed.Transaction.{Transaction}
 use Rattle.gix_ref_way.specs.Ways.{Bytes, IsAbove, HasWay}
 use Rattle.gix_ref_moves.specs.Contents.{Contents, contents, act_line, place_of, lock_path_of, log_path_of}
 use Rattle.gix_ref_moves.specs.Committing.{commit_paths}

@@ -5,8 +5,8 @@ ghost use Rattle.gix_ref_file.specs.declared.files.FileError.TheVariants as file
 ghost use Rattle.gix_ref_moves.specs.Needs.{IsOutOfMemory};
 
 use gix_ref_file::FileError;
-use gix_ref_transaction::lock::Lock;
-use gix_ref_transaction::packed;
+use gix_ref_lock::lock::Lock;
+use gix_ref_lock::packed;
 use thiserror::Error;
 
 /// What is done to a reference's own file and to its log.

@@ -16,7 +16,7 @@ ghost use Rattle.gix_ref_moves.specs.Needs.{AreBeside, CanCommit, CanMove, CanRe
 use crate::act::{CommitError, Move};
 use crate::steps::{Step, make_all};
 use gix_ref_file::{FileError, Files};
-use gix_ref_transaction::packed::Transaction;
+use gix_ref_lock::packed::Transaction;
 use std::alloc::Global;
 
 /// Makes moves, and replaces the packed records whose transaction is prepared. First all updates:

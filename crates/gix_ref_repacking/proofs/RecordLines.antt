@@ -30,13 +30,13 @@ use Rattle.gix_ref_store.specs.Places.{Base, packed_place}
 use Rattle.gix_ref_store.specs.Finds as finds
 use Rattle.gix_ref_store.specs.RefStates.{RefState, Stands, packed_text_in, records_of}
 use Rattle.gix_ref_store.specs.declared.reference.Reference.{Reference}
-use Rattle.gix_ref_transaction.specs.RecordEdits.{line_in}
-use Rattle.gix_ref_transaction.specs.declared.packed.RecordEdit.{RecordEdit}
-use Rattle.gix_ref_transaction.specs.PackedEdits.{IsBegun, lock_path_of}
-use Rattle.gix_ref_transaction.specs.Locks.{lock_of}
-use Rattle.gix_ref_transaction.specs.Records.{records_in, IsTextOf, HoldsEdited}
-use Rattle.gix_ref_transaction.specs.declared.lock.Lock.{Lock}
-use Rattle.gix_ref_transaction.specs.declared.packed.Transaction.{Transaction}
+use Rattle.gix_ref_lock.specs.RecordEdits.{line_in}
+use Rattle.gix_ref_lock.specs.declared.packed.RecordEdit.{RecordEdit}
+use Rattle.gix_ref_lock.specs.PackedEdits.{IsBegun, lock_path_of}
+use Rattle.gix_ref_lock.specs.Locks.{lock_of}
+use Rattle.gix_ref_lock.specs.Records.{records_in, IsTextOf, HoldsEdited}
+use Rattle.gix_ref_lock.specs.declared.lock.Lock.{Lock}
+use Rattle.gix_ref_lock.specs.declared.packed.Transaction.{Transaction}
 use Rattle.gix_ref_way.specs.Ways.{Bytes, file_at}
 use Rattle.gix_ref_repacking.specs.Repacking.{SaysOfRecord, SaysByKey, SayOfRecords, UpdatesRecord, WritesRecord, ChangesRecord, removal_line, changes_record, changes_records, HoldsRecords, AreRepacked}
 

@@ -22,9 +22,9 @@ use Rattle.gix_ref_packed.specs.Edited.{Line}
 use Rattle.gix_ref_store.specs.Peels.{PeelsTo}
 use Rattle.gix_ref_store.specs.Places.{Base, packed_place}
 use Rattle.gix_ref_store.specs.RefStates.{packed_text_in, records_of}
-use Rattle.gix_ref_transaction.specs.PackedEdits.{place_of, lock_path_of}
-use Rattle.gix_ref_transaction.specs.Records.{records_in, IsTextOf}
-use Rattle.gix_ref_transaction.specs.declared.packed.Transaction.{Transaction}
+use Rattle.gix_ref_lock.specs.PackedEdits.{place_of, lock_path_of}
+use Rattle.gix_ref_lock.specs.Records.{records_in, IsTextOf}
+use Rattle.gix_ref_lock.specs.declared.packed.Transaction.{Transaction}
 use Rattle.gix_ref_way.specs.Ways.{Bytes, file_at}
 
 -- what a record holds besides this id: nothing if the id is that of an object that is no tag, else

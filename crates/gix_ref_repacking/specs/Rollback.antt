@@ -4,7 +4,7 @@ use Rattle.gix_ref_file.specs.Tree.{Tree}
 use Rattle.gix_ref_file.specs.Changes.{is_file_at}
 use Rattle.gix_ref_file.specs.History.{HasRisen}
 use Rattle.gix_ref_way.specs.Ways.{Bytes}
-use Rattle.gix_ref_transaction.specs.PackedErrors.{IsShort, IsUnprepared}
+use Rattle.gix_ref_lock.specs.PackedErrors.{IsShort, IsUnprepared}
 use Rattle.gix_ref_repacking.specs.declared.error.RepackError.{RepackError}
 use Rattle.gix_ref_repacking.specs.declared.error.RepackError.TheVariants.{PackedTransactionAcquire, PackedTransactionPrepare, Resolve, Memory}
 

@@ -3,8 +3,8 @@
 ghost use Rattle.std.specs.Prelude.{◌≡◌};
 ghost use Rattle.gix_ref_repacking.specs.declared.error.RepackError.TheVariants as fault;
 
+use gix_ref_lock::packed;
 use gix_ref_store::store::file::peel;
-use gix_ref_transaction::packed;
 use std::alloc::{AllocError, AllocFailed};
 use thiserror::Error;
 

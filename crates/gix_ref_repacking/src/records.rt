@@ -14,9 +14,9 @@ ghost use Rattle.gix_ref_store.specs.RefStates.{packed_text_in};
 ghost use Rattle.gix_ref_store.specs.Stores.{base_of};
 ghost use Rattle.gix_ref_name.specs.Targets.{target_view};
 ghost use Rattle.gix_ref_way.specs.Ways.{SameFolders};
-ghost use Rattle.gix_ref_transaction.specs.Locks.{lock_of, HasLockPlace, OthersStay};
-ghost use Rattle.gix_ref_transaction.specs.PackedEdits.{IsReadAt, lock_path_of};
-ghost use Rattle.gix_ref_transaction.specs.RecordEdits as record_edits;
+ghost use Rattle.gix_ref_lock.specs.Locks.{lock_of, HasLockPlace, OthersStay};
+ghost use Rattle.gix_ref_lock.specs.PackedEdits.{IsReadAt, lock_path_of};
+ghost use Rattle.gix_ref_lock.specs.RecordEdits as record_edits;
 ghost use Rattle.gix_ref_repacking.specs.Modes.{objects_in};
 ghost use Rattle.gix_ref_repacking.specs.Repacking as spec;
 ghost use Rattle.gix_ref_repacking.specs.Repacking.{AddsSaid, AreRepacked, HoldsRecords, SaysOfRecord, SayOfRecords, TellsPeeled, UpdatesRecord, removal_line};
@@ -31,10 +31,10 @@ use gix_ref_edit::{Change, LogChange, RefEdit, RefLog};
 use gix_ref_file::Files;
 use gix_ref_format::lookup::key_of;
 use gix_ref_format::packed::Buffer;
+use gix_ref_lock::packed::{RecordEdit, Transaction};
 use gix_ref_name::{FullName, Target};
 use gix_ref_store::Reference;
 use gix_ref_store::store::file::{ReferenceExt, Store};
-use gix_ref_transaction::packed::{RecordEdit, Transaction};
 use std::alloc::Global;
 
 /// Begins a transaction of the packed references and prepares it, if the edits change records: its

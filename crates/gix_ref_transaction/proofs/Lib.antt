@@ -1,2 +1,14 @@
-pub mod LockLemmas
-pub mod OpenFaults
+mod PathEnds
+mod Alikes
+mod Twice
+mod Repacked
+mod LineLemmas
+mod PathKeys
+mod KeyLines
+mod Readings
+mod ReadingWays
+mod Plannings
+mod Faults
+mod RecordKinds
+mod Prepares
+mod Rollbacks

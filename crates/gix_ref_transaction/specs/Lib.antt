@@ -1,5 +1,10 @@
-pub mod Locks
-pub mod Records
-pub mod RecordEdits
-pub mod PackedErrors
-pub mod PackedEdits
+pub mod Asked
+pub mod Found
+pub mod Paths
+pub mod Alike
+pub mod Plans
+pub mod LogLines
+pub mod Causes
+pub mod Reads
+pub mod Parts
+pub mod Rollback

@@ -1,5 +1,16 @@
-//! Transactions of references: edits that are prepared and made, after the crate `gix-ref` 0.67.
+//! Transactions of references: several edits that are tested, locked and made together.
+//! They change the references' own files and packed records.
 #![tactic(auto)]
 
-pub mod lock;
-pub mod packed;
+mod asked;
+mod error;
+mod finder;
+mod lines;
+mod once;
+mod plan;
+mod targets;
+pub mod transaction;
+
+pub use crate::asked::Refusal;
+pub use crate::error::PrepareError;
+pub use gix_ref_repacking::PackedRefs;

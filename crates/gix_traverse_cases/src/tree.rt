@@ -3,8 +3,8 @@
 use crate::copies::put_copied;
 use case_words::{Case, Page, Row, Trees};
 use gix_hash::ObjectId;
-use gix_object_entries::tree::EntryMode;
 use gix_object_lookup::entries_of;
+use gix_object_tree::tree::EntryMode;
 use gix_traverse_tree::recorder::{Entry, Location, Recorder};
 use gix_traverse_tree::{EntriesState, breadthfirst, depthfirst, entries_at};
 use std::alloc::Global;

@@ -3,31 +3,31 @@ use Rattle.std.proofs.Common.{◌≡◌, ℕ, ◌<◌, ◌+◌, ◌∙◌, inl, 
 use Rattle.std.specs.Prelude.{Contains, IsTrue, not, ◌&&◌, ◌↔◌}
 use Rattle.gix_hash_id.specs.Id.{Id, id_of}
 use Rattle.gix_hash_id.specs.declared.object_id.ObjectId.{ObjectId}
-use Rattle.gix_traverse_commit_graph.specs.Commits.{Commits, asked_parents, Reached, tip, parent, Passes, Listed}
-use Rattle.gix_traverse_commit_graph.specs.Order.{At, IsChosen, IsOpen}
+use Rattle.gix_traverse_graph.specs.Commits.{Commits, asked_parents, Reached, tip, parent, Passes, Listed}
+use Rattle.gix_traverse_graph.specs.Order.{At, IsChosen, IsOpen}
 use Rattle.gix_traverse_commit_known.specs.Painting.{ReachedFrom}
 use Rattle.gix_traverse_commit_known.specs.Nodes.{is_met}
 use Rattle.gix_traverse_commit_known.specs.Asked.{Answers, Asked, IsKnown, IsSure, keep_of, request_in, timing, IsTurn}
 use Rattle.gix_traverse_commit.specs.Simply.{IsAtTurn, IsUnderWay}
-use Rattle.gix_traverse_commit_graph.specs.Sorting.{ComesFirst, InOrder, InTimeOrder, IsNextIn, in_time, timing_of}
+use Rattle.gix_traverse_graph.specs.Sorting.{ComesFirst, InOrder, InTimeOrder, IsNextIn, in_time, timing_of}
 use Rattle.gix_traverse_commit_known.specs.Told.{rows_of}
 use Rattle.gix_hash_id.specs.declared.kind.Kind.{Kind}
 use Rattle.gix_traverse_commit_known.specs.declared.fetch.Source.{Source}
-use Rattle.gix_traverse_commit_graph.specs.declared.parents.Parents.{Parents}
+use Rattle.gix_traverse_graph.specs.declared.parents.Parents.{Parents}
 use Rattle.gix_traverse_commit.specs.declared.simple.Simple.{Simple}
-use Rattle.gix_traverse_commit_graph.specs.declared.sorting.Sorting.{Sorting}
+use Rattle.gix_traverse_graph.specs.declared.sorting.Sorting.{Sorting}
 use Rattle.gix_traverse_commit_known.specs.Timely.{IsChosenSoFar, IsMetSoFar, IsTaken, keep_since}
-use Rattle.gix_traverse_commit_graph.specs.declared.rows.Row.{Row}
-use Rattle.gix_traverse_commit_graph.specs.declared.sorting.CommitTimeOrder.{CommitTimeOrder}
-use Rattle.gix_traverse_commit_graph.specs.declared.sorting.CommitTimeOrder.TheVariants.{NewestFirst, OldestFirst}
-use Rattle.gix_traverse_commit_graph.specs.declared.sorting.Timing.{Timing}
+use Rattle.gix_traverse_graph.specs.declared.rows.Row.{Row}
+use Rattle.gix_traverse_graph.specs.declared.sorting.CommitTimeOrder.{CommitTimeOrder}
+use Rattle.gix_traverse_graph.specs.declared.sorting.CommitTimeOrder.TheVariants.{NewestFirst, OldestFirst}
+use Rattle.gix_traverse_graph.specs.declared.sorting.Timing.{Timing}
 use Rattle.gix_traverse_commit_known.specs.declared.waiting.Turn.{Turn}
 use Rattle.gix_traverse_commit_known.proofs.Chosen.{reached_turn, taken_next, timed_end}
-use Rattle.gix_traverse_commit_graph.proofs.Cutoff.{in_time_too, in_time_yes}
-use Rattle.gix_traverse_commit_graph.proofs.Listing.{listed_reached, reached_more}
+use Rattle.gix_traverse_graph.proofs.Cutoff.{in_time_too, in_time_yes}
+use Rattle.gix_traverse_graph.proofs.Listing.{listed_reached, reached_more}
 use Rattle.gix_traverse_commit_known.proofs.Painting.{known_fit}
 use Rattle.gix_traverse_commit_known.proofs.Simply.{fewer_known, from_not, known_push}
-use Rattle.gix_traverse_commit_graph.proofs.Check.{not_from}
+use Rattle.gix_traverse_graph.proofs.Check.{not_from}
 use Rattle.std.proofs.lemmas.Bool.{and_from, and_parts}
 
 module _ (g : Commits ObjectId) (a : Asked) (t : Timing) (is : timing a ≡ Some t) (hides : ObjectId → Bool) (painted : (x : ObjectId) → (hides x ≡ true) ↔ ReachedFrom g a.hidden x) where

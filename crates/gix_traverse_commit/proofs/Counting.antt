@@ -4,24 +4,24 @@ use Rattle.std.specs.Prelude.{IsTrue}
 use Rattle.gix_hash_id.specs.Id.{Id}
 use Rattle.gix_hash_id.specs.declared.object_id.ObjectId.{ObjectId}
 use Rattle.gix_object_lookup.specs.Table.{Table}
-use Rattle.gix_traverse_commit_graph.specs.Commits.{Commits, Reached, tip, parent}
+use Rattle.gix_traverse_graph.specs.Commits.{Commits, Reached, tip, parent}
 use Rattle.gix_object_lines.specs.Counts.{one_more}
 use Rattle.gix_traverse_commit_known.specs.Fetching.{FetchFault}
 use Rattle.gix_traverse_commit_known.specs.Keeping.{KeptAll}
 use Rattle.gix_traverse_commit_known.specs.Nodes.{is_hidden, Node}
-use Rattle.gix_traverse_commit_graph.specs.Order.{At, IsListOf}
+use Rattle.gix_traverse_graph.specs.Order.{At, IsListOf}
 use Rattle.gix_traverse_commit_known.specs.Painting.{CountsUnread, IsPainted, PaintsSome, ReachedFrom, every}
-use Rattle.gix_traverse_commit_graph.specs.Rows.{Holds}
+use Rattle.gix_traverse_graph.specs.Rows.{Holds}
 use Rattle.gix_traverse_commit_known.specs.Meeting.{CountsAll, CountsOne}
 use Rattle.gix_traverse_commit.specs.Giving.{CountsFault, MeetsParents}
 use Rattle.gix_traverse_commit_known.specs.Faults.{error_of}
-use Rattle.gix_traverse_commit_graph.specs.declared.info.Info.{Info}
-use Rattle.gix_traverse_commit_graph.specs.declared.sorting.Timing.{Timing}
+use Rattle.gix_traverse_graph.specs.declared.info.Info.{Info}
+use Rattle.gix_traverse_graph.specs.declared.sorting.Timing.{Timing}
 use Rattle.gix_traverse_commit_known.specs.declared.fetch.FetchError.{FetchError}
 use Rattle.gix_traverse_commit_known.specs.declared.fetch.FetchError.TheVariants as fetch
-use Rattle.gix_traverse_commit_graph.specs.declared.rows.Row.{Row}
-use Rattle.gix_traverse_commit_graph.proofs.Frontier.{read_all}
-use Rattle.gix_traverse_commit_graph.proofs.Lists.{at_from_contains, at_from_take, none_at_nil}
+use Rattle.gix_traverse_graph.specs.declared.rows.Row.{Row}
+use Rattle.gix_traverse_graph.proofs.Frontier.{read_all}
+use Rattle.gix_traverse_graph.proofs.Lists.{at_from_contains, at_from_take, none_at_nil}
 use Rattle.gix_traverse_commit_known.specs.Told.{AreTold}
 use Rattle.gix_traverse_commit_known.proofs.Painting.{painted_reached}
 use Rattle.gix_traverse_commit_known.proofs.Timely.{in_nil}

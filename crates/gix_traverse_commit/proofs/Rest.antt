@@ -4,15 +4,15 @@ use Rattle.std.specs.Prelude.{Contains, IsTrue, not, ◌&&◌}
 use Rattle.std.proofs.lemmas.List.Elements.{Contains-append_cases, Contains-append_right}
 use Rattle.gix_hash_id.specs.Id.{Id, id_of}
 use Rattle.gix_hash_id.specs.declared.object_id.ObjectId.{ObjectId}
-use Rattle.gix_traverse_commit_graph.specs.Commits.{Commits, Reached, tip, parent}
+use Rattle.gix_traverse_graph.specs.Commits.{Commits, Reached, tip, parent}
 use Rattle.gix_traverse_commit_known.specs.Keeping.{KeptAll}
 use Rattle.gix_traverse_commit_known.specs.Nodes.{is_met}
 use Rattle.gix_traverse_commit_known.specs.Asked.{Asked, AcceptsAs, keep_of}
 use Rattle.gix_traverse_commit.specs.Simply.{IsMade, IsRest, IsTurned, IsUnderWay, IsUnderWayTo, queued_in}
-use Rattle.gix_traverse_commit_graph.specs.Sorting.{in_time}
+use Rattle.gix_traverse_graph.specs.Sorting.{in_time}
 use Rattle.gix_traverse_commit_known.specs.Known.{waited_of}
 use Rattle.gix_traverse_commit.specs.declared.simple.Simple.{Simple}
-use Rattle.gix_traverse_commit_graph.proofs.Lists.{at_from_contains}
+use Rattle.gix_traverse_graph.proofs.Lists.{at_from_contains}
 use Rattle.gix_traverse_commit_known.proofs.KnownLemmas.{none_waited, waited_waits}
 use Rattle.gix_traverse_commit_known.proofs.Timely.{in_nil}
 use Rattle.std.proofs.lemmas.Bool.{and_parts}

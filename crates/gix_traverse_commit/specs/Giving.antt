@@ -5,7 +5,7 @@ use Rattle.gix_hash_id.specs.declared.object_id.ObjectId.{ObjectId}
 use Rattle.gix_object_lookup.specs.Existing as object
 use Rattle.gix_object_lookup.specs.Table.{Table}
 use Rattle.gix_object_lines.specs.declared.kind.Kind.TheVariants as kinds
-use Rattle.gix_traverse_commit_graph.specs.Commits.{Commit, Commits, asked_parents}
+use Rattle.gix_traverse_graph.specs.Commits.{Commit, Commits, asked_parents}
 use Rattle.gix_object_lines.specs.Counts.{one_more}
 use Rattle.gix_traverse_commit_known.specs.Fetching.{TimeIsTold, HasRowsGeneration}
 use Rattle.gix_traverse_commit_known.specs.Known.{KnownCommits, turns_of}
@@ -13,19 +13,19 @@ use Rattle.gix_traverse_commit_known.specs.Meeting.{Asks, CountsAll, CountsOne, 
 use Rattle.gix_traverse_commit_known.specs.Nodes.{is_met, Node}
 use Rattle.gix_traverse_commit_known.specs.Painting.{Paints, PaintsSome, ReachedFrom, StaysPainted}
 use Rattle.gix_traverse_commit_known.specs.Queueing.{QueuesSome}
-use Rattle.gix_traverse_commit_graph.specs.Rows.{AllHeld, Holds}
+use Rattle.gix_traverse_graph.specs.Rows.{AllHeld, Holds}
 use Rattle.gix_traverse_commit_known.specs.Told.{AreTold, rows_of}
-use Rattle.gix_traverse_commit_graph.specs.Order.{IsListOf}
-use Rattle.gix_traverse_commit_graph.specs.Sorting.{timing_of, IsTime}
+use Rattle.gix_traverse_graph.specs.Order.{IsListOf}
+use Rattle.gix_traverse_graph.specs.Sorting.{timing_of, IsTime}
 use Rattle.gix_traverse_commit_known.specs.Timely.{AllRowed, LetsWaitIn, TakesTurn}
-use Rattle.gix_traverse_commit_graph.specs.declared.info.Info.{Info}
-use Rattle.gix_traverse_commit_graph.specs.declared.parents.Parents.{Parents}
-use Rattle.gix_traverse_commit_graph.specs.declared.rows.Row.{Row}
+use Rattle.gix_traverse_graph.specs.declared.info.Info.{Info}
+use Rattle.gix_traverse_graph.specs.declared.parents.Parents.{Parents}
+use Rattle.gix_traverse_graph.specs.declared.rows.Row.{Row}
 use Rattle.gix_traverse_commit_known.specs.declared.faults.Error.{Error}
 use Rattle.gix_traverse_commit_known.specs.declared.faults.Error.TheVariants as fault
 use Rattle.gix_traverse_commit.specs.declared.simple.Simple.{Simple}
-use Rattle.gix_traverse_commit_graph.specs.declared.sorting.Sorting.{Sorting}
-use Rattle.gix_traverse_commit_graph.specs.declared.sorting.Timing.{Timing}
+use Rattle.gix_traverse_graph.specs.declared.sorting.Sorting.{Sorting}
+use Rattle.gix_traverse_graph.specs.declared.sorting.Timing.{Timing}
 use Rattle.gix_traverse_commit_known.specs.declared.waiting.Turn.{Turn}
 use Rattle.gix_traverse_commit.specs.Simply.{GainsNone, StaysAsked, TakesOne, left_of, IsMade, IsUnderWay, Stands, IsOver}
 use Rattle.gix_traverse_commit_known.specs.Asked.{Asked, timing, Answers, IsSure, IsTurn}

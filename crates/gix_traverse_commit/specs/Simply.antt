@@ -4,21 +4,21 @@ use Rattle.std.specs.List.{sum_by}
 use Rattle.gix_hash_id.specs.Id.{Id, id_of}
 use Rattle.gix_hash_id.specs.declared.kind.Kind as hash
 use Rattle.gix_hash_id.specs.declared.object_id.ObjectId.{ObjectId}
-use Rattle.gix_traverse_commit_graph.specs.Commits.{Commits, asked_parents}
+use Rattle.gix_traverse_graph.specs.Commits.{Commits, asked_parents}
 use Rattle.gix_traverse_commit_known.specs.Ending.{NoneGains, is_empty, may_come, times_in, times_waiting, known_ids}
 use Rattle.gix_traverse_commit_known.specs.Known.{turns_of, waited_of}
 use Rattle.gix_traverse_commit_known.specs.Keeping.{Kept, KeptAll}
 use Rattle.gix_traverse_commit_known.specs.Nodes.{is_hidden, is_met}
 use Rattle.gix_traverse_commit_known.specs.Painting.{ReachedFrom}
 use Rattle.gix_traverse_commit_known.specs.Told.{rows_of}
-use Rattle.gix_traverse_commit_graph.specs.Standing.{Reads}
-use Rattle.gix_traverse_commit_graph.specs.Order.{IsOpen}
-use Rattle.gix_traverse_commit_graph.specs.Sorting.{ComesFirst}
+use Rattle.gix_traverse_graph.specs.Standing.{Reads}
+use Rattle.gix_traverse_graph.specs.Order.{IsOpen}
+use Rattle.gix_traverse_graph.specs.Sorting.{ComesFirst}
 use Rattle.gix_traverse_commit_known.specs.Timely.{IsChosenSoFar, IsMetSoFar, keep_since}
 use Rattle.gix_traverse_commit_known.specs.declared.fetch.Source.{Source}
-use Rattle.gix_traverse_commit_graph.specs.declared.rows.Row.{Row}
+use Rattle.gix_traverse_graph.specs.declared.rows.Row.{Row}
 use Rattle.gix_traverse_commit.specs.declared.simple.Simple.{Simple}
-use Rattle.gix_traverse_commit_graph.specs.declared.sorting.Timing.{Timing}
+use Rattle.gix_traverse_graph.specs.declared.sorting.Timing.{Timing}
 use Rattle.gix_traverse_commit_known.specs.Asked.{AcceptsAs, AreRefused, Asked, IsKnown, keep_of, timing}
 
 -- ---- what a clause says of a walk

@@ -16,9 +16,7 @@ pub mod known {
 
 /// Laws over the definitions alone.
 pub mod laws {
-    pub use gix_traverse_commit_graph::laws::{
-        breadth_is_one, orders_list_one_set, topological_is_one,
-    };
+    pub use gix_traverse_graph::laws::{breadth_is_one, orders_list_one_set, topological_is_one};
 }
 
 /// The commits that a walk knows, by their numbers, and what was marked of each.
@@ -28,11 +26,11 @@ pub mod nodes {
 
 /// The sample history, by the definitions.
 pub mod sample {
-    pub use gix_traverse_commit_graph::sample::{rows, slow_rows};
+    pub use gix_traverse_graph::sample::{rows, slow_rows};
 }
 
 pub use crate::simple::Simple;
-pub use gix_traverse_commit_graph::{
+pub use gix_traverse_commit_known::{Accept, All, Either, find};
+pub use gix_traverse_graph::{
     GENERATION_LIMIT, Graph, Info, ParentIds, Parents, Row, RowsError, WalkError, breadth_first,
 };
-pub use gix_traverse_commit_known::{Accept, All, Either, find};

@@ -2,25 +2,25 @@
 
 ghost use Rattle.std.specs.Prelude.{◌≡◌, ◌↔◌, ℕ, List, true, false, ◌∷◌, ◌++◌, [], length, if◌then◌else◌, Contains, IfErr, OnOk};
 ghost use Rattle.gix_hash_id.specs.declared.object_id.ObjectId.{ObjectId};
-ghost use Rattle.gix_traverse_commit_graph.specs.Commits.{Reached};
+ghost use Rattle.gix_traverse_graph.specs.Commits.{Reached};
 ghost use Rattle.gix_traverse_commit_known.specs.Keeping.{Kept, KeptAll};
 ghost use Rattle.gix_traverse_commit_known.specs.Known.{turns_of};
 ghost use Rattle.gix_traverse_commit_known.specs.Nodes.{is_met, is_hidden};
-ghost use Rattle.gix_traverse_commit_graph.specs.Numbered.{same_id};
-ghost use Rattle.gix_traverse_commit_graph.specs.Order.{At, IsListOf};
+ghost use Rattle.gix_traverse_graph.specs.Numbered.{same_id};
+ghost use Rattle.gix_traverse_graph.specs.Order.{At, IsListOf};
 ghost use Rattle.gix_traverse_commit_known.specs.Painting.{CountsUnpainted, IsPainted, IsUnpainted, Paints, PaintFault, ReachedFrom, every};
-ghost use Rattle.gix_traverse_commit_graph.specs.Rows.{AllHeld};
+ghost use Rattle.gix_traverse_graph.specs.Rows.{AllHeld};
 ghost use Rattle.gix_traverse_commit_known.specs.Meeting.{CountsAll};
-ghost use Rattle.gix_traverse_commit_graph.specs.Standing.{Reads};
+ghost use Rattle.gix_traverse_graph.specs.Standing.{Reads};
 ghost use Rattle.gix_traverse_commit_known.specs.Told.{OverTold, rows_of};
-ghost use Rattle.gix_traverse_commit_graph.specs.declared.rows.Row.{Row};
+ghost use Rattle.gix_traverse_graph.specs.declared.rows.Row.{Row};
 
 use gix_hash::ObjectId;
 use gix_object_lookup::FindInto;
-use gix_traverse_commit_graph::Parents;
 use gix_traverse_commit_known::fetch::{FetchError, Source};
 use gix_traverse_commit_known::known::Known;
 use gix_traverse_commit_known::nodes::Marks;
+use gix_traverse_graph::Parents;
 use std::alloc::{AllocError, Global};
 
 // Paints a commit that was not painted before.

@@ -5,18 +5,18 @@ ghost use Rattle.std.specs.Iterator.{at_most};
 ghost use Rattle.gix_hash_id.specs.Id.{Id};
 ghost use Rattle.gix_hash_id.specs.declared.object_id.ObjectId.{ObjectId};
 ghost use Rattle.gix_object_commit_tokens.specs.Tokens.{place_of, start};
-ghost use Rattle.gix_traverse_commit_graph.specs.Commits.{Commits};
+ghost use Rattle.gix_traverse_graph.specs.Commits.{Commits};
 ghost use Rattle.gix_traverse_commit_known.specs.Fetching.{TimeIsTold};
 ghost use Rattle.gix_traverse_commit_known.specs.Meeting.{AsksOnce, CountsTimes, accepted};
-ghost use Rattle.gix_traverse_commit_graph.specs.Rows.{AllHeld};
+ghost use Rattle.gix_traverse_graph.specs.Rows.{AllHeld};
 ghost use Rattle.gix_traverse_commit_known.specs.Asked.{Asked, IsKnown};
 ghost use Rattle.gix_traverse_commit.specs.Simply.{GainsNone, HasAhead, IsMade, IsUnderWay, IsOver, answers_left, predicate_of, source_of, objects_of, graph_of, lookups_of, content_of, kind_of};
 ghost use Rattle.gix_traverse_commit.specs.Giving.{IsAccepted, GivesNext};
 ghost use Rattle.gix_traverse_commit_known.specs.Faults.{TipFault};
-ghost use Rattle.gix_traverse_commit_graph.specs.Sorting.{IsByTime, timing_of};
+ghost use Rattle.gix_traverse_graph.specs.Sorting.{IsByTime, timing_of};
 ghost use Rattle.gix_traverse_commit_known.specs.Told.{rows_of};
-ghost use Rattle.gix_traverse_commit_graph.specs.declared.parents.Parents.TheVariants.{All as AllParents};
-ghost use Rattle.gix_traverse_commit_graph.specs.declared.sorting.Sorting.TheVariants.{BreadthFirst};
+ghost use Rattle.gix_traverse_graph.specs.declared.parents.Parents.TheVariants.{All as AllParents};
+ghost use Rattle.gix_traverse_graph.specs.declared.sorting.Sorting.TheVariants.{BreadthFirst};
 ghost use Rattle.gix_traverse_commit_known.specs.declared.faults.Error.TheVariants.{Memory};
 
 mod steps;
@@ -24,7 +24,7 @@ mod timed;
 
 /// The orders of a walk.
 pub mod sorting {
-    pub use gix_traverse_commit_graph::sorting::{
+    pub use gix_traverse_graph::sorting::{
         CommitTimeOrder, Sorting, Timing, is_in_time, shown_time, time_order,
     };
 }
@@ -37,13 +37,13 @@ pub mod waiting {
 use gix_hash::{Kind, ObjectId};
 use gix_object_commit_tokens::CommitRefIter;
 use gix_object_lookup::FindInto;
-pub use gix_traverse_commit_graph::sorting::{CommitTimeOrder, Sorting};
-use gix_traverse_commit_graph::{Graph, Info, Parents};
 pub use gix_traverse_commit_known::faults::{Error, HiddenGraphError};
 use gix_traverse_commit_known::fetch::Source;
 use gix_traverse_commit_known::known::Known;
 use gix_traverse_commit_known::meet::ask_tips;
 use gix_traverse_commit_known::{Accept, All};
+pub use gix_traverse_graph::sorting::{CommitTimeOrder, Sorting};
+use gix_traverse_graph::{Graph, Info, Parents};
 use std::alloc::Global;
 
 /// A walk over the commits that some tips reach, past none that the predicate refuses or a hidden

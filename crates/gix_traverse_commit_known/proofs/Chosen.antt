@@ -4,14 +4,14 @@ use Rattle.std.specs.Prelude.{Contains, IsTrue}
 use Rattle.std.proofs.lemmas.List.Elements.{Contains-append_left, Contains-push}
 use Rattle.std.proofs.lemmas.Option.{slice_get_within}
 use Rattle.gix_hash_id.specs.declared.object_id.ObjectId.{ObjectId}
-use Rattle.gix_traverse_commit_graph.specs.Commits.{Commits, Reached, tip, parent}
-use Rattle.gix_traverse_commit_graph.specs.Order.{At, IsChosen, IsOpen}
-use Rattle.gix_traverse_commit_graph.specs.Sorting.{ComesFirst}
+use Rattle.gix_traverse_graph.specs.Commits.{Commits, Reached, tip, parent}
+use Rattle.gix_traverse_graph.specs.Order.{At, IsChosen, IsOpen}
+use Rattle.gix_traverse_graph.specs.Sorting.{ComesFirst}
 use Rattle.gix_traverse_commit_known.specs.Timely.{IsChosenSoFar, IsMetSoFar, IsTaken, Waits}
-use Rattle.gix_traverse_commit_graph.specs.Turns.{IsNextByTime}
-use Rattle.gix_traverse_commit_graph.specs.declared.sorting.CommitTimeOrder.{CommitTimeOrder}
+use Rattle.gix_traverse_graph.specs.Turns.{IsNextByTime}
+use Rattle.gix_traverse_graph.specs.declared.sorting.CommitTimeOrder.{CommitTimeOrder}
 use Rattle.gix_traverse_commit_known.specs.declared.waiting.Turn.{Turn}
-use Rattle.gix_traverse_commit_graph.proofs.Lists.{at_from_contains, at_from_push, at_from_take, contains_from_at, none_at_nil}
+use Rattle.gix_traverse_graph.proofs.Lists.{at_from_contains, at_from_push, at_from_take, contains_from_at, none_at_nil}
 use Rattle.gix_traverse_commit_known.proofs.Simply.{in_push}
 use Rattle.gix_traverse_commit_known.proofs.Timely.{comes_itself, in_nil, met_renamed, same_turn, taken_first, taken_other, taken_some}
 

@@ -11,16 +11,16 @@ use Rattle.gix_hash_id.specs.Packed.{object_id_of, object_id_of-id_of}
 use Rattle.gix_hash_id.specs.declared.object_id.ObjectId.{ObjectId}
 use Rattle.gix_traverse_commit_known.specs.Ending.{NoneGains, is_empty, may_come, met_under, times_in, times_waiting, known_ids}
 use Rattle.gix_traverse_commit_known.specs.Nodes.{Node, is_met, marks_in}
-use Rattle.gix_traverse_commit_graph.specs.Numbered.{same_id}
-use Rattle.gix_traverse_commit_graph.specs.Order.{At}
+use Rattle.gix_traverse_graph.specs.Numbered.{same_id}
+use Rattle.gix_traverse_graph.specs.Order.{At}
 use Rattle.gix_traverse_commit_known.specs.Asked.{IsKnown}
 use Rattle.gix_traverse_commit_known.specs.Timely.{IsTaken, Waits}
-use Rattle.gix_traverse_commit_graph.specs.declared.rows.Row.{Row}
-use Rattle.gix_traverse_commit_graph.specs.declared.sorting.CommitTimeOrder.{CommitTimeOrder}
-use Rattle.gix_traverse_commit_graph.specs.declared.sorting.CommitTimeOrder.TheVariants.{NewestFirst, OldestFirst}
+use Rattle.gix_traverse_graph.specs.declared.rows.Row.{Row}
+use Rattle.gix_traverse_graph.specs.declared.sorting.CommitTimeOrder.{CommitTimeOrder}
+use Rattle.gix_traverse_graph.specs.declared.sorting.CommitTimeOrder.TheVariants.{NewestFirst, OldestFirst}
 use Rattle.gix_traverse_commit_known.specs.declared.waiting.Turn.{Turn}
-use Rattle.gix_traverse_commit_graph.proofs.Ids.{same_from_test}
-use Rattle.gix_traverse_commit_graph.proofs.Lists.{at_from_contains, none_at_nil}
+use Rattle.gix_traverse_graph.proofs.Ids.{same_from_test}
+use Rattle.gix_traverse_graph.proofs.Lists.{at_from_contains, none_at_nil}
 use Rattle.gix_traverse_commit_known.proofs.NodeLemmas.{find_none}
 use Rattle.gix_traverse_commit_known.proofs.Pending.{in_head, in_tail}
 use Rattle.std.proofs.lemmas.Bool.{false_from_ne_true}

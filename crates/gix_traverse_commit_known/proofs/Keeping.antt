@@ -3,15 +3,15 @@ use Rattle.std.proofs.Common.{◌≡◌, ℕ, suc, ◌+◌, ◌<◌, ◌≤◌, 
 use Rattle.std.specs.Prelude.{Contains, IsTrue, not, ◌&&◌}
 use Rattle.std.proofs.lemmas.Option.{slice_get_within}
 use Rattle.gix_hash_id.specs.declared.object_id.ObjectId.{ObjectId}
-use Rattle.gix_traverse_commit_graph.specs.Order.{At, IsBreadthFirst, Named}
-use Rattle.gix_traverse_commit_graph.specs.Commits.{Reached}
+use Rattle.gix_traverse_graph.specs.Order.{At, IsBreadthFirst, Named}
+use Rattle.gix_traverse_graph.specs.Commits.{Reached}
 use Rattle.gix_traverse_commit_known.specs.Keeping.{IsMetBy, Kept, KeptAll}
-use Rattle.gix_traverse_commit_graph.specs.Numbered.{same_id}
-use Rattle.gix_traverse_commit_graph.specs.Reading.{Read}
-use Rattle.gix_traverse_commit_graph.specs.Standing.{Reads}
-use Rattle.gix_traverse_commit_graph.proofs.Lists.{at_one, at_from_contains, contains_from_at, at_push, at_append, at_from_push}
-use Rattle.gix_traverse_commit_graph.proofs.Frontier.{read_none, read_skip, read_push, read_next, read_all}
-use Rattle.gix_traverse_commit_graph.proofs.Ids.{same_from_test, test_from_same}
+use Rattle.gix_traverse_graph.specs.Numbered.{same_id}
+use Rattle.gix_traverse_graph.specs.Reading.{Read}
+use Rattle.gix_traverse_graph.specs.Standing.{Reads}
+use Rattle.gix_traverse_graph.proofs.Lists.{at_one, at_from_contains, contains_from_at, at_push, at_append, at_from_push}
+use Rattle.gix_traverse_graph.proofs.Frontier.{read_none, read_skip, read_push, read_next, read_all}
+use Rattle.gix_traverse_graph.proofs.Ids.{same_from_test, test_from_same}
 
 -- the marks after one more is met
 abbrev pub Meets : (has has' : ObjectId → Bool) → ObjectId → Type 0

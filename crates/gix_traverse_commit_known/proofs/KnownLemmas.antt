@@ -15,15 +15,15 @@ use Rattle.gix_traverse_commit_known.specs.Ending.{times_in, times_waiting}
 use Rattle.gix_traverse_commit_known.specs.Timely.{IsTaken, Joins, Waits}
 use Rattle.gix_traverse_commit_known.specs.Waiting.{IsFirst, numbers_of, pending_cmp, still_among}
 use Rattle.gix_traverse_commit_known.specs.Nodes.{Node, ids_of}
-use Rattle.gix_traverse_commit_graph.specs.Numbered.{same_id}
-use Rattle.gix_traverse_commit_graph.specs.Order.{At}
+use Rattle.gix_traverse_graph.specs.Numbered.{same_id}
+use Rattle.gix_traverse_graph.specs.Order.{At}
 use Rattle.gix_traverse_commit_known.specs.declared.nodes.Number.{Number}
-use Rattle.gix_traverse_commit_graph.specs.declared.sorting.CommitTimeOrder.{CommitTimeOrder}
-use Rattle.gix_traverse_commit_graph.specs.declared.sorting.CommitTimeOrder.TheVariants.{NewestFirst, OldestFirst}
+use Rattle.gix_traverse_graph.specs.declared.sorting.CommitTimeOrder.{CommitTimeOrder}
+use Rattle.gix_traverse_graph.specs.declared.sorting.CommitTimeOrder.TheVariants.{NewestFirst, OldestFirst}
 use Rattle.gix_traverse_commit_known.specs.declared.waiting.Pending.{Pending}
 use Rattle.gix_traverse_commit_known.specs.declared.waiting.Turn.{Turn}
 use Rattle.gix_traverse_commit_known.proofs.Ending.{times_one}
-use Rattle.gix_traverse_commit_graph.proofs.Lists.{at_from_contains, at_push, none_at_nil}
+use Rattle.gix_traverse_graph.proofs.Lists.{at_from_contains, at_push, none_at_nil}
 use Rattle.gix_traverse_commit_known.proofs.Pending.{from_map, in_head, in_tail, nothing_in}
 use Rattle.gix_traverse_commit_known.proofs.Timely.{in_nil}
 use Rattle.gix_traverse_commit_known.proofs.WaitingLemmas.{never_less, older_from_less, same_pending, still_waits}

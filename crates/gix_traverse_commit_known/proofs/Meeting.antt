@@ -6,11 +6,11 @@ use Rattle.gix_hash_id.specs.Id.{Id, id_of}
 use Rattle.gix_hash_id.specs.declared.object_id.ObjectId.{ObjectId}
 use Rattle.gix_traverse_commit_known.specs.Meeting.{Asks, CountsAll, CountsOne, MarksAll, accepted, unmet}
 use Rattle.gix_traverse_commit_known.specs.Nodes.{Node, is_met}
-use Rattle.gix_traverse_commit_graph.specs.Numbered.{same_id}
-use Rattle.gix_traverse_commit_graph.specs.Order.{At, IsListOf}
-use Rattle.gix_traverse_commit_graph.specs.declared.rows.Row.{Row}
+use Rattle.gix_traverse_graph.specs.Numbered.{same_id}
+use Rattle.gix_traverse_graph.specs.Order.{At, IsListOf}
+use Rattle.gix_traverse_graph.specs.declared.rows.Row.{Row}
 use Rattle.gix_traverse_commit_known.proofs.Keeping.{Meets, met_itself, met_more, met_other, stays_met, unmet_before}
-use Rattle.gix_traverse_commit_graph.proofs.Lists.{at_from_contains, contains_from_at, none_at_nil, once_push}
+use Rattle.gix_traverse_graph.proofs.Lists.{at_from_contains, contains_from_at, none_at_nil, once_push}
 use Rattle.gix_traverse_commit_known.proofs.Simply.{in_push, take_push}
 use Rattle.gix_traverse_commit_known.proofs.Timely.{in_nil}
 

@@ -3,14 +3,14 @@ use Rattle.std.proofs.Common.{◌≡◌, ℕ, zero, suc, ◌+◌, add-one, take,
 use Rattle.std.specs.Prelude.{Contains, find}
 use Rattle.std.specs.List.{list_any}
 use Rattle.gix_hash_id.specs.declared.object_id.ObjectId.{ObjectId}
-use Rattle.gix_traverse_commit_graph.specs.Order.{At}
-use Rattle.gix_traverse_commit_graph.specs.Numbered.{same_id}
+use Rattle.gix_traverse_graph.specs.Order.{At}
+use Rattle.gix_traverse_graph.specs.Numbered.{same_id}
 use Rattle.gix_traverse_commit_known.specs.Nodes.{AreNumbered, Node, ids_of, is_hidden, marks_in, marks_of, no_marks, nodes_in}
 use Rattle.gix_traverse_commit_known.specs.declared.nodes.Marks.{Marks}
-use Rattle.gix_traverse_commit_graph.proofs.Ids.{same_from_test, same_id_apart, test_from_same}
-use Rattle.gix_traverse_commit_graph.proofs.Lists.{at_from_contains, at_one, contains_from_at, none_at_nil, once_push}
+use Rattle.gix_traverse_graph.proofs.Ids.{same_from_test, same_id_apart, test_from_same}
+use Rattle.gix_traverse_graph.proofs.Lists.{at_from_contains, at_one, contains_from_at, none_at_nil, once_push}
 use Rattle.gix_traverse_commit_known.proofs.Simply.{take_push}
-use Rattle.gix_traverse_commit_graph.proofs.Slow.{any_from_contains, contains_from_any}
+use Rattle.gix_traverse_graph.proofs.Slow.{any_from_contains, contains_from_any}
 
 abbrev pub node : ObjectId → Marks → Node
 node id marks = record { id = id; marks = marks }

@@ -9,26 +9,26 @@ use Rattle.gix_hash_id.specs.declared.object_id.ObjectId.{ObjectId}
 use Rattle.gix_hash_id.specs.Id.{Id, id_of}
 use Rattle.gix_hash_id.specs.OrderLaws.{equivalence}
 use Rattle.gix_hash_id.specs.Packed.{object_id_of, object_id_of-id_of}
-use Rattle.gix_traverse_commit_graph.specs.Commits.{Commits, Reached, tip, parent}
+use Rattle.gix_traverse_graph.specs.Commits.{Commits, Reached, tip, parent}
 use Rattle.gix_traverse_commit_known.specs.Keeping.{KeptAll}
 use Rattle.gix_traverse_commit_known.specs.Nodes.{is_hidden, Node}
-use Rattle.gix_traverse_commit_graph.specs.Numbered.{same_id}
-use Rattle.gix_traverse_commit_graph.specs.Order.{At}
+use Rattle.gix_traverse_graph.specs.Numbered.{same_id}
+use Rattle.gix_traverse_graph.specs.Order.{At}
 use Rattle.gix_traverse_commit_known.specs.Painting.{IsPainted, PaintFault, Paints, ReachedFrom, every}
-use Rattle.gix_traverse_commit_graph.specs.Rows.{AllHeld, Holds}
+use Rattle.gix_traverse_graph.specs.Rows.{AllHeld, Holds}
 use Rattle.gix_object_lookup.specs.Table.{Table}
 use Rattle.gix_traverse_commit_known.specs.Fetching.{FetchFault}
 use Rattle.gix_traverse_commit_known.specs.Asked.{IsKnown}
 use Rattle.gix_traverse_commit_known.specs.Told.{AreTold}
 use Rattle.gix_traverse_commit_known.specs.declared.fetch.FetchError.{FetchError}
 use Rattle.gix_traverse_commit_known.specs.declared.fetch.FetchError.TheVariants as fault
-use Rattle.gix_traverse_commit_graph.specs.declared.rows.Row.{Row}
-use Rattle.gix_traverse_commit_graph.proofs.Frontier.{read_all}
-use Rattle.gix_traverse_commit_graph.proofs.Ids.{test_from_same, same_id_apart}
+use Rattle.gix_traverse_graph.specs.declared.rows.Row.{Row}
+use Rattle.gix_traverse_graph.proofs.Frontier.{read_all}
+use Rattle.gix_traverse_graph.proofs.Ids.{test_from_same, same_id_apart}
 use Rattle.gix_traverse_commit_known.proofs.Keeping.{Meets, Queues}
-use Rattle.gix_traverse_commit_graph.proofs.Lists.{at_one, at_from_contains, contains_from_at, at_push, at_from_push, at_from_take, none_at_nil, three}
-use Rattle.gix_traverse_commit_graph.proofs.Slow.{any_from_contains, contains_from_any}
-use Rattle.gix_traverse_commit_graph.proofs.Walked.{distinct_from_once}
+use Rattle.gix_traverse_graph.proofs.Lists.{at_one, at_from_contains, contains_from_at, at_push, at_from_push, at_from_take, none_at_nil, three}
+use Rattle.gix_traverse_graph.proofs.Slow.{any_from_contains, contains_from_any}
+use Rattle.gix_traverse_graph.proofs.Walked.{distinct_from_once}
 
 -- a list that nothing was painted of
 pub painted_none : (nodes : List Node) (xs : List ObjectId) → xs ≡ [] → IsPainted nodes xs

@@ -4,12 +4,12 @@ use Rattle.std.specs.Prelude.{Contains, IfOk, OnOk, filter}
 use Rattle.std.proofs.lemmas.List.{map-append}
 use Rattle.std.proofs.lemmas.List.Elements.{Contains-append_cases, filter-append}
 use Rattle.gix_hash_id.specs.declared.object_id.ObjectId.{ObjectId}
-use Rattle.gix_traverse_commit_graph.specs.Order.{At}
-use Rattle.gix_traverse_commit_graph.specs.Rows.{AllHeld, Holds}
+use Rattle.gix_traverse_graph.specs.Order.{At}
+use Rattle.gix_traverse_graph.specs.Rows.{AllHeld, Holds}
 use Rattle.gix_traverse_commit_known.specs.Timely.{AllRowed, Waits}
-use Rattle.gix_traverse_commit_graph.specs.declared.rows.Row.{Row}
+use Rattle.gix_traverse_graph.specs.declared.rows.Row.{Row}
 use Rattle.gix_traverse_commit_known.specs.declared.waiting.Turn.{Turn}
-use Rattle.gix_traverse_commit_graph.proofs.Lists.{at_from_contains, contains_from_at, none_at_nil}
+use Rattle.gix_traverse_graph.proofs.Lists.{at_from_contains, contains_from_at, none_at_nil}
 use Rattle.std.proofs.lemmas.Bool.{false_from_ne_true}
 
 pub in_head : {I : Type 0} (x : I) (xs : List I) → Contains (x ∷ xs) x

@@ -3,32 +3,32 @@ use Rattle.std.proofs.Common.{◌≡◌, ℕ, suc, ◌+◌, ◌<◌, ◌∙◌, 
 use Rattle.std.specs.Prelude.{Contains, IsTrue, not, ◌&&◌, ◌↔◌}
 use Rattle.gix_hash_id.specs.Id.{Id, id_of}
 use Rattle.gix_hash_id.specs.declared.object_id.ObjectId.{ObjectId}
-use Rattle.gix_traverse_commit_graph.specs.Commits.{Commits, asked_parents, Reached, tip, parent, Passes, Listed}
+use Rattle.gix_traverse_graph.specs.Commits.{Commits, asked_parents, Reached, tip, parent, Passes, Listed}
 use Rattle.gix_traverse_commit_known.specs.Keeping.{Kept, KeptAll}
 use Rattle.gix_traverse_commit_known.specs.Nodes.{is_asked, is_hidden, is_met, marks_of, Node}
-use Rattle.gix_traverse_commit_graph.specs.Numbered.{same_id}
-use Rattle.gix_traverse_commit_graph.specs.Order.{At}
+use Rattle.gix_traverse_graph.specs.Numbered.{same_id}
+use Rattle.gix_traverse_graph.specs.Order.{At}
 use Rattle.gix_traverse_commit_known.specs.Painting.{ReachedFrom}
-use Rattle.gix_traverse_commit_graph.specs.Rows.{AllHeld, Holds}
+use Rattle.gix_traverse_graph.specs.Rows.{AllHeld, Holds}
 use Rattle.gix_traverse_commit_known.specs.Asked.{AcceptsAs, Answers, Asked, AreAsked, IsKnown, keep_of, request_in, timing, IsTurn}
 use Rattle.gix_object_lookup.specs.Table.{Table}
 use Rattle.gix_traverse_commit_known.specs.Faults.{SimpleFault, StopsFetch}
-use Rattle.gix_traverse_commit_graph.specs.declared.parents.Parents.{Parents}
+use Rattle.gix_traverse_graph.specs.declared.parents.Parents.{Parents}
 use Rattle.gix_traverse_commit_known.specs.declared.faults.Error.{Error}
 use Rattle.gix_traverse_commit_known.specs.declared.faults.Error.TheVariants as fault
 use Rattle.gix_traverse_commit_known.specs.declared.faults.HiddenGraphError.TheVariants as hidden_fault
-use Rattle.gix_traverse_commit_graph.specs.Sorting.{InOrder, IsNextIn}
-use Rattle.gix_traverse_commit_graph.specs.declared.sorting.Timing.{Timing}
+use Rattle.gix_traverse_graph.specs.Sorting.{InOrder, IsNextIn}
+use Rattle.gix_traverse_graph.specs.declared.sorting.Timing.{Timing}
 use Rattle.gix_traverse_commit_known.specs.declared.nodes.Marks.{Marks}
-use Rattle.gix_traverse_commit_graph.specs.declared.rows.Row.{Row}
-use Rattle.gix_traverse_commit_graph.proofs.Ids.{same_from_test, test_from_same}
+use Rattle.gix_traverse_graph.specs.declared.rows.Row.{Row}
+use Rattle.gix_traverse_graph.proofs.Ids.{same_from_test, test_from_same}
 use Rattle.gix_traverse_commit_known.proofs.Keeping.{kept_end}
-use Rattle.gix_traverse_commit_graph.proofs.Lists.{at_from_contains, contains_from_at, at_from_push, none_at_nil}
-use Rattle.gix_traverse_commit_graph.proofs.Listing.{listed_reached, reached_more}
+use Rattle.gix_traverse_graph.proofs.Lists.{at_from_contains, contains_from_at, at_from_push, none_at_nil}
+use Rattle.gix_traverse_graph.proofs.Listing.{listed_reached, reached_more}
 use Rattle.gix_traverse_commit_known.proofs.Painting.{known_fit}
-use Rattle.gix_traverse_commit_graph.proofs.Turn.{at_first, next_first}
+use Rattle.gix_traverse_graph.proofs.Turn.{at_first, next_first}
 use Rattle.std.proofs.lemmas.Bool.{and_from, and_parts}
-use Rattle.gix_traverse_commit_graph.proofs.Check.{not_from}
+use Rattle.gix_traverse_graph.proofs.Check.{not_from}
 
 -- ---- the predicate is called for tips
 

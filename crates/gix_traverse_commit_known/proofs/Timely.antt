@@ -4,18 +4,18 @@ use lib.Signed.{≤ℤ_refl}
 use Rattle.std.specs.Prelude.{Contains, ◌↔◌, ◌&&◌, not, ◌≤ℤ◌}
 use Rattle.std.proofs.lemmas.List.Elements.{Contains-append_left, Contains-push}
 use Rattle.gix_hash_id.specs.declared.object_id.ObjectId.{ObjectId}
-use Rattle.gix_traverse_commit_graph.specs.Commits.{Commits}
-use Rattle.gix_traverse_commit_graph.specs.Numbered.{same_id}
-use Rattle.gix_traverse_commit_graph.specs.Order.{At}
-use Rattle.gix_traverse_commit_graph.specs.Rows.{Holds}
-use Rattle.gix_traverse_commit_graph.specs.Sorting.{ComesFirst}
-use Rattle.gix_traverse_commit_graph.specs.declared.rows.Row.{Row}
+use Rattle.gix_traverse_graph.specs.Commits.{Commits}
+use Rattle.gix_traverse_graph.specs.Numbered.{same_id}
+use Rattle.gix_traverse_graph.specs.Order.{At}
+use Rattle.gix_traverse_graph.specs.Rows.{Holds}
+use Rattle.gix_traverse_graph.specs.Sorting.{ComesFirst}
+use Rattle.gix_traverse_graph.specs.declared.rows.Row.{Row}
 use Rattle.gix_traverse_commit_known.specs.Timely.{AllRowed, IsMetSoFar, IsTaken, Joins, Waits, turn_of}
-use Rattle.gix_traverse_commit_graph.specs.declared.sorting.CommitTimeOrder.{CommitTimeOrder}
-use Rattle.gix_traverse_commit_graph.specs.declared.sorting.CommitTimeOrder.TheVariants.{NewestFirst, OldestFirst}
+use Rattle.gix_traverse_graph.specs.declared.sorting.CommitTimeOrder.{CommitTimeOrder}
+use Rattle.gix_traverse_graph.specs.declared.sorting.CommitTimeOrder.TheVariants.{NewestFirst, OldestFirst}
 use Rattle.gix_traverse_commit_known.specs.declared.waiting.Turn.{Turn}
 use Rattle.gix_traverse_commit_known.proofs.Keeping.{Meets, met_itself, met_more, met_other}
-use Rattle.gix_traverse_commit_graph.proofs.Lists.{at_from_contains, contains_from_at, none_at_nil}
+use Rattle.gix_traverse_graph.proofs.Lists.{at_from_contains, contains_from_at, none_at_nil}
 use Rattle.gix_traverse_commit_known.proofs.Simply.{in_push, take_push}
 use Rattle.gix_traverse_commit_known.proofs.Ending.{and_not}
 

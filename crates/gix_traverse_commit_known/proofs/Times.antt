@@ -14,20 +14,20 @@ use Rattle.gix_object_lookup.specs.declared.find.existing_iter.Error.TheVariants
 use Rattle.gix_object_lines.specs.declared.decode.Error as decode
 use Rattle.gix_object_lines.specs.declared.kind.Kind as object
 use Rattle.gix_object_lines.specs.declared.kind.Kind.TheVariants as kinds
-use Rattle.gix_traverse_commit_graph.specs.Commits.{Commits}
+use Rattle.gix_traverse_graph.specs.Commits.{Commits}
 use Rattle.gix_traverse_commit_known.specs.Fetching.{TimeFault, TimeIsTold, find_error}
-use Rattle.gix_traverse_commit_graph.specs.Rows.{Holds}
+use Rattle.gix_traverse_graph.specs.Rows.{Holds}
 use Rattle.gix_traverse_commit_known.specs.Faults.{IsFirstUnread, TipFault, error_of}
 use Rattle.gix_traverse_commit_known.specs.Timely.{CountsAs}
 use Rattle.gix_traverse_commit_known.specs.Told.{AreTold}
 use Rattle.gix_traverse_commit_known.specs.declared.fetch.FetchError.{FetchError}
 use Rattle.gix_traverse_commit_known.specs.declared.fetch.FetchError.TheVariants as fault
 use Rattle.gix_traverse_commit_known.specs.Nodes.{Node, is_met}
-use Rattle.gix_traverse_commit_graph.specs.declared.rows.Row.{Row}
+use Rattle.gix_traverse_graph.specs.declared.rows.Row.{Row}
 use Rattle.gix_traverse_commit_known.specs.declared.faults.Error.{Error}
 use Rattle.gix_traverse_commit_known.specs.declared.faults.Error.TheVariants as simple
-use Rattle.gix_traverse_commit_graph.specs.Order.{At}
-use Rattle.gix_traverse_commit_graph.proofs.Lists.{at_from_contains, at_from_take, contains_from_at}
+use Rattle.gix_traverse_graph.specs.Order.{At}
+use Rattle.gix_traverse_graph.proofs.Lists.{at_from_contains, at_from_take, contains_from_at}
 
 pub time_fault : (honest may_fail : Type 0) (rows : List Row) (table : Table) (id : ObjectId) (e : existing_iter.Error) → (¬ Holds rows id) → KindFault honest may_fail table (id_of id) kinds.Commit e → TimeFault honest may_fail rows table id (find_error e)
 time_fault honest may_fail rows table id (iter_case.Find lookup.Memory) h k = tt

@@ -22,15 +22,15 @@ use Rattle.gix_object_lookup.specs.declared.find.existing_iter.Error as existing
 use Rattle.gix_object_lookup.specs.declared.find.existing_iter.Error.TheVariants as iter_case
 use Rattle.gix_object_lines.specs.declared.kind.Kind.TheVariants as kinds
 use Rattle.gix_object_lines.specs.Person.{Person}
-use Rattle.gix_traverse_commit_graph.specs.Commits.{Commit, Commits, asked, asked_parents}
+use Rattle.gix_traverse_graph.specs.Commits.{Commit, Commits, asked, asked_parents}
 use Rattle.gix_traverse_commit_known.specs.Fetching.{ReadsParents, LacksParents, ParentsFault, FetchFault, ReadFault, find_error}
-use Rattle.gix_traverse_commit_graph.specs.Rows.{Holds}
+use Rattle.gix_traverse_graph.specs.Rows.{Holds}
 use Rattle.gix_traverse_commit_known.specs.Told.{TellsFront, TellsParents, TellsCommit, TellsSeconds, AreTold, beyond_told}
 use Rattle.gix_traverse_commit_known.specs.declared.fetch.FetchError.{FetchError}
 use Rattle.gix_traverse_commit_known.specs.declared.fetch.FetchError.TheVariants as fault
-use Rattle.gix_traverse_commit_graph.specs.declared.rows.Row.{Row}
-use Rattle.gix_traverse_commit_graph.specs.declared.parents.Parents.{Parents}
-use Rattle.gix_traverse_commit_graph.specs.declared.parents.Parents.TheVariants.{All, First}
+use Rattle.gix_traverse_graph.specs.declared.rows.Row.{Row}
+use Rattle.gix_traverse_graph.specs.declared.parents.Parents.{Parents}
+use Rattle.gix_traverse_graph.specs.declared.parents.Parents.TheVariants.{All, First}
 
 -- a committer that is given has a time
 read_committer : (here there : Place) (parts : List Part) (person : Person) → Reads here parts there → filter_map committer_told parts ≡ person ∷ [] → TellsTime person.time

@@ -18,7 +18,7 @@ use Rattle.gix_traverse_commit_known.specs.declared.nodes.Number.{Number}
 use Rattle.gix_traverse_commit_known.specs.declared.waiting.Pending.{Pending}
 use Rattle.gix_traverse_commit_known.specs.declared.waiting.Waiting.{Waiting}
 use Rattle.gix_traverse_commit_known.proofs.Pending.{from_filter}
-use Rattle.gix_traverse_commit_graph.proofs.Slow.{TellsApart, any_from_contains, contains_from_any}
+use Rattle.gix_traverse_graph.proofs.Slow.{TellsApart, any_from_contains, contains_from_any}
 use Rattle.gix_traverse_commit_known.proofs.Timely.{in_cons, in_first, in_nil, in_rest}
 
 -- ---- in their order

@@ -6,7 +6,7 @@ use Rattle.gix_hash_id.specs.Order.{id_eq}
 use Rattle.gix_hash_id.specs.declared.object_id.ObjectId.{ObjectId}
 use Rattle.gix_traverse_commit_known.specs.Nodes.{Node, marks_in}
 use Rattle.gix_traverse_commit_known.specs.declared.waiting.Turn.{Turn}
-use Rattle.gix_traverse_commit_graph.specs.declared.rows.Row.{Row}
+use Rattle.gix_traverse_graph.specs.declared.rows.Row.{Row}
 
 -- how often an id is in the list
 abbrev pub times_in : List ObjectId → Id → ℕ

@@ -4,11 +4,11 @@ use Rattle.gix_hash_id.specs.declared.object_id.ObjectId.{ObjectId}
 use Rattle.gix_object_lookup.specs.Table.{Table}
 use Rattle.gix_traverse_commit_known.specs.Fetching.{ReadFault, TimeFault, TimeIsTold}
 use Rattle.gix_traverse_commit_known.specs.Painting.{StopsPainting}
-use Rattle.gix_traverse_commit_graph.specs.Order.{At}
+use Rattle.gix_traverse_graph.specs.Order.{At}
 use Rattle.gix_traverse_commit_known.specs.declared.fetch.FetchError.{FetchError}
 use Rattle.gix_traverse_commit_known.specs.declared.fetch.FetchError.TheVariants as fetch
-use Rattle.gix_traverse_commit_graph.specs.declared.parents.Parents.{Parents}
-use Rattle.gix_traverse_commit_graph.specs.declared.rows.Row.{Row}
+use Rattle.gix_traverse_graph.specs.declared.parents.Parents.{Parents}
+use Rattle.gix_traverse_graph.specs.declared.rows.Row.{Row}
 use Rattle.gix_traverse_commit_known.specs.declared.faults.Error.{Error}
 use Rattle.gix_traverse_commit_known.specs.declared.faults.Error.TheVariants as fault
 use Rattle.gix_traverse_commit_known.specs.declared.faults.HiddenGraphError.TheVariants as hidden_fault

@@ -1,8 +1,8 @@
 -- How far a walk has come that keeps some commits, and has met some.
 use Rattle.std.specs.Prelude.{◌≡◌, ℕ, ◌<◌, Bool, true, List, Contains, IsTrue}
 use Rattle.gix_hash_id.specs.declared.object_id.ObjectId.{ObjectId}
-use Rattle.gix_traverse_commit_graph.specs.Order.{Named}
-use Rattle.gix_traverse_commit_graph.specs.Reading.{Read}
+use Rattle.gix_traverse_graph.specs.Order.{Named}
+use Rattle.gix_traverse_graph.specs.Reading.{Read}
 
 -- what is listed is met, and what is met and kept is listed
 pub record IsMetBy (keep has : ObjectId → Bool) (xs : List ObjectId) : Type 0 where

@@ -3,7 +3,7 @@ use Rattle.std.specs.Prelude.{List, [], Contains, map, slice_get, unwrap_or}
 use Rattle.gix_hash_id.specs.declared.object_id.ObjectId.{ObjectId}
 use Rattle.gix_hash_id.specs.declared.object_id.ObjectId.TheVariants.{Sha1}
 use Rattle.gix_traverse_commit_known.specs.Nodes.{Node, ids_of}
-use Rattle.gix_traverse_commit_graph.specs.Order.{At}
+use Rattle.gix_traverse_graph.specs.Order.{At}
 use Rattle.gix_traverse_commit_known.specs.Waiting.{numbers_of, still_among}
 use Rattle.gix_traverse_commit_known.specs.declared.nodes.Number.{Number}
 use Rattle.gix_traverse_commit_known.specs.declared.waiting.Pending.{Pending}

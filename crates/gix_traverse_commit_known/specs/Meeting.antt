@@ -4,10 +4,10 @@ use Rattle.gix_hash_id.specs.Id.{Id, id_of}
 use Rattle.gix_hash_id.specs.declared.object_id.ObjectId.{ObjectId}
 use Rattle.gix_object_lines.specs.Counts.{one_more}
 use Rattle.gix_traverse_commit_known.specs.Nodes.{is_hidden, is_met, Node}
-use Rattle.gix_traverse_commit_graph.specs.Order.{IsListOf}
-use Rattle.gix_traverse_commit_graph.specs.Rows.{Holds}
-use Rattle.gix_traverse_commit_graph.specs.declared.rows.Row.{Row}
-use Rattle.gix_traverse_commit_graph.specs.declared.sorting.Timing.{Timing}
+use Rattle.gix_traverse_graph.specs.Order.{IsListOf}
+use Rattle.gix_traverse_graph.specs.Rows.{Holds}
+use Rattle.gix_traverse_graph.specs.declared.rows.Row.{Row}
+use Rattle.gix_traverse_graph.specs.declared.sorting.Timing.{Timing}
 
 -- a predicate is called for these commits, one after another
 abbrev pub Asks : {P : Type 0} → (P → Id → P → Type 0) → List ObjectId → P → P → Type 0

@@ -2,16 +2,16 @@
 use Rattle.std.specs.Prelude.{◌≡◌, ◌≤◌, ◌↔◌, ℕ, Bool, true, false, List, Contains, ⊤}
 use Rattle.gix_hash_id.specs.declared.object_id.ObjectId.{ObjectId}
 use Rattle.gix_object_lookup.specs.Table.{Table}
-use Rattle.gix_traverse_commit_graph.specs.Commits.{Commits, Reached}
+use Rattle.gix_traverse_graph.specs.Commits.{Commits, Reached}
 use Rattle.gix_object_lines.specs.Counts.{one_more}
 use Rattle.gix_traverse_commit_known.specs.Fetching.{FetchFault}
 use Rattle.gix_traverse_commit_known.specs.Meeting.{CountsAll}
 use Rattle.gix_traverse_commit_known.specs.Nodes.{is_hidden, Node}
-use Rattle.gix_traverse_commit_graph.specs.Order.{At}
+use Rattle.gix_traverse_graph.specs.Order.{At}
 use Rattle.gix_traverse_commit_known.specs.Told.{AreTold}
 use Rattle.gix_traverse_commit_known.specs.declared.fetch.FetchError.{FetchError}
 use Rattle.gix_traverse_commit_known.specs.declared.fetch.FetchError.TheVariants as fault
-use Rattle.gix_traverse_commit_graph.specs.declared.rows.Row.{Row}
+use Rattle.gix_traverse_graph.specs.declared.rows.Row.{Row}
 
 -- all are kept
 abbrev pub every : ObjectId → Bool

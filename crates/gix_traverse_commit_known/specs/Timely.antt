@@ -2,14 +2,14 @@
 use Rattle.std.specs.Prelude.{◌≡◌, ◌≢◌, ◌≤ℤ◌, ◌⊎◌, ◌↔◌, ℕ, ℤ, pos, Bool, true, not, ◌&&◌, List, ◌∷◌, [], ◌++◌, Option, None, Some, take, Contains, IsTrue}
 use Rattle.gix_hash_id.specs.Id.{Id, id_of}
 use Rattle.gix_hash_id.specs.declared.object_id.ObjectId.{ObjectId}
-use Rattle.gix_traverse_commit_graph.specs.Commits.{Commits, Reached}
-use Rattle.gix_traverse_commit_graph.specs.Order.{At, IsOpen}
-use Rattle.gix_traverse_commit_graph.specs.Rows.{Holds}
-use Rattle.gix_traverse_commit_graph.specs.Sorting.{in_time}
-use Rattle.gix_traverse_commit_graph.specs.declared.rows.Row.{Row}
-use Rattle.gix_traverse_commit_graph.specs.declared.sorting.CommitTimeOrder.{CommitTimeOrder}
-use Rattle.gix_traverse_commit_graph.specs.declared.sorting.CommitTimeOrder.TheVariants.{NewestFirst, OldestFirst}
-use Rattle.gix_traverse_commit_graph.specs.declared.sorting.Timing.{Timing}
+use Rattle.gix_traverse_graph.specs.Commits.{Commits, Reached}
+use Rattle.gix_traverse_graph.specs.Order.{At, IsOpen}
+use Rattle.gix_traverse_graph.specs.Rows.{Holds}
+use Rattle.gix_traverse_graph.specs.Sorting.{in_time}
+use Rattle.gix_traverse_graph.specs.declared.rows.Row.{Row}
+use Rattle.gix_traverse_graph.specs.declared.sorting.CommitTimeOrder.{CommitTimeOrder}
+use Rattle.gix_traverse_graph.specs.declared.sorting.CommitTimeOrder.TheVariants.{NewestFirst, OldestFirst}
+use Rattle.gix_traverse_graph.specs.declared.sorting.Timing.{Timing}
 use Rattle.gix_traverse_commit_known.specs.declared.waiting.Turn.{Turn}
 
 -- one more waits, if that is so

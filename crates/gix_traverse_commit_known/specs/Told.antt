@@ -13,13 +13,13 @@ use Rattle.gix_object_commit_tokens.specs.ReadingOn.{Reads, TellsFirst, TellsNon
 use Rattle.gix_object_commit_tokens.specs.Tokens.{Part, Tree, Parent, Place, IsNext, place_of, start}
 use Rattle.gix_object_lookup.specs.Existing.{Stands}
 use Rattle.gix_object_lookup.specs.Table.{Table}
-use Rattle.gix_traverse_commit_graph.specs.Commits.{Commit, Commits}
-use Rattle.gix_traverse_commit_graph.specs.RowCommits.{commit_of}
-use Rattle.gix_traverse_commit_graph.specs.Rows.{Holds}
+use Rattle.gix_traverse_graph.specs.Commits.{Commit, Commits}
+use Rattle.gix_traverse_graph.specs.RowCommits.{commit_of}
+use Rattle.gix_traverse_graph.specs.Rows.{Holds}
 use Rattle.gix_traverse_commit_known.specs.declared.either.Either.{Either}
 use Rattle.gix_traverse_commit_known.specs.declared.either.Either.TheVariants as either
 use Rattle.gix_traverse_commit_known.specs.declared.fetch.Source.{Source}
-use Rattle.gix_traverse_commit_graph.specs.declared.rows.Row.{Row}
+use Rattle.gix_traverse_graph.specs.declared.rows.Row.{Row}
 
 -- the rows, if there are any
 abbrev pub rows_of : Option (List Row) → List Row

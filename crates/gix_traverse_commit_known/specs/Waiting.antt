@@ -6,8 +6,8 @@ use Rattle.std.specs.BTreeMap.Range.{IsLtBy}
 use Rattle.std.specs.Ordering.{eq_by_cmp, int_cmp, nat_cmp, ordering_then}
 use Rattle.std.specs.declared.cmp.Ordering.{Ordering}
 use Rattle.gix_traverse_commit_known.specs.declared.nodes.Number.{Number}
-use Rattle.gix_traverse_commit_graph.specs.declared.sorting.CommitTimeOrder.{CommitTimeOrder}
-use Rattle.gix_traverse_commit_graph.specs.declared.sorting.CommitTimeOrder.TheVariants.{NewestFirst, OldestFirst}
+use Rattle.gix_traverse_graph.specs.declared.sorting.CommitTimeOrder.{CommitTimeOrder}
+use Rattle.gix_traverse_graph.specs.declared.sorting.CommitTimeOrder.TheVariants.{NewestFirst, OldestFirst}
 use Rattle.gix_traverse_commit_known.specs.declared.waiting.Pending.{Pending}
 use Rattle.gix_traverse_commit_known.specs.declared.waiting.Waiting.{Waiting}
 

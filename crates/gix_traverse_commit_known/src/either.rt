@@ -7,7 +7,7 @@ ghost use Rattle.gix_object_commit_tokens.specs.ReadingOn.{TellsNone, committer_
 ghost use Rattle.gix_object_commit_tokens.specs.Tokens.{place_of};
 ghost use Rattle.gix_object_lookup.specs.Existing.{KindFault};
 ghost use Rattle.gix_object_lines.specs.declared.kind.Kind.TheVariants as kinds;
-ghost use Rattle.gix_traverse_commit_graph.specs.Rows.{Holds, AreRows};
+ghost use Rattle.gix_traverse_graph.specs.Rows.{Holds, AreRows};
 ghost use Rattle.gix_traverse_commit_known.specs.Told.{IsFound, TakesTreeOf, TellsTime, TellsSeconds, LacksTime, rows_of};
 
 use gix_hash::ObjectId;
@@ -16,7 +16,7 @@ use gix_object_lines::lines::read_time;
 use gix_object_lines::{Kind, decode};
 use gix_object_lookup::find::existing_iter;
 use gix_object_lookup::{FindInto, content_of};
-use gix_traverse_commit_graph::{Graph, Row};
+use gix_traverse_graph::{Graph, Row};
 
 /// A commit: its row if it has one, and otherwise a reader of its object's parts.
 #[derive(Debug, Clone, Copy)]

@@ -6,10 +6,10 @@ ghost use Rattle.gix_hash_id.specs.declared.object_id.ObjectId.{ObjectId};
 ghost use Rattle.gix_object_commit_tokens.specs.Tokens.{place_of};
 ghost use Rattle.gix_object_lookup.specs.Existing.{KindFault, Stands};
 ghost use Rattle.gix_object_lines.specs.declared.kind.Kind.TheVariants as kinds;
-ghost use Rattle.gix_traverse_commit_graph.specs.Commits.{asked_parents, asked};
+ghost use Rattle.gix_traverse_graph.specs.Commits.{asked_parents, asked};
 ghost use Rattle.gix_object_lines.specs.Counts.{one_more};
 ghost use Rattle.gix_traverse_commit_known.specs.Fetching.{ReadsParents, HasRowsGeneration, ParentsFault, FetchFault, ReadFault, TimeFault, TimeIsTold, find_error};
-ghost use Rattle.gix_traverse_commit_graph.specs.Rows.{AllHeld, Holds};
+ghost use Rattle.gix_traverse_graph.specs.Rows.{AllHeld, Holds};
 ghost use Rattle.gix_traverse_commit_known.specs.Timely.{CountsAs};
 ghost use Rattle.gix_traverse_commit_known.specs.Told.{OverSure, OverTold, rows_of};
 ghost use Rattle.gix_traverse_commit_known.specs.declared.fetch.FetchError.TheVariants.{ObjectDecode, Memory};
@@ -21,7 +21,7 @@ use gix_object_commit_tokens::ref_iter::Token;
 use gix_object_lines::{Kind, decode};
 use gix_object_lookup::FindInto;
 use gix_object_lookup::find::{self as lookup, existing_iter};
-use gix_traverse_commit_graph::{Graph, ParentIds, Parents};
+use gix_traverse_graph::{Graph, ParentIds, Parents};
 use std::alloc::{AllocError, AllocFailed, Global};
 
 /// Why a commit isn't read.

@@ -6,14 +6,14 @@ ghost use Rattle.gix_hash_id.specs.declared.object_id.ObjectId.{ObjectId};
 ghost use Rattle.gix_traverse_commit_known.specs.Ending.{times_in, times_waiting};
 ghost use Rattle.gix_traverse_commit_known.specs.Known.{turns_of, waited_of};
 ghost use Rattle.gix_traverse_commit_known.specs.Nodes.{ids_of, marks_of};
-ghost use Rattle.gix_traverse_commit_graph.specs.Numbered.{same_id};
+ghost use Rattle.gix_traverse_graph.specs.Numbered.{same_id};
 ghost use Rattle.gix_traverse_commit_known.specs.Queueing.{QueuesBehind};
 ghost use Rattle.gix_traverse_commit_known.specs.Timely.{IsTaken, Joins};
 
 use crate::nodes::{Marks, Nodes, Number};
 use crate::waiting::{Turn, Waiting};
 use gix_hash::ObjectId;
-use gix_traverse_commit_graph::sorting::CommitTimeOrder;
+use gix_traverse_graph::sorting::CommitTimeOrder;
 use std::alloc::{AllocError, Global};
 use std::collections::VecDeque;
 use std::marker::Model;

@@ -8,12 +8,12 @@ ghost use Rattle.gix_traverse_commit_known.specs.Keeping.{Kept, KeptAll};
 ghost use Rattle.gix_traverse_commit_known.specs.Meeting.{Asks, AsksOnce, IsFresh, MarksAll, MarksMet, fresh};
 ghost use Rattle.gix_traverse_commit_known.specs.Known.{turns_of};
 ghost use Rattle.gix_traverse_commit_known.specs.Nodes.{is_asked, is_met, is_hidden};
-ghost use Rattle.gix_traverse_commit_graph.specs.Numbered.{same_id};
+ghost use Rattle.gix_traverse_graph.specs.Numbered.{same_id};
 ghost use Rattle.gix_traverse_commit_known.specs.Queueing.{QueuesBehind};
-ghost use Rattle.gix_traverse_commit_graph.specs.Rows.{AllHeld};
+ghost use Rattle.gix_traverse_graph.specs.Rows.{AllHeld};
 ghost use Rattle.gix_traverse_commit_known.specs.Asked.{AreAsked, AreRefused};
-ghost use Rattle.gix_traverse_commit_graph.specs.Standing.{Reads};
-ghost use Rattle.gix_traverse_commit_graph.specs.declared.rows.Row.{Row};
+ghost use Rattle.gix_traverse_graph.specs.Standing.{Reads};
+ghost use Rattle.gix_traverse_graph.specs.declared.rows.Row.{Row};
 
 use crate::Accept;
 use crate::known::Known;

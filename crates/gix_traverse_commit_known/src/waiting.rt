@@ -6,7 +6,7 @@ ghost use Rattle.gix_traverse_commit_known.specs.Waiting.{IsFirst, numbers_of, p
 
 use crate::nodes::Number;
 use gix_hash::ObjectId;
-use gix_traverse_commit_graph::sorting::CommitTimeOrder;
+use gix_traverse_graph::sorting::CommitTimeOrder;
 use std::alloc::{AllocError, Global};
 use std::collections::BTreeMap;
 

@@ -1,10 +1,10 @@
 -- Where a walk begins: those that wait at first.
 use Rattle.std.proofs.Common.{◌≡◌, ℕ, zero, suc, ◌<◌, ◌≤◌, ◌⊎◌, inl, inr, List, [], refl, arith, Bool}
 use Rattle.std.specs.Prelude.{Contains, ℤ, ◌<ℤ◌}
-use Rattle.gix_traverse_commit_graph.specs.Order.{At, IsBreadthFirst, IsKey, IsReady, IsFirstAt, HasNoChild, Outranks, newer, given_later}
+use Rattle.gix_traverse_graph.specs.Order.{At, IsBreadthFirst, IsKey, IsReady, IsFirstAt, HasNoChild, Outranks, newer, given_later}
 use Rattle.gix_traverse_topo.specs.Turns.{times, names_of, Waits}
-use Rattle.gix_traverse_commit_graph.proofs.Lists.{at_from_contains, contains_from_at, none_at_nil}
-use Rattle.gix_traverse_commit_graph.proofs.Slow.{TellsApart}
+use Rattle.gix_traverse_graph.proofs.Lists.{at_from_contains, contains_from_at, none_at_nil}
+use Rattle.gix_traverse_graph.proofs.Slow.{TellsApart}
 use Rattle.gix_traverse_topo.proofs.Degree.{ready_from_names, names_from_ready}
 
 module _ {I : Type 0} (eq : I → I → Bool) (apart : TellsApart eq) (along : I → List I) (zs : List I) (once : (j k : ℕ) (x : I) → At zs j x → At zs k x → j ≡ k) where

@@ -7,11 +7,11 @@ use Rattle.std.proofs.lemmas.List.Elements.{Contains-append_left, Contains-push_
 use Rattle.std.proofs.lemmas.List.Sorted.{IsPermutation-refl, IsPermutation-trans, IsPermutation-append_left}
 use Rattle.gix_hash_id.specs.declared.object_id.ObjectId.{ObjectId}
 use Rattle.gix_hash_id.specs.declared.object_id.ObjectId.TheVariants.{Sha1}
-use Rattle.gix_traverse_commit_graph.specs.Commits.{Commits}
-use Rattle.gix_traverse_commit_graph.specs.Numbered.{same_id}
-use Rattle.gix_traverse_commit_graph.specs.Order.{At}
-use Rattle.gix_traverse_commit_graph.proofs.Ids.{same_id_apart}
-use Rattle.gix_traverse_commit_graph.proofs.Lists.{at_one, at_from_contains, at_from_push, contains_from_at, none_at_nil, three}
+use Rattle.gix_traverse_graph.specs.Commits.{Commits}
+use Rattle.gix_traverse_graph.specs.Numbered.{same_id}
+use Rattle.gix_traverse_graph.specs.Order.{At}
+use Rattle.gix_traverse_graph.proofs.Ids.{same_id_apart}
+use Rattle.gix_traverse_graph.proofs.Lists.{at_one, at_from_contains, at_from_push, contains_from_at, none_at_nil, three}
 use Rattle.gix_traverse_topo.specs.Nodes.{all_facts, counts, EachCount, NamesAre, IsOnce}
 use Rattle.gix_traverse_topo.specs.Standing.{id_at, ids_of, CountsOff, passed, counted, freed, NotCounted, GoesOff, RowOff}
 use Rattle.gix_traverse_topo.specs.Turns.{times, total, names_of, named_so_far, Freed}

@@ -1,10 +1,10 @@
 -- Counts of names: when all names of a commit are counted off, its children are given.
 use Rattle.std.proofs.Common.{◌≡◌, ℕ, zero, suc, ◌+◌, ◌≤◌, ◌⊎◌, inl, inr, List, [], ◌∷◌, ◌++◌, refl, sym, ap, subst, arith, Some, Bool}
 use Rattle.std.specs.Prelude.{Contains}
-use Rattle.gix_traverse_commit_graph.specs.Order.{At, IsReady}
+use Rattle.gix_traverse_graph.specs.Order.{At, IsReady}
 use Rattle.gix_traverse_topo.specs.Turns.{times, total, names_of}
-use Rattle.gix_traverse_commit_graph.proofs.Lists.{at_one, at_from_contains, contains_from_at}
-use Rattle.gix_traverse_commit_graph.proofs.Slow.{TellsApart}
+use Rattle.gix_traverse_graph.proofs.Lists.{at_one, at_from_contains, contains_from_at}
+use Rattle.gix_traverse_graph.proofs.Slow.{TellsApart}
 use Rattle.gix_traverse_topo.proofs.Turns.{times_contains, contains_times, is_in}
 
 -- the list without its place k

@@ -1,11 +1,11 @@
 -- Where no commit reaches itself, a walk that comes to its end has given all.
 use Rattle.std.proofs.Common.{◌≡◌, ℕ, zero, suc, ◌+◌, ◌≤◌, ◌⊎◌, inl, inr, List, [], ◌∷◌, refl, sym, ◌∙◌, ap, subst, arith, Bool}
 use Rattle.std.specs.Prelude.{Contains}
-use Rattle.gix_traverse_commit_graph.specs.Order.{At, IsReady}
-use Rattle.gix_traverse_commit_graph.specs.Commits.{Reached, tip, parent}
+use Rattle.gix_traverse_graph.specs.Order.{At, IsReady}
+use Rattle.gix_traverse_graph.specs.Commits.{Reached, tip, parent}
 use Rattle.gix_traverse_topo.specs.Turns.{total}
-use Rattle.gix_traverse_commit_graph.proofs.Lists.{at_from_contains, contains_from_at, none_at_nil}
-use Rattle.gix_traverse_commit_graph.proofs.Slow.{TellsApart}
+use Rattle.gix_traverse_graph.proofs.Lists.{at_from_contains, contains_from_at, none_at_nil}
+use Rattle.gix_traverse_graph.proofs.Slow.{TellsApart}
 use Rattle.gix_traverse_topo.proofs.Turns.{is_in}
 use Rattle.gix_traverse_topo.proofs.Degree.{weight_gap}
 

@@ -3,14 +3,14 @@ use Rattle.std.proofs.Common.{◌≡◌, ℕ, zero, suc, List, [], ◌∷◌, re
 use Rattle.std.specs.Prelude.{Contains, IfSome, IsSome, pos}
 use Rattle.gix_hash_id.specs.declared.object_id.ObjectId.{ObjectId}
 use Rattle.gix_object_lookup.specs.Table.{Table}
-use Rattle.gix_traverse_commit_graph.specs.Commits.{Commit, Commits, tip, parent}
-use Rattle.gix_traverse_commit_graph.specs.Numbered.{same_id}
-use Rattle.gix_traverse_commit_graph.specs.Order.{At}
+use Rattle.gix_traverse_graph.specs.Commits.{Commit, Commits, tip, parent}
+use Rattle.gix_traverse_graph.specs.Numbered.{same_id}
+use Rattle.gix_traverse_graph.specs.Order.{At}
 use Rattle.gix_traverse_commit_known.specs.Painting.{ReachedFrom}
 use Rattle.gix_traverse_commit_known.specs.Told.{AreTold}
-use Rattle.gix_traverse_commit_graph.specs.declared.rows.Row.{Row}
-use Rattle.gix_traverse_commit_graph.proofs.Ids.{same_id_apart, same_from_test}
-use Rattle.gix_traverse_commit_graph.proofs.Lists.{at_from_contains, none_at_nil}
+use Rattle.gix_traverse_graph.specs.declared.rows.Row.{Row}
+use Rattle.gix_traverse_graph.proofs.Ids.{same_id_apart, same_from_test}
+use Rattle.gix_traverse_graph.proofs.Lists.{at_from_contains, none_at_nil}
 use Rattle.gix_traverse_topo.specs.Faults.{IsFaultOf}
 use Rattle.gix_traverse_topo.specs.Nodes.{IsOnce, AreFacts, Tells, ParentsFrom}
 use Rattle.gix_traverse_topo.specs.Standing.{as_read, read_so}

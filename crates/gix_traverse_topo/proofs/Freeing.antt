@@ -3,10 +3,10 @@ use Rattle.std.proofs.Common.{◌≡◌, ℕ, zero, suc, ◌+◌, ◌<◌, ◌�
 use Rattle.std.specs.Prelude.{Contains}
 use Rattle.std.proofs.lemmas.Option.{slice_get_within}
 use Rattle.std.proofs.lemmas.List.Elements.{Contains-append_left, Contains-append_right, Contains-push_cases}
-use Rattle.gix_traverse_commit_graph.specs.Order.{At, IsReady}
+use Rattle.gix_traverse_graph.specs.Order.{At, IsReady}
 use Rattle.gix_traverse_topo.specs.Turns.{times, names_of, named_so_far, Freed, Fresh, IsLastAt, Rising}
-use Rattle.gix_traverse_commit_graph.proofs.Lists.{at_from_contains, contains_from_at, at_take, at_from_take, at_from_push, at_push, none_at_nil}
-use Rattle.gix_traverse_commit_graph.proofs.Slow.{TellsApart}
+use Rattle.gix_traverse_graph.proofs.Lists.{at_from_contains, contains_from_at, at_take, at_from_take, at_from_push, at_push, none_at_nil}
+use Rattle.gix_traverse_graph.proofs.Slow.{TellsApart}
 use Rattle.gix_traverse_topo.proofs.Turns.{times_append, contains_times, is_in, contains_take}
 use Rattle.gix_traverse_topo.proofs.Degree.{room_for, ready_from_names, names_from_ready, total_push}
 use Rattle.gix_traverse_commit_known.proofs.Simply.{take_push}

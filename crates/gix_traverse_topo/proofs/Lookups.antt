@@ -5,9 +5,9 @@ use Rattle.std.proofs.lemmas.Option.{slice_get_within}
 use Rattle.gix_hash_id.specs.declared.object_id.ObjectId.{ObjectId}
 use Rattle.gix_object_lines.specs.Counts.{one_more}
 use Rattle.gix_traverse_commit_known.specs.Meeting.{CountsAll, CountsOne}
-use Rattle.gix_traverse_commit_graph.specs.Order.{At}
-use Rattle.gix_traverse_commit_graph.specs.declared.rows.Row.{Row}
-use Rattle.gix_traverse_commit_graph.proofs.Lists.{none_at_nil}
+use Rattle.gix_traverse_graph.specs.Order.{At}
+use Rattle.gix_traverse_graph.specs.declared.rows.Row.{Row}
+use Rattle.gix_traverse_graph.proofs.Lists.{none_at_nil}
 use Rattle.gix_traverse_commit_known.proofs.Meeting.{counts_more, counts_one}
 use Rattle.gix_traverse_topo.proofs.Turns.{take_whole}
 use Rattle.gix_traverse_commit_known.proofs.Simply.{take_push}

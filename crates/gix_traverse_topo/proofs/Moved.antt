@@ -1,8 +1,8 @@
 -- An order of one history is one of another that agrees with it on the set.
 use Rattle.std.proofs.Common.{◌≡◌, ℕ, List, take, sym, ◌∙◌, subst}
 use Rattle.std.specs.Prelude.{Contains, ◌↔◌, ℤ, ◌≤ℤ◌, ◌<ℤ◌}
-use Rattle.gix_traverse_commit_graph.specs.Order.{At, IsListOf, IsReady, IsByDate, IsTopological, NamedBy, IsLastName, HasNoChild, Outranks, later_child, has_child, newer, given_later}
-use Rattle.gix_traverse_commit_graph.proofs.Lists.{contains_from_at}
+use Rattle.gix_traverse_graph.specs.Order.{At, IsListOf, IsReady, IsByDate, IsTopological, NamedBy, IsLastName, HasNoChild, Outranks, later_child, has_child, newer, given_later}
+use Rattle.gix_traverse_graph.proofs.Lists.{contains_from_at}
 use Rattle.gix_traverse_topo.proofs.Turns.{contains_take}
 
 module _ {I : Type 0} (along along' : I → List I) (S S' : I → Type 0) (same : (x : I) → S x ↔ S' x) (agree : (x : I) → S x → along x ≡ along' x) where

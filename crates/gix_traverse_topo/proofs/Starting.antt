@@ -12,17 +12,17 @@ use Rattle.std.proofs.lemmas.List.Sorted.{sorted_far, ranks_by, Contains-permuta
 use Rattle.std.proofs.lemmas.Option.{slice_get_within, get_or_from_slice_get}
 use Rattle.gix_hash_id.specs.declared.object_id.ObjectId.{ObjectId}
 use Rattle.gix_object_lookup.specs.Table.{Table}
-use Rattle.gix_traverse_commit_graph.specs.Commits.{Commit, Commits, asked_parents, Reached, tip, parent, Passes, Listed}
-use Rattle.gix_traverse_commit_graph.specs.Numbered.{same_id}
-use Rattle.gix_traverse_commit_graph.specs.Order.{At, Outranks}
+use Rattle.gix_traverse_graph.specs.Commits.{Commit, Commits, asked_parents, Reached, tip, parent, Passes, Listed}
+use Rattle.gix_traverse_graph.specs.Numbered.{same_id}
+use Rattle.gix_traverse_graph.specs.Order.{At, Outranks}
 use Rattle.gix_traverse_commit_known.specs.Painting.{ReachedFrom}
-use Rattle.gix_traverse_commit_graph.specs.Standing.{NotIn}
+use Rattle.gix_traverse_graph.specs.Standing.{NotIn}
 use Rattle.gix_traverse_commit_known.specs.Told.{AreTold}
-use Rattle.gix_traverse_commit_graph.specs.declared.parents.Parents.{Parents}
-use Rattle.gix_traverse_commit_graph.specs.declared.rows.Row.{Row}
-use Rattle.gix_traverse_commit_graph.proofs.Ids.{same_id_apart}
-use Rattle.gix_traverse_commit_graph.proofs.Listing.{listed_reached}
-use Rattle.gix_traverse_commit_graph.proofs.Lists.{at_one, at_from_contains, contains_from_at, none_at_nil, three}
+use Rattle.gix_traverse_graph.specs.declared.parents.Parents.{Parents}
+use Rattle.gix_traverse_graph.specs.declared.rows.Row.{Row}
+use Rattle.gix_traverse_graph.proofs.Ids.{same_id_apart}
+use Rattle.gix_traverse_graph.proofs.Listing.{listed_reached}
+use Rattle.gix_traverse_graph.proofs.Lists.{at_one, at_from_contains, contains_from_at, none_at_nil, three}
 use Rattle.gix_traverse_topo.specs.Exploring.{Numbers, IsExplored}
 use Rattle.gix_traverse_topo.specs.Nodes.{all_facts, counts, IsOnce, Tells}
 use Rattle.gix_traverse_topo.specs.Standing.{id_at, ids_of, Comes, Ranks, Standing, Stands, Begins, as_read, topo_request, all_accepted}

@@ -7,13 +7,13 @@ use Rattle.std.proofs.lemmas.List.Elements.{Contains-append_left, Contains-appen
 use Rattle.std.proofs.lemmas.List.Sorted.{IsPermutation-map, sum_by-IsPermutation, Contains-permutation, IsPermutation-sym}
 use Rattle.std.proofs.lemmas.List.Recursion.{is_sum_by}
 use Rattle.gix_hash_id.specs.declared.object_id.ObjectId.{ObjectId}
-use Rattle.gix_traverse_commit_graph.specs.Commits.{Commits, asked_parents}
-use Rattle.gix_traverse_commit_graph.specs.Numbered.{same_id}
-use Rattle.gix_traverse_commit_graph.specs.Order.{At, IsReady, Outranks}
-use Rattle.gix_traverse_commit_graph.specs.declared.parents.Parents.{Parents}
-use Rattle.gix_traverse_commit_graph.specs.declared.rows.Row.{Row}
-use Rattle.gix_traverse_commit_graph.proofs.Ids.{same_id_apart}
-use Rattle.gix_traverse_commit_graph.proofs.Lists.{at_one, at_from_contains, contains_from_at, none_at_nil, at_append}
+use Rattle.gix_traverse_graph.specs.Commits.{Commits, asked_parents}
+use Rattle.gix_traverse_graph.specs.Numbered.{same_id}
+use Rattle.gix_traverse_graph.specs.Order.{At, IsReady, Outranks}
+use Rattle.gix_traverse_graph.specs.declared.parents.Parents.{Parents}
+use Rattle.gix_traverse_graph.specs.declared.rows.Row.{Row}
+use Rattle.gix_traverse_graph.proofs.Ids.{same_id_apart}
+use Rattle.gix_traverse_graph.proofs.Lists.{at_one, at_from_contains, contains_from_at, none_at_nil, at_append}
 use Rattle.gix_traverse_topo.specs.Nodes.{all_facts, counts, IsOnce}
 use Rattle.gix_traverse_topo.specs.Standing.{id_at, ids_of, Comes, Ranks, GoesOff, RowOff, Standing}
 use Rattle.gix_traverse_topo.specs.Turns.{times, names_of, named_so_far, SameBag, Fresh, Rising, Waits, Ranked}

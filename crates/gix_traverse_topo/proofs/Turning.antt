@@ -4,16 +4,16 @@ use Rattle.std.specs.Prelude.{Contains, ⊤, filter, ◌↔◌, IfOk, IfErr, OnO
 use Rattle.std.proofs.lemmas.Option.{slice_get_within}
 use Rattle.std.proofs.lemmas.List.Elements.{Contains-append_left, Contains-push, Contains-push_cases}
 use Rattle.gix_hash_id.specs.declared.object_id.ObjectId.{ObjectId}
-use Rattle.gix_traverse_commit_graph.specs.Commits.{Commit, Commits, asked, asked_parents, Reached, tip, parent, Passes, Hides, Listed}
+use Rattle.gix_traverse_graph.specs.Commits.{Commit, Commits, asked, asked_parents, Reached, tip, parent, Passes, Hides, Listed}
 use Rattle.gix_traverse_commit_known.specs.Fetching.{HasRowsGeneration}
-use Rattle.gix_traverse_commit_graph.specs.Numbered.{same_id}
-use Rattle.gix_traverse_commit_graph.specs.Order.{At, IsReady, IsChosen}
-use Rattle.gix_traverse_commit_graph.specs.declared.info.Info.{Info}
-use Rattle.gix_traverse_commit_graph.specs.declared.parents.Parents.{Parents}
-use Rattle.gix_traverse_commit_graph.specs.declared.rows.Row.{Row}
-use Rattle.gix_traverse_commit_graph.proofs.Ids.{same_id_apart}
-use Rattle.gix_traverse_commit_graph.proofs.Lists.{at_one, at_from_contains, none_at_nil}
-use Rattle.gix_traverse_commit_graph.proofs.Listing.{asked_parent, listed_reached, listed_from_reached}
+use Rattle.gix_traverse_graph.specs.Numbered.{same_id}
+use Rattle.gix_traverse_graph.specs.Order.{At, IsReady, IsChosen}
+use Rattle.gix_traverse_graph.specs.declared.info.Info.{Info}
+use Rattle.gix_traverse_graph.specs.declared.parents.Parents.{Parents}
+use Rattle.gix_traverse_graph.specs.declared.rows.Row.{Row}
+use Rattle.gix_traverse_graph.proofs.Ids.{same_id_apart}
+use Rattle.gix_traverse_graph.proofs.Lists.{at_one, at_from_contains, none_at_nil}
+use Rattle.gix_traverse_graph.proofs.Listing.{asked_parent, listed_reached, listed_from_reached}
 use Rattle.gix_traverse_topo.specs.Nodes.{all_facts, counts, Tells, IsOnce}
 use Rattle.gix_traverse_topo.specs.Standing.{id_at, ids_of, Comes, Gives, GoesOff, RowOff, Standing, Steps, IsInfo, IsNext, Stands, as_read, IsTurn, IsTurnOf, topo_request, all_accepted, Answers, NoneReachesItself, weight}
 use Rattle.gix_traverse_topo.specs.Turns.{total}

@@ -4,12 +4,12 @@ use Rattle.std.specs.Prelude.{Contains, ℤ}
 use Rattle.std.specs.List.{list_any}
 use Rattle.std.proofs.lemmas.Option.{slice_get_within}
 use Rattle.std.proofs.lemmas.List.Elements.{Contains-append_left, Contains-append_right, Contains-append_cases, Contains-push, Contains-push_cases}
-use Rattle.gix_traverse_commit_graph.specs.Order.{At, Before, IsChosen, IsReady, IsLastName, HasNoChild, Outranks, later_child, has_child, newer, given_later}
-use Rattle.gix_traverse_commit_graph.specs.Check.{last_name}
+use Rattle.gix_traverse_graph.specs.Order.{At, Before, IsChosen, IsReady, IsLastName, HasNoChild, Outranks, later_child, has_child, newer, given_later}
+use Rattle.gix_traverse_graph.specs.Check.{last_name}
 use Rattle.gix_traverse_topo.specs.Turns.{times, SameBag, Waits, Ranked, Fresh, IsLastAt, Rising}
-use Rattle.gix_traverse_commit_graph.proofs.Lists.{at_from_contains, contains_from_at, at_push, at_from_push, at_from_take}
-use Rattle.gix_traverse_commit_graph.proofs.Slow.{TellsApart, contains_from_any, any_from_contains}
-use Rattle.gix_traverse_commit_graph.proofs.Check.{last_name_is, no_child}
+use Rattle.gix_traverse_graph.proofs.Lists.{at_from_contains, contains_from_at, at_push, at_from_push, at_from_take}
+use Rattle.gix_traverse_graph.proofs.Slow.{TellsApart, contains_from_any, any_from_contains}
+use Rattle.gix_traverse_graph.proofs.Check.{last_name_is, no_child}
 use Rattle.std.proofs.lemmas.List.{take-append-le}
 
 pub at_append_cases : {I : Type 0} (xs ys : List I) (k : ℕ) (x : I) → At (xs ++ ys) k x → At xs k x ⊎ ((j : ℕ) × (k ≡ length xs + j) × At ys j x)

@@ -14,8 +14,8 @@ use Rattle.std.proofs.lemmas.List.Sorted.{IsPermutation-to_front, IsPermutation-
 use Rattle.std.proofs.lemmas.Option.{slice_get_within, slice_get-get_or}
 use Rattle.gix_hash_id.specs.declared.object_id.ObjectId.{ObjectId}
 use Rattle.gix_hash_id.specs.declared.object_id.ObjectId.TheVariants.{Sha1}
-use Rattle.gix_traverse_commit_graph.specs.Order.{At}
-use Rattle.gix_traverse_commit_graph.proofs.Lists.{at_from_contains, contains_from_at, none_at_nil, at_from_push, three}
+use Rattle.gix_traverse_graph.specs.Order.{At}
+use Rattle.gix_traverse_graph.proofs.Lists.{at_from_contains, contains_from_at, none_at_nil, at_from_push, three}
 use Rattle.gix_traverse_topo.specs.Nodes.{all_facts, counts}
 use Rattle.gix_traverse_topo.specs.Standing.{CountsOff, counted, freed}
 use Rattle.gix_traverse_topo.specs.Turns.{total}

@@ -6,17 +6,17 @@ use Rattle.std.proofs.lemmas.Option.{slice_get_within, slice_get-get_or}
 use Rattle.gix_hash_id.specs.declared.object_id.ObjectId.{ObjectId}
 use Rattle.gix_hash_id.specs.declared.object_id.ObjectId.TheVariants.{Sha1}
 use Rattle.gix_object_lookup.specs.Table.{Table}
-use Rattle.gix_traverse_commit_graph.specs.Commits.{Commits, asked, asked_parents, Reached}
-use Rattle.gix_traverse_commit_graph.specs.Numbered.{same_id}
-use Rattle.gix_traverse_commit_graph.specs.Order.{At, Named}
-use Rattle.gix_traverse_commit_graph.specs.Reading.{Read}
-use Rattle.gix_traverse_commit_graph.specs.Standing.{NotIn}
-use Rattle.gix_traverse_commit_graph.specs.declared.parents.Parents.{Parents}
-use Rattle.gix_traverse_commit_graph.specs.declared.rows.Row.{Row}
-use Rattle.gix_traverse_commit_graph.proofs.Frontier.{read_none, read_next, read_all}
-use Rattle.gix_traverse_commit_graph.proofs.Lists.{at_one, at_push, once_push, take_agree, three}
-use Rattle.gix_traverse_commit_graph.proofs.Ids.{same_id_apart}
-use Rattle.gix_traverse_commit_graph.proofs.Slow.{any_from_contains}
+use Rattle.gix_traverse_graph.specs.Commits.{Commits, asked, asked_parents, Reached}
+use Rattle.gix_traverse_graph.specs.Numbered.{same_id}
+use Rattle.gix_traverse_graph.specs.Order.{At, Named}
+use Rattle.gix_traverse_graph.specs.Reading.{Read}
+use Rattle.gix_traverse_graph.specs.Standing.{NotIn}
+use Rattle.gix_traverse_graph.specs.declared.parents.Parents.{Parents}
+use Rattle.gix_traverse_graph.specs.declared.rows.Row.{Row}
+use Rattle.gix_traverse_graph.proofs.Frontier.{read_none, read_next, read_all}
+use Rattle.gix_traverse_graph.proofs.Lists.{at_one, at_push, once_push, take_agree, three}
+use Rattle.gix_traverse_graph.proofs.Ids.{same_id_apart}
+use Rattle.gix_traverse_graph.proofs.Slow.{any_from_contains}
 use Rattle.gix_traverse_topo.specs.Meeting.{IsRow, Met, Walks}
 use Rattle.gix_traverse_topo.specs.Nodes.{all_facts, counts, EachCount, IsOnce, AreFacts, NamesAre, ParentsFrom, ParentsIn}
 use Rattle.gix_traverse_topo.specs.Turns.{names_of, times}

@@ -1,10 +1,10 @@
 -- How far a walk has numbered the commits that it comes to.
 use Rattle.std.specs.Prelude.{◌≡◌, ℕ, zero, suc, ◌<◌, List, ◌++◌}
 use Rattle.gix_hash_id.specs.declared.object_id.ObjectId.{ObjectId}
-use Rattle.gix_traverse_commit_graph.specs.Commits.{Reached}
-use Rattle.gix_traverse_commit_graph.specs.Order.{At, Named, IsBreadthFirst}
-use Rattle.gix_traverse_commit_graph.specs.Reading.{Read}
-use Rattle.gix_traverse_commit_graph.specs.Standing.{NotIn}
+use Rattle.gix_traverse_graph.specs.Commits.{Reached}
+use Rattle.gix_traverse_graph.specs.Order.{At, Named, IsBreadthFirst}
+use Rattle.gix_traverse_graph.specs.Reading.{Read}
+use Rattle.gix_traverse_graph.specs.Standing.{NotIn}
 
 -- the names at place p: the tips, or the parents of the commit before
 abbrev pub IsRow : (ObjectId → List ObjectId) → List ObjectId → List ObjectId → ℕ → List ObjectId

@@ -3,17 +3,17 @@ use Rattle.std.specs.Prelude.{◌≡◌, ◌↔◌, ◌⊎◌, ℕ, ◌+◌, ◌
 use Rattle.std.specs.BinaryHeap.{heap_items, IsHeap}
 use Rattle.gix_hash_id.specs.declared.object_id.ObjectId.{ObjectId}
 use Rattle.gix_hash_id.specs.declared.object_id.ObjectId.TheVariants.{Sha1}
-use Rattle.gix_traverse_commit_graph.specs.Commits.{Commit, Commits, WalkRequest, asked, asked_parents, Reached, Hides, Listed}
+use Rattle.gix_traverse_graph.specs.Commits.{Commit, Commits, WalkRequest, asked, asked_parents, Reached, Hides, Listed}
 use Rattle.gix_traverse_commit_known.specs.Fetching.{HasRowsGeneration}
-use Rattle.gix_traverse_commit_graph.specs.Numbered.{same_id}
-use Rattle.gix_traverse_commit_graph.specs.Order.{At, IsReady, NewestFirst, Outranks}
+use Rattle.gix_traverse_graph.specs.Numbered.{same_id}
+use Rattle.gix_traverse_graph.specs.Order.{At, IsReady, NewestFirst, Outranks}
 use Rattle.gix_object_lookup.specs.Table.{Table}
 use Rattle.gix_traverse_commit_known.specs.Painting.{ReachedFrom}
 use Rattle.gix_traverse_commit_known.specs.Told.{AreTold}
-use Rattle.gix_traverse_commit_graph.specs.Walks.{InDate, InTopological, unfiltered}
-use Rattle.gix_traverse_commit_graph.specs.declared.info.Info.{Info}
-use Rattle.gix_traverse_commit_graph.specs.declared.parents.Parents.{Parents}
-use Rattle.gix_traverse_commit_graph.specs.declared.rows.Row.{Row}
+use Rattle.gix_traverse_graph.specs.Walks.{InDate, InTopological, unfiltered}
+use Rattle.gix_traverse_graph.specs.declared.info.Info.{Info}
+use Rattle.gix_traverse_graph.specs.declared.parents.Parents.{Parents}
+use Rattle.gix_traverse_graph.specs.declared.rows.Row.{Row}
 use Rattle.gix_traverse_topo.specs.Faults.{IsFaultOf}
 use Rattle.gix_traverse_topo.specs.Nodes.{all_facts, counts, Tells, EachCount, IsOnce}
 use Rattle.gix_traverse_topo.specs.Turns.{total, names_of, named_so_far, Freed, Waits, Ranked}

@@ -1,6 +1,6 @@
 -- The state of a walk in which each commit comes after all its children.
 use Rattle.std.specs.Prelude.{◌≡◌, ℕ, ◌+◌, ◌<◌, ◌≤◌, Bool, cond, List, [], ◌∷◌, ◌++◌, take, Contains, ℤ}
-use Rattle.gix_traverse_commit_graph.specs.Order.{At, IsReady, Outranks}
+use Rattle.gix_traverse_graph.specs.Order.{At, IsReady, Outranks}
 
 -- how many pass
 abbrev pub times : {I : Type 0} → (I → Bool) → List I → ℕ

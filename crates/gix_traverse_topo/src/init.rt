@@ -3,9 +3,9 @@
 ghost use Rattle.std.specs.Prelude.{◌≡◌, ◌+◌, ◌≤◌, ◌++◌, [], length, IfOk, IfErr, IfSome, IfNone, IsOk, None};
 ghost use Rattle.gix_hash_id.specs.declared.object_id.ObjectId.{ObjectId};
 ghost use Rattle.gix_traverse_commit_known.specs.Meeting.{CountsAll};
-ghost use Rattle.gix_traverse_commit_graph.specs.Rows.{AllHeld, Holds};
+ghost use Rattle.gix_traverse_graph.specs.Rows.{AllHeld, Holds};
 ghost use Rattle.gix_traverse_commit_known.specs.Told.{rows_of};
-ghost use Rattle.gix_traverse_commit_graph.specs.declared.parents.Parents.TheVariants.{All as AllParents};
+ghost use Rattle.gix_traverse_graph.specs.declared.parents.Parents.TheVariants.{All as AllParents};
 ghost use Rattle.gix_traverse_topo.specs.Asking.{asked_of, commits_of, lookups_of, parents_of, predicate_of};
 ghost use Rattle.gix_traverse_topo.specs.Exploring.{IsPainted, IsExplored};
 ghost use Rattle.gix_traverse_topo.specs.Faults.{IsBuildFault};
@@ -18,9 +18,9 @@ use crate::ready::Ready;
 use crate::{Error, Topo};
 use gix_hash::ObjectId;
 use gix_object_lookup::FindInto;
-use gix_traverse_commit_graph::{Graph, Parents};
 use gix_traverse_commit_known::fetch::Source;
 use gix_traverse_commit_known::{Accept, All};
+use gix_traverse_graph::{Graph, Parents};
 use std::alloc::Global;
 
 /// Which of the commits whose children are all given comes next.

@@ -3,9 +3,9 @@
 ghost use Rattle.std.specs.Prelude.{true, false, ◌≡◌, ◌+◌, ◌<◌, ◌≤◌, ◌++◌, ◌∷◌, [], ℕ, List, OnOk, IfOk, IfErr, OnErr, IfSome, IfNone, IsNone, Option, Some, ◌⊎◌, length};
 ghost use Rattle.std.specs.Iterator.{at_most};
 ghost use Rattle.gix_hash_id.specs.declared.object_id.ObjectId.{ObjectId};
-ghost use Rattle.gix_traverse_commit_graph.specs.Commits.{Commits, asked};
-ghost use Rattle.gix_traverse_commit_graph.specs.Order.{At};
-ghost use Rattle.gix_traverse_commit_graph.specs.declared.rows.Row.{Row};
+ghost use Rattle.gix_traverse_graph.specs.Commits.{Commits, asked};
+ghost use Rattle.gix_traverse_graph.specs.Order.{At};
+ghost use Rattle.gix_traverse_graph.specs.declared.rows.Row.{Row};
 ghost use Rattle.gix_traverse_topo.specs.declared.init.Sorting.{Sorting};
 ghost use Rattle.gix_traverse_topo.specs.Nodes.{all_facts, counts, IsOnce};
 ghost use Rattle.gix_traverse_topo.specs.Asking.{lookups_of};
@@ -21,8 +21,8 @@ use crate::Error;
 use crate::known::{Known, Number, take_name};
 use crate::ready::Ready;
 use gix_hash::ObjectId;
-use gix_traverse_commit_graph::{Info, Parents};
 use gix_traverse_commit_known::Accept;
+use gix_traverse_graph::{Info, Parents};
 
 /// A walk in which each commit comes after all its children.
 ///

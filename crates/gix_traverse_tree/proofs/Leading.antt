@@ -7,10 +7,10 @@ use Rattle.std.proofs.lemmas.Bool.{cases_eq}
 use Rattle.std.proofs.lemmas.Option.{same_Some}
 use Rattle.gix_hash_id.specs.Id.{Id}
 use Rattle.gix_hash_id.specs.declared.kind.Kind.{Kind}
-use Rattle.gix_object_entries.specs.Entry.{Item, SpellsEntries}
-use Rattle.gix_object_entries.specs.Order.{is_tree}
-use Rattle.gix_object_entries.specs.Reading.{Place}
-use Rattle.gix_object_entries.proofs.Spelled.{one_entry}
+use Rattle.gix_object_tree.specs.Entry.{Item, SpellsEntries}
+use Rattle.gix_object_tree.specs.Order.{is_tree}
+use Rattle.gix_object_tree.specs.Reading.{Place}
+use Rattle.gix_object_tree.proofs.Spelled.{one_entry}
 use Rattle.gix_object_lookup.specs.Path.{Path, FindsFirst, IsNamedBy, IsBelow, Follows}
 use Rattle.gix_object_lookup.specs.Table.{Table, Object}
 use Rattle.gix_traverse_tree.specs.AtPaths.{Answer, told_of, root_item, LeadsTo, TellsEach, BeginsOne, IsTreeAbove, AreDifferent, AsksFor, AsksForAll}

@@ -5,9 +5,9 @@ use Rattle.std.proofs.lemmas.List.{map-append, append-nil}
 use Rattle.gix_hash_id.specs.Id.{Id, id_of}
 use Rattle.gix_hash_id.specs.declared.kind.Kind.{Kind}
 use Rattle.gix_object_lines.specs.declared.decode.Error as decode
-use Rattle.gix_object_entries.specs.Entry.{Item, item_of, SpellsEntry, SpellsNoEntry, EntryFault}
-use Rattle.gix_object_entries.specs.Reading.{Place, Steps}
-use Rattle.gix_object_entries.specs.declared.tree.entry.EntryRef.{EntryRef}
+use Rattle.gix_object_tree.specs.Entry.{Item, item_of, SpellsEntry, SpellsNoEntry, EntryFault}
+use Rattle.gix_object_tree.specs.Reading.{Place, Steps}
+use Rattle.gix_object_tree.specs.declared.tree.entry.EntryRef.{EntryRef}
 use Rattle.gix_traverse_tree.specs.Breadth.{Listing, none, entry, ended, unread, behind, queued_id}
 use Rattle.gix_traverse_tree.specs.Calls.{Call, Runs, shown, descends}
 use Rattle.gix_traverse_tree.specs.Nodes.{node_under, Queues, ShowsListing, StopsListing}

@@ -11,7 +11,7 @@ use Rattle.std.proofs.lemmas.Map.Made.{length-le_from_is_member, IsDistinct-from
 use Rattle.gix_hash_id.specs.Id.{Id, id_of}
 use Rattle.gix_hash_id.specs.Order.{id_eq}
 use Rattle.gix_hash_id.specs.OrderLaws.{id_equivalence}
-use Rattle.gix_object_entries.specs.Entry.{Item, SpellsEntry}
+use Rattle.gix_object_tree.specs.Entry.{Item, SpellsEntry}
 use Rattle.gix_object_lookup.specs.Table.{Table}
 use Rattle.gix_traverse_tree.specs.Calls.{Call, Runs, pop_back, pop, shown, descends}
 use Rattle.gix_traverse_tree.specs.Depth as depth

@@ -5,8 +5,8 @@ use Rattle.std.proofs.lemmas.Bool.{and_parts}
 use Rattle.std.proofs.lemmas.List.{append-nil, get_or_at}
 use Rattle.std.specs.List.{AllByRecursion}
 use Rattle.std.specs.declared.ops.ControlFlow.TheVariants.{Continue}
-use Rattle.gix_object_entries.specs.Entry.{Item}
-use Rattle.gix_object_entries.specs.Order.{is_tree}
+use Rattle.gix_object_tree.specs.Entry.{Item}
+use Rattle.gix_object_tree.specs.Order.{is_tree}
 use Rattle.gix_traverse_tree.specs.Calls.{Answer, Call, Runs, pop_back, push, pop, at_tree, at_nontree, shown, visit_of, descends}
 use Rattle.gix_traverse_tree.specs.Depth.{entering}
 use Rattle.gix_traverse_tree.specs.Orders.{IsName, recorded_in, folder_in}

@@ -7,8 +7,8 @@ use Rattle.std.specs.List.{AllByRecursion}
 use Rattle.std.specs.declared.ops.ControlFlow.TheVariants.{Continue}
 use Rattle.gix_hash_id.specs.Id.{Id}
 use Rattle.gix_hash_id.specs.declared.kind.Kind.{Kind}
-use Rattle.gix_object_entries.specs.Entry.{Item, SpellsEntry}
-use Rattle.gix_object_entries.specs.Order.{is_tree}
+use Rattle.gix_object_tree.specs.Entry.{Item, SpellsEntry}
+use Rattle.gix_object_tree.specs.Order.{is_tree}
 use Rattle.gix_object_lookup.specs.Table.{Table}
 use Rattle.gix_traverse_tree.specs.Calls.{Call, Runs, pop_front, push_back, pop, shown, descends}
 use Rattle.gix_traverse_tree.specs.Breadth.{Tree, Listing, Level, Levels, InBreadth, behind, queued_id, under, under_root}

@@ -5,7 +5,7 @@ use Rattle.std.specs.List.{AllByRecursion}
 use Rattle.gix_hash_id.specs.Id.{Id}
 use Rattle.gix_hash_id.specs.declared.kind.Kind.{Kind}
 use Rattle.gix_object_lines.specs.declared.kind.Kind.TheVariants as kinds
-use Rattle.gix_object_entries.specs.Entry.{Item}
+use Rattle.gix_object_tree.specs.Entry.{Item}
 use Rattle.gix_object_lookup.specs.Table.{Table}
 use Rattle.gix_object_lookup.specs.Existing.{Stands}
 use Rattle.gix_traverse_tree.specs.Calls.{Call, Runs, pop_back, pop}

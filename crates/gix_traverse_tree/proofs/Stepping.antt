@@ -3,8 +3,8 @@ use Rattle.std.proofs.Common.{◌≡◌, ◌≢◌, ◌∙◌, refl, sym, ap, su
 use Rattle.std.specs.Prelude.{option_map}
 use Rattle.std.specs.Bool.{MatchBool}
 use Rattle.std.proofs.lemmas.Bool.{cases_eq}
-use Rattle.gix_object_entries.specs.Order.{is_tree}
-use Rattle.gix_object_entries.specs.Reading.{Place}
+use Rattle.gix_object_tree.specs.Order.{is_tree}
+use Rattle.gix_object_tree.specs.Reading.{Place}
 use Rattle.gix_object_lookup.specs.Path.{FindsFirst, IsNamedBy, IsBelow}
 use Rattle.gix_object_lookup.specs.Table.{Table}
 use Rattle.gix_traverse_tree.specs.AtPaths.{Answer}

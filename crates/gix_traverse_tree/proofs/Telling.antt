@@ -4,10 +4,10 @@ use Rattle.std.specs.Prelude.{option_map}
 use Rattle.std.proofs.lemmas.List.Elements.{All-push, All-nil}
 use Rattle.gix_hash_id.specs.declared.kind.Kind.{Kind}
 use Rattle.gix_object_lines.specs.declared.decode.Error as decode
-use Rattle.gix_object_entries.specs.Entry.{Item, item_of, SpellsEntry, SpellsNoEntry, SpellsEntries, SpellsTree, EntryFault}
-use Rattle.gix_object_entries.specs.Reading.{Place, start, Steps}
-use Rattle.gix_object_entries.specs.declared.tree.entry.EntryRef.{EntryRef}
-use Rattle.gix_object_entries.proofs.Spelled.{entries_more}
+use Rattle.gix_object_tree.specs.Entry.{Item, item_of, SpellsEntry, SpellsNoEntry, SpellsEntries, SpellsTree, EntryFault}
+use Rattle.gix_object_tree.specs.Reading.{Place, start, Steps}
+use Rattle.gix_object_tree.specs.declared.tree.entry.EntryRef.{EntryRef}
+use Rattle.gix_object_tree.proofs.Spelled.{entries_more}
 use Rattle.gix_object_lookup.specs.Path.{FindsFirst, LackName}
 use Rattle.gix_traverse_tree.specs.AtPaths.{Answer, IsUnread}
 use Rattle.gix_traverse_tree.specs.Folders.{number_in}

@@ -6,13 +6,13 @@ use Rattle.gix_hash_id.specs.Id.{Id, id_of}
 use Rattle.gix_hash_id.specs.declared.object_id.ObjectId.{ObjectId}
 use Rattle.gix_object_lines.specs.declared.decode.Error as decode
 use Rattle.gix_object_lines.specs.declared.kind.Kind.TheVariants as kinds
-use Rattle.gix_object_entries.specs.Entry.{Item, FaultBehind}
-use Rattle.gix_object_entries.specs.Mode.{kind_value}
-use Rattle.gix_object_entries.specs.ModeText.{Mode, mode_of}
-use Rattle.gix_object_entries.specs.Order.{is_tree}
-use Rattle.gix_object_entries.specs.Reading.{Place}
-use Rattle.gix_object_entries.specs.declared.tree.mode.EntryKind.TheVariants as entries
-use Rattle.gix_object_entries.specs.declared.tree.mode.EntryMode.{EntryMode}
+use Rattle.gix_object_tree.specs.Entry.{Item, FaultBehind}
+use Rattle.gix_object_tree.specs.Mode.{kind_value}
+use Rattle.gix_object_tree.specs.ModeText.{Mode, mode_of}
+use Rattle.gix_object_tree.specs.Order.{is_tree}
+use Rattle.gix_object_tree.specs.Reading.{Place}
+use Rattle.gix_object_tree.specs.declared.tree.mode.EntryKind.TheVariants as entries
+use Rattle.gix_object_tree.specs.declared.tree.mode.EntryMode.{EntryMode}
 use Rattle.gix_object_lookup.specs.Existing.{KindFault}
 use Rattle.gix_object_lookup.specs.Path.{Path, Follows, IsNamedBy}
 use Rattle.gix_object_lookup.specs.Table.{Table}

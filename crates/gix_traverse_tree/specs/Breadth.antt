@@ -5,7 +5,7 @@ use Rattle.std.specs.declared.ops.ControlFlow.TheVariants.{Continue, Break}
 use Rattle.gix_hash_id.specs.Id.{Id}
 use Rattle.gix_hash_id.specs.declared.kind.Kind.{Kind}
 use Rattle.gix_object_lines.specs.declared.decode.Error as decode
-use Rattle.gix_object_entries.specs.Entry.{Item, SpellsEntry, SpellsNoEntry, EntryFault}
+use Rattle.gix_object_tree.specs.Entry.{Item, SpellsEntry, SpellsNoEntry, EntryFault}
 use Rattle.gix_object_lookup.specs.Table.{Table}
 use Rattle.gix_traverse_tree.specs.Calls.{Call, pop_front, push_back, pop, shown, descends}
 use Rattle.gix_traverse_tree.specs.Trees.{End, whole, failed, IsRead, TreeFault}

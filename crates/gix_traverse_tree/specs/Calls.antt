@@ -2,8 +2,8 @@
 use Rattle.std.specs.Prelude.{ℕ, ◌≡◌, ◌&&◌, Bool, false, List, [], ◌∷◌, if◌then◌else◌}
 use Rattle.std.specs.declared.ops.ControlFlow.{ControlFlow}
 use Rattle.std.specs.declared.ops.ControlFlow.TheVariants.{Continue, Break}
-use Rattle.gix_object_entries.specs.Entry.{Item}
-use Rattle.gix_object_entries.specs.Order.{is_tree}
+use Rattle.gix_object_tree.specs.Entry.{Item}
+use Rattle.gix_object_tree.specs.Order.{is_tree}
 
 -- what a delegate returns from a visit
 abbrev pub Answer : Type 0

@@ -3,10 +3,10 @@
 use Rattle.std.specs.Prelude.{ℕ, zero, suc, ◌≡◌, ◌<◌, ◌≤◌, ◌⊎◌, true, List, [], ◌∷◌, Option, None, Some, length, slice_index_or, option_map, bytes_eq, if◌then◌else◌}
 use Rattle.gix_hash_id.specs.Id.{id_of}
 use Rattle.gix_object_lines.specs.declared.kind.Kind.TheVariants as kinds
-use Rattle.gix_object_entries.specs.Entry.{Item}
-use Rattle.gix_object_entries.specs.ModeText.{mode_of}
-use Rattle.gix_object_entries.specs.Order.{is_tree}
-use Rattle.gix_object_entries.specs.Reading.{Place}
+use Rattle.gix_object_tree.specs.Entry.{Item}
+use Rattle.gix_object_tree.specs.ModeText.{mode_of}
+use Rattle.gix_object_tree.specs.Order.{is_tree}
+use Rattle.gix_object_tree.specs.Reading.{Place}
 use Rattle.gix_object_lookup.specs.Existing.{KindFault}
 use Rattle.gix_object_lookup.specs.Path.{IsBelow, IsNamedBy}
 use Rattle.gix_object_lookup.specs.Table.{Table}

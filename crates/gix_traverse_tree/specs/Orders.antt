@@ -6,8 +6,8 @@ use Rattle.gix_hash_id.specs.Id.{Id}
 use Rattle.gix_hash_id.specs.declared.kind.Kind.{Kind}
 use Rattle.gix_object_lines.specs.Bytes.{Lacks}
 use Rattle.gix_object_lines.specs.declared.kind.Kind.TheVariants as kinds
-use Rattle.gix_object_entries.specs.Entry.{Item, SpellsEntry}
-use Rattle.gix_object_entries.specs.Order.{is_tree}
+use Rattle.gix_object_tree.specs.Entry.{Item, SpellsEntry}
+use Rattle.gix_object_tree.specs.Order.{is_tree}
 use Rattle.gix_object_lookup.specs.Table.{Table}
 use Rattle.gix_object_lookup.specs.Existing.{Stands}
 use Rattle.gix_traverse_tree.specs.Calls.{Call, push}

@@ -3,8 +3,8 @@ use Rattle.std.specs.Prelude.{ℕ, ◌≡◌, ◌-◌, ⊤, true, List, [], ◌�
 use Rattle.std.specs.List.{list_any}
 use Rattle.std.specs.declared.ops.ControlFlow.TheVariants.{Continue}
 use Rattle.gix_hash_id.specs.Id.{Id, id_of}
-use Rattle.gix_object_entries.specs.Entry.{Item}
-use Rattle.gix_object_entries.specs.ModeText.{Mode, mode_of}
+use Rattle.gix_object_tree.specs.Entry.{Item}
+use Rattle.gix_object_tree.specs.ModeText.{Mode, mode_of}
 use Rattle.gix_traverse_tree.specs.Calls.{Call, pop_back, pop_front, push_back, push, pop, at_tree, at_nontree}
 use Rattle.gix_traverse_tree.specs.declared.recorder.Entry.{Entry}
 use Rattle.gix_traverse_tree.specs.declared.recorder.Location.{Location}

@@ -3,8 +3,8 @@
 ghost use Rattle.std.specs.Prelude.{◌≡◌, ◌<◌, ◌≤◌, ℕ, List, [], length, map, IfOk, IfErr, OnOk, Some, None};
 ghost use Rattle.std.specs.List.{All};
 ghost use Rattle.gix_hash_id.specs.Id.{id_of};
-ghost use Rattle.gix_object_entries.specs.Entry.{item_of};
-ghost use Rattle.gix_object_entries.specs.Reading.{place_of};
+ghost use Rattle.gix_object_tree.specs.Entry.{item_of};
+ghost use Rattle.gix_object_tree.specs.Reading.{place_of};
 ghost use Rattle.gix_object_lookup.specs.Path.{FindsFirst};
 ghost use Rattle.gix_traverse_tree.specs.AtPaths.{names_of, root_item, IsUnread, TellsEach, AsksFor, AsksForAll, EntriesFault};
 ghost use Rattle.gix_traverse_tree.specs.Folders.{number_in, IsNumbered};
@@ -14,10 +14,10 @@ use crate::error::Error;
 use crate::folders::{Folder, number_paths};
 use crate::lookup::read_tree;
 use gix_hash::ObjectId;
-use gix_object_entries::TreeRefIter;
-use gix_object_entries::tree::{EntryKind, EntryMode, EntryRef};
 use gix_object_lines::decode;
 use gix_object_lookup::FindInto;
+use gix_object_tree::TreeRefIter;
+use gix_object_tree::tree::{EntryKind, EntryMode, EntryRef};
 use std::alloc::{AllocError, Global};
 
 /// What looking at several paths keeps. Several calls may use one after another, which saves

@@ -3,8 +3,8 @@
 ghost use Rattle.std.specs.Prelude.{◌≡◌, ◌↔◌, ◌<◌, ◌≤◌, ◌++◌, ◌∷◌, [], ℕ, List, Option, Some, IfOk, IfErr, IfSome, IsOk, OnOk, length, true, map};
 ghost use Rattle.std.specs.declared.ops.ControlFlow.TheVariants.{Continue, Break};
 ghost use Rattle.gix_hash_id.specs.Id.{Id, id_of};
-ghost use Rattle.gix_object_entries.specs.Entry.{item_of};
-ghost use Rattle.gix_object_entries.specs.Reading.{place_of};
+ghost use Rattle.gix_object_tree.specs.Entry.{item_of};
+ghost use Rattle.gix_object_tree.specs.Reading.{place_of};
 ghost use Rattle.gix_traverse_tree.specs.declared.error.Error.TheVariants.{Cancelled};
 ghost use Rattle.gix_traverse_tree.specs.Calls.{Runs, shown, descends};
 ghost use Rattle.gix_traverse_tree.specs.Trees.{whole, failed, is_among};
@@ -16,9 +16,9 @@ pub use crate::error::Error;
 use crate::lookup::read_tree;
 use crate::{Visit, visit};
 use gix_hash::ObjectId;
-use gix_object_entries::TreeRefIter;
-use gix_object_entries::tree::EntryRef;
 use gix_object_lookup::FindInto;
+use gix_object_tree::TreeRefIter;
+use gix_object_tree::tree::EntryRef;
 use std::alloc::{AllocError, Global};
 use std::ops::ControlFlow;
 

@@ -2,12 +2,12 @@
 
 ghost use Rattle.std.specs.Prelude.{IfOk, OnOk};
 ghost use Rattle.bstr.specs.BStr.{bstr_bytes};
-ghost use Rattle.gix_object_entries.specs.Entry.{item_of};
+ghost use Rattle.gix_object_tree.specs.Entry.{item_of};
 ghost use Rattle.gix_traverse_tree.specs.Calls.{Call, pop_back, pop_front, push_back, push, pop, at_tree, at_nontree};
 
 use crate::visit::{Action, Error};
 use bstr::BStr;
-use gix_object_entries::tree::EntryRef;
+use gix_object_tree::tree::EntryRef;
 
 /// Is called by a walk over trees at each entry, and follows the way there. Each call that finds no
 /// memory ends the walk.

@@ -4,7 +4,7 @@ ghost use Rattle.std.specs.Prelude.{◌≡◌, ◌<◌, ◌++◌, ◌∷◌, [],
 ghost use Rattle.std.specs.List.{list_any};
 ghost use Rattle.gix_hash_id.specs.Id.{id_of};
 ghost use Rattle.gix_hash_id.specs.Order.{id_eq};
-ghost use Rattle.gix_object_entries.specs.Entry.{item_of};
+ghost use Rattle.gix_object_tree.specs.Entry.{item_of};
 ghost use Rattle.gix_traverse_tree.specs.Calls.{Runs};
 ghost use Rattle.gix_traverse_tree.specs.Trees.{failed, TreeFault};
 ghost use Rattle.gix_traverse_tree.specs.Nodes.{MemoryOr};
@@ -16,9 +16,9 @@ use crate::lookup::read_tree;
 use crate::{Visit, visit};
 use bstr::BStr;
 use gix_hash::ObjectId;
-use gix_object_entries::TreeRefIter;
-use gix_object_entries::tree::EntryRef;
 use gix_object_lookup::FindInto;
+use gix_object_tree::TreeRefIter;
+use gix_object_tree::tree::EntryRef;
 use std::alloc::{AllocError, Global};
 use std::ops::ControlFlow;
 

@@ -1,12 +1,12 @@
 //! Showing one entry to a delegate.
 
 ghost use Rattle.std.specs.Prelude.{IfOk};
-ghost use Rattle.gix_object_entries.specs.Entry.{item_of};
+ghost use Rattle.gix_object_tree.specs.Entry.{item_of};
 ghost use Rattle.gix_traverse_tree.specs.Calls.{Runs, shown};
 
 use crate::Visit;
 use crate::visit::{Action, Error};
-use gix_object_entries::tree::EntryRef;
+use gix_object_tree::tree::EntryRef;
 
 /// Gives the delegate the entry's name, shows it the entry, and returns its reply.
 pub(crate) fn show<V: Visit>(entry: &EntryRef<'_>, delegate: &mut V) -> Result<Action, Error>

@@ -2,7 +2,7 @@
 
 ghost use Rattle.std.specs.Prelude.{◌≡◌, [], Some, IfOk, IsOk, OnOk, map, take, unwrap_or};
 ghost use Rattle.bstr.specs.BStr.{bstr_bytes};
-ghost use Rattle.gix_object_entries.specs.Entry.{item_of};
+ghost use Rattle.gix_object_tree.specs.Entry.{item_of};
 ghost use Rattle.gix_traverse_tree.specs.Calls.{pop_back, pop_front, pop};
 ghost use Rattle.gix_traverse_tree.specs.declared.recorder.Location.TheVariants as locations;
 ghost use Rattle.gix_traverse_tree.specs.Recorder.{Records, Recorded, Recording, joined, parent, recorded_of, recording_of, with_entry};
@@ -11,9 +11,9 @@ use crate::Visit;
 use crate::visit::{Action, Error};
 use bstr::BStr;
 use gix_hash::ObjectId;
-use gix_object_entries::tree::{EntryMode, EntryRef};
 use gix_object_lines::ByteString;
 use gix_object_lines::cut::rsplit_once;
+use gix_object_tree::tree::{EntryMode, EntryRef};
 use std::alloc::{AllocError, Global};
 use std::collections::VecDeque;
 use std::ops::ControlFlow;

@@ -5,20 +5,20 @@ use Rattle.std.specs.FinMap.{contains_key}
 use Rattle.gix_ref_file.specs.History.{History, Adds}
 use Rattle.gix_ref_file.proofs.Histories.{adds_weaker}
 use Rattle.gix_traverse_commit_known.specs.Told.{rows_of}
-use Rattle.gix_traverse_commit_graph.specs.declared.rows.Row.{Row}
+use Rattle.gix_traverse_graph.specs.declared.rows.Row.{Row}
 use Rattle.history_model.specs.Causes.{first_cause}
 use Rattle.history_model.specs.Commands.{Command, Commit, Tag}
 use Rattle.history_model.specs.Forms.{is_name}
 use Rattle.history_model.specs.Meaning.{after, takes_id}
 use Rattle.history_model.specs.Wholeness.{IsSound}
 use Rattle.history_model.specs.declared.Fault.{Fault}
-use Rattle.history_steps.specs.OneNameSteps.{MovesOneName, NameMove, commit_move, entry_of_move, tag_move}
-use Rattle.history_steps.specs.Passing.{HoldsBetween, MovesOnTheWay}
-use Rattle.history_steps.specs.TreeHalves.{HoldsValues}
-use Rattle.history_steps.specs.TreeSteps.{MovesName}
-use Rattle.history_steps.proofs.OneNameStands.{commits_move_one_name, tags_move_one_name}
-use Rattle.history_steps.proofs.PassedNames.{files_pass}
-use Rattle.history_steps.proofs.TreePuts.{halves_stand}
+use Rattle.history_layout.specs.OneNameSteps.{MovesOneName, NameMove, commit_move, entry_of_move, tag_move}
+use Rattle.history_layout.specs.Passing.{HoldsBetween, MovesOnTheWay}
+use Rattle.history_layout.specs.TreeHalves.{HoldsValues}
+use Rattle.history_layout.specs.TreeSteps.{MovesName}
+use Rattle.history_layout.proofs.OneNameStands.{commits_move_one_name, tags_move_one_name}
+use Rattle.history_layout.proofs.PassedNames.{files_pass}
+use Rattle.history_layout.proofs.TreePuts.{halves_stand}
 use Rattle.history_texts.specs.Formats.{entry_of}
 use Rattle.history_names.specs.Packing.{KeepsRecords}
 use Rattle.history_repository.specs.Face.{KeepsAllButNames, names_part}

@@ -16,18 +16,18 @@ use Rattle.history_model.specs.StandsFor.{head_text}
 use Rattle.history_model.specs.Wholeness.{IsSound}
 use Rattle.history_model.proofs.WholeSteps.{steps_keep_sound}
 use Rattle.history_model.proofs.WholeLists.{either, same_text}
-use Rattle.history_steps.specs.Passing.{HoldsBetween}
-use Rattle.history_steps.specs.SwitchSteps.{HeadOnTheWay, NamesBranch}
-use Rattle.history_steps.specs.TreeHalves.{HoldsNames, HoldsValues}
-use Rattle.history_steps.proofs.HeadSwitched.{switches_pass, switches_stand}
-use Rattle.history_steps.proofs.TreePuts.{halves_stand}
+use Rattle.history_layout.specs.Passing.{HoldsBetween}
+use Rattle.history_layout.specs.SwitchSteps.{HeadOnTheWay, NamesBranch}
+use Rattle.history_layout.specs.TreeHalves.{HoldsNames, HoldsValues}
+use Rattle.history_layout.proofs.HeadSwitched.{switches_pass, switches_stand}
+use Rattle.history_layout.proofs.TreePuts.{halves_stand}
 use Rattle.gix_ref_way.specs.Ways.{SameFolders}
 use Rattle.history_names.specs.References.{head_lock}
 use Rattle.history_objects.specs.Face.{ids_of_objects}
 use Rattle.history_names.specs.Packing.{KeepsRecords}
 use Rattle.history_names.specs.References.{HasHeadRoom, MayBeWritten, PutsBeside, lock_place}
 use Rattle.gix_traverse_commit_known.specs.Told.{rows_of}
-use Rattle.gix_traverse_commit_graph.specs.declared.rows.Row.{Row}
+use Rattle.gix_traverse_graph.specs.declared.rows.Row.{Row}
 use Rattle.history_repository.specs.Face.{names_part, rows_in}
 use Rattle.history_repository.specs.KeptRows.{AgreeRows}
 use Rattle.history_plans.specs.Halves.{names_tree, objects_tree}

@@ -13,8 +13,8 @@ use Rattle.history_model.specs.Replies.{Committed, Deleted, Moved, Packed, Renam
 use Rattle.history_model.specs.Spelling.{Line, part_text, parts_text}
 use Rattle.history_model.specs.declared.Fault.{Fault}
 use Rattle.history_model.specs.declared.Fault.TheVariants.{Memory, File, IdTaken}
-use Rattle.history_steps.specs.OneNameSteps.{commit_move, tag_move}
-use Rattle.history_steps.specs.PackSteps.{PacksNames}
+use Rattle.history_layout.specs.OneNameSteps.{commit_move, tag_move}
+use Rattle.history_layout.specs.PackSteps.{PacksNames}
 use Rattle.history_repository.specs.declared.stopped.Stopped.{Stopped}
 use Rattle.history.specs.Acts.{Acts}
 use Rattle.history.specs.Moving.{LeavesMoved}

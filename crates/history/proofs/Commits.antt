@@ -8,7 +8,7 @@ use Rattle.history_model.specs.Commands.{Commit, CommitCommand, Tag, TagCommand}
 use Rattle.history_model.specs.Meaning.{branch_or_name}
 use Rattle.history_model.specs.Causes.{holds, first_cause}
 use Rattle.history_model.specs.declared.Cause.TheVariants.{BadName, PrivateName, Collides}
-use Rattle.history_steps.specs.OneNameSteps.{NameMove, commit_move, tag_move}
+use Rattle.history_layout.specs.OneNameSteps.{NameMove, commit_move, tag_move}
 use Rattle.history_model.proofs.WholeReads.{no_cause, tests_collides}
 use Rattle.history_plans.specs.Halves.{FitsAmong}
 use Rattle.history_plans.specs.Plans.{IsMove}

@@ -17,12 +17,12 @@ use Rattle.history_model.specs.Steps.{Accepts}
 use Rattle.history_model.specs.StandsFor.{StandsFor}
 use Rattle.history_model.specs.declared.Cause.{Cause}
 use Rattle.history_model.specs.declared.Cause.TheVariants.{NoSuchName}
-use Rattle.history_steps.specs.TakeSteps.{TakesName, TakesOnTheWay}
-use Rattle.history_steps.specs.Passing.{HoldsBetween}
-use Rattle.history_steps.specs.TreeHalves.{HoldsNames}
-use Rattle.history_steps.proofs.Takings.{takings_pass, takings_stand}
-use Rattle.history_steps.proofs.PassedStates.{names_pass}
-use Rattle.history_steps.proofs.TreePuts.{halves_stand}
+use Rattle.history_layout.specs.TakeSteps.{TakesName, TakesOnTheWay}
+use Rattle.history_layout.specs.Passing.{HoldsBetween}
+use Rattle.history_layout.specs.TreeHalves.{HoldsNames}
+use Rattle.history_layout.proofs.Takings.{takings_pass, takings_stand}
+use Rattle.history_layout.proofs.PassedStates.{names_pass}
+use Rattle.history_layout.proofs.TreePuts.{halves_stand}
 use Rattle.history_names.specs.Packing.{HasPackedRoom, IsPackedForm, IsTaken, MayTake}
 use Rattle.history_names.specs.References.{SameFolders, lock_place}
 use Rattle.history_plans.specs.CommitCauses.{first_among, held_causes, word_causes}

@@ -14,11 +14,11 @@ use Rattle.history_model.specs.StandsFor.{StandsFor}
 use Rattle.history_model.specs.Wholeness.{IsSound}
 use Rattle.history_model.specs.declared.Fault.{Fault}
 use Rattle.history_model.proofs.WholeSteps.{steps_keep_sound}
-use Rattle.history_steps.specs.MoveSteps.{FitsThen, IsNextLine, after_lines, line_entry}
-use Rattle.history_steps.specs.Passing.{HoldsBetween, MovesOnTheWay}
-use Rattle.history_steps.specs.TreeSteps.{MovesName}
-use Rattle.history_steps.proofs.MoveLines.{next_lines_fit, next_lines_move, next_lines_pass}
-use Rattle.history_steps.proofs.TreePuts.{halves_stand}
+use Rattle.history_layout.specs.MoveSteps.{FitsThen, IsNextLine, after_lines, line_entry}
+use Rattle.history_layout.specs.Passing.{HoldsBetween, MovesOnTheWay}
+use Rattle.history_layout.specs.TreeSteps.{MovesName}
+use Rattle.history_layout.proofs.MoveLines.{next_lines_fit, next_lines_move, next_lines_pass}
+use Rattle.history_layout.proofs.TreePuts.{halves_stand}
 use Rattle.history_texts.specs.Formats.{entry_of}
 use Rattle.history_names.specs.Packing.{KeepsRecords}
 use Rattle.history.specs.Acts.{CountsRise, KeepsCounts}

@@ -11,12 +11,12 @@ use Rattle.history_model.specs.Stops.{is_changing}
 use Rattle.history_model.specs.StandsFor.{StandsFor}
 use Rattle.history_model.specs.Wholeness.{IsSound}
 use Rattle.history_model.proofs.WholeSteps.{steps_keep_sound}
-use Rattle.history_steps.specs.TreeHalves.{HoldsValues}
-use Rattle.history_steps.proofs.TreePuts.{halves_stand}
+use Rattle.history_layout.specs.TreeHalves.{HoldsValues}
+use Rattle.history_layout.proofs.TreePuts.{halves_stand}
 use Rattle.history_objects.specs.Face.{ids_of_objects}
 use Rattle.history_names.specs.Packing.{KeepsRecords}
 use Rattle.gix_traverse_commit_known.specs.Told.{rows_of}
-use Rattle.gix_traverse_commit_graph.specs.declared.rows.Row.{Row}
+use Rattle.gix_traverse_graph.specs.declared.rows.Row.{Row}
 use Rattle.history_repository.specs.Face.{names_part, rows_in, KeepsAllButNames}
 use Rattle.history_repository.specs.KeptRows.{AgreeRows}
 use Rattle.history_plans.specs.Halves.{NamesStand, names_tree, objects_tree}

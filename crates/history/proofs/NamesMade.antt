@@ -11,9 +11,9 @@ use Rattle.history_model.specs.Meaning.{after}
 use Rattle.history_model.specs.Replies.{Deleted, Moved, Packed, Renamed}
 use Rattle.history_model.specs.Repository.{stands}
 use Rattle.history_model.specs.declared.Fault.{Fault}
-use Rattle.history_steps.specs.PackSteps.{PacksNames, PacksOnTheWay}
-use Rattle.history_steps.specs.Passing.{HoldsBetween}
-use Rattle.history_steps.specs.TakeSteps.{TakesName, TakesOnTheWay}
+use Rattle.history_layout.specs.PackSteps.{PacksNames, PacksOnTheWay}
+use Rattle.history_layout.specs.Passing.{HoldsBetween}
+use Rattle.history_layout.specs.TakeSteps.{TakesName, TakesOnTheWay}
 use Rattle.history_names.specs.Packed.{records_of}
 use Rattle.history_names.specs.Packing.{KeepsRecords}
 use Rattle.history_names.specs.declared.packs.PackedName.{PackedName}

@@ -8,11 +8,11 @@ use Rattle.history_model.specs.Meaning.{after}
 use Rattle.history_model.specs.Replies.{Packed}
 use Rattle.history_model.specs.StandsFor.{StandsFor}
 use Rattle.history_model.specs.Steps.{Accepts}
-use Rattle.history_steps.specs.PackSteps.{PacksNames, PacksOnTheWay}
-use Rattle.history_steps.specs.Passing.{HoldsBetween}
-use Rattle.history_steps.specs.TreeHalves.{HoldsNames}
-use Rattle.history_steps.proofs.Packs.{packs_pass, packs_stand}
-use Rattle.history_steps.proofs.TreePuts.{halves_stand}
+use Rattle.history_layout.specs.PackSteps.{PacksNames, PacksOnTheWay}
+use Rattle.history_layout.specs.Passing.{HoldsBetween}
+use Rattle.history_layout.specs.TreeHalves.{HoldsNames}
+use Rattle.history_layout.proofs.Packs.{packs_pass, packs_stand}
+use Rattle.history_layout.proofs.TreePuts.{halves_stand}
 use Rattle.history_repository.specs.Face.{KeepsAllButNames, names_part}
 use Rattle.history_plans.specs.Halves.{names_tree}
 use Rattle.history_repository.specs.Stands.{Stands, pair_of}

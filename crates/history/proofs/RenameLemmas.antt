@@ -20,14 +20,14 @@ use Rattle.history_model.specs.declared.Fault.{Fault}
 use Rattle.history_model.proofs.WholeLists.{either, none_passes, same_text}
 use Rattle.history_model.proofs.WholeReads.{no_cause, tests_no_such_name}
 use Rattle.history_model.proofs.WholeSteps.{steps_keep_sound}
-use Rattle.history_steps.specs.MoveSteps.{FitsThen}
-use Rattle.history_steps.specs.Passing.{HoldsBetween, MovesOnTheWay}
-use Rattle.history_steps.specs.RenameSteps.{IsOnItsWay, held_id, with_both}
-use Rattle.history_steps.specs.TakeSteps.{TakesName, TakesOnTheWay}
-use Rattle.history_steps.specs.TreeSteps.{MovesName}
-use Rattle.history_steps.proofs.Renames.{bringing_passes, renames_bring, renames_end, renames_fit, taking_passes}
-use Rattle.history_steps.proofs.TreeMoves.{stands_moved}
-use Rattle.history_steps.proofs.TreePuts.{halves_stand}
+use Rattle.history_layout.specs.MoveSteps.{FitsThen}
+use Rattle.history_layout.specs.Passing.{HoldsBetween, MovesOnTheWay}
+use Rattle.history_layout.specs.RenameSteps.{IsOnItsWay, held_id, with_both}
+use Rattle.history_layout.specs.TakeSteps.{TakesName, TakesOnTheWay}
+use Rattle.history_layout.specs.TreeSteps.{MovesName}
+use Rattle.history_layout.proofs.Renames.{bringing_passes, renames_bring, renames_end, renames_fit, taking_passes}
+use Rattle.history_layout.proofs.TreeMoves.{stands_moved}
+use Rattle.history_layout.proofs.TreePuts.{halves_stand}
 use Rattle.history_texts.specs.Formats.{entry_of}
 use Rattle.history_names.specs.Packing.{KeepsRecords}
 use Rattle.history_repository.specs.Face.{names_part}

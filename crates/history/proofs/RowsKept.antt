@@ -4,9 +4,9 @@ use Rattle.std.specs.Prelude.{Contains, IsErrAnd, MatchBool, OnErr, OnOk}
 use Rattle.std.specs.FinMap.{empty, get, keys}
 use Rattle.std.specs.declared.alloc.Global.{Global}
 use Rattle.std.proofs.lemmas.List.{length-map}
-use Rattle.gix_traverse_commit_graph.specs.Rows.{AreRows, IsRowsFault}
-use Rattle.gix_traverse_commit_graph.specs.declared.rows.Row.{Row}
-use Rattle.gix_traverse_commit_graph.specs.declared.rows.RowsError.{RowsError}
+use Rattle.gix_traverse_graph.specs.Rows.{AreRows, IsRowsFault}
+use Rattle.gix_traverse_graph.specs.declared.rows.Row.{Row}
+use Rattle.gix_traverse_graph.specs.declared.rows.RowsError.{RowsError}
 use Rattle.history_model.specs.Answers.{Answers, counted, is_counted, row_of, rows_of}
 use Rattle.history_model.specs.Commands.{Command, Commit, Tag, Move, Rename, Delete, Switch, Pack, Index, Names, Files, Past, Log, Show}
 use Rattle.history_model.specs.Objects.{CommitValue, folder_id}
@@ -32,7 +32,7 @@ use Rattle.history_repository.specs.Stands.{Stands}
 use Rattle.history_repository.specs.declared.stopped.Stopped.{Stopped}
 use Rattle.history_repository.specs.declared.stopped.Stopped.TheVariants.{Fault}
 use Rattle.history_queries.proofs.Answered.{handed_on, reading_fault}
-use Rattle.gix_traverse_commit_graph.specs.declared.rows.RowsError.TheVariants as rows_errors
+use Rattle.gix_traverse_graph.specs.declared.rows.RowsError.TheVariants as rows_errors
 use Rattle.history_model.specs.Answers as model
 use Rattle.history_model.specs.declared.Fault as faults
 use Rattle.history_model.specs.declared.Fault.TheVariants as model_faults

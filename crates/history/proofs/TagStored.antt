@@ -10,8 +10,8 @@ use Rattle.history_model.specs.Commands.{Tag, TagCommand}
 use Rattle.history_model.specs.Meaning.{new_tag, store_all, store_one, stored_by}
 use Rattle.history_model.specs.Wholeness.{IsSound}
 use Rattle.history_model.specs.declared.Fault.TheVariants.{Memory, File, IdTaken}
-use Rattle.history_steps.specs.Passing.{HoldsFirst}
-use Rattle.history_steps.proofs.PassedStops.{first_are_some, tags_store_whole}
+use Rattle.history_layout.specs.Passing.{HoldsFirst}
+use Rattle.history_layout.proofs.PassedStops.{first_are_some, tags_store_whole}
 use Rattle.history_objects.specs.Stores.{IsObjectOf}
 use Rattle.history_repository.specs.Face.{objects_part}
 use Rattle.history_plans.specs.Halves.{KnowsIds, ObjectsStand, StoresValues}

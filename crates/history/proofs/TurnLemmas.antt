@@ -22,7 +22,7 @@ use Rattle.history.specs.declared.running.RunError.{RunError}
 use Rattle.history.specs.declared.running.RunError.TheVariants.{Read, Write}
 use Rattle.gix_ref_file.specs.History.{History, HasRisen}
 use Rattle.history_model.specs.Moments.{Moment, Traces, HasFailedCall as Failed}
-use Rattle.gix_traverse_commit_graph.specs.declared.rows.Row.{Row}
+use Rattle.gix_traverse_graph.specs.declared.rows.Row.{Row}
 use Rattle.history.specs.Acts.{IsAnswer}
 use Rattle.history.specs.Indexed.{FollowsRows}
 use Rattle.history.specs.NameFiles.{AllLeaveAsSaid}

@@ -1,7 +1,7 @@
 -- The rows of the last `ok index`.
 use Rattle.std.specs.Prelude.{◌≡◌, ℕ, List, Option, None, Some, Result, Ok, Vec}
 use Rattle.std.specs.declared.alloc.Global.{Global}
-use Rattle.gix_traverse_commit_graph.specs.declared.rows.Row.{Row}
+use Rattle.gix_traverse_graph.specs.declared.rows.Row.{Row}
 use Rattle.history_model.specs.Answers.{rows_of}
 use Rattle.history_model.specs.Commands.{Command, Index}
 use Rattle.history_model.specs.Replies.{Reply}

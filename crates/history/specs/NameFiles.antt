@@ -9,8 +9,8 @@ use Rattle.history_model.specs.Moments.{CountsStay, Moment, StoodAt}
 use Rattle.history_model.specs.Places.{file_at, head_place, is_lock_file, log_place, packed_place}
 use Rattle.history_model.specs.Replies.{Committed, Deleted, Faulted, Packed, Renamed, Reply, Switched, Tagged}
 use Rattle.history_model.specs.Steps.{next}
-use Rattle.history_steps.specs.OneNameSteps.{commit_move, tag_move}
-use Rattle.history_steps.specs.PackSteps.{PacksNames}
+use Rattle.history_layout.specs.OneNameSteps.{commit_move, tag_move}
+use Rattle.history_layout.specs.PackSteps.{PacksNames}
 use Rattle.history_repository.specs.declared.stopped.Stopped.{Stopped}
 use Rattle.history_model.specs.Repository as plain
 use Rattle.history_model.specs.declared.Fault.TheVariants.{File}

@@ -6,8 +6,8 @@ use Rattle.history_model.specs.Meaning.{after, takes_id}
 use Rattle.history_model.specs.Steps.{MayTake}
 use Rattle.history_model.specs.Stops.{is_changing}
 use Rattle.history_model.specs.declared.Fault.TheVariants.{Memory, File, IdTaken}
-use Rattle.history_steps.specs.OneNameSteps.{commit_move, tag_move}
-use Rattle.history_steps.specs.TreeHalves.{HoldsValues}
+use Rattle.history_layout.specs.OneNameSteps.{commit_move, tag_move}
+use Rattle.history_layout.specs.TreeHalves.{HoldsValues}
 use Rattle.history_objects.specs.Face.{kind_of_objects}
 use Rattle.history_word.specs.Commands.{IsCommandOf}
 use Rattle.history_word.specs.declared.command.Command.{Command}

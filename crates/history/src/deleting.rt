@@ -4,7 +4,7 @@ ghost use Rattle.std.specs.Prelude.{◌≡◌, Option, IsTrue, OnOk, IsErrOf};
 ghost use Rattle.gix_ref_file.specs.History.{Adds};
 ghost use Rattle.history_model.specs.Bytes.{Bytes};
 ghost use Rattle.history_model.specs.Repository.{stands};
-ghost use Rattle.history_steps.specs.TakeSteps.{TakesName, TakesOnTheWay};
+ghost use Rattle.history_layout.specs.TakeSteps.{TakesName, TakesOnTheWay};
 ghost use Rattle.history_names.specs.Face.{kind_of_names};
 ghost use Rattle.history_names.specs.Packing.{KeepsRecords};
 ghost use Rattle.history_word.specs.Commands.{IsDelete};

@@ -11,7 +11,7 @@ ghost use Rattle.history_model.specs.Commands as orders;
 ghost use Rattle.history_model.specs.Repository as plain;
 
 use gix_ref_file::Files;
-use gix_traverse_commit_graph::Graph;
+use gix_traverse_graph::Graph;
 use history_queries::{all_rows, line};
 use history_repository::{Repository, Stopped};
 use std::alloc::{AllocError, Global};

@@ -39,7 +39,7 @@ pub mod commands {
 
 pub use act::answer;
 pub use gix_hash::{Kind, ObjectId, Prefix, oid};
-pub use gix_traverse_commit_graph::{Graph, Row};
+pub use gix_traverse_graph::{Graph, Row};
 pub use history_model::{Cause, End, Fault, laws};
 pub use history_recovery::{RecoverError, recover};
 pub use history_repository::{NamedBy, OpenError, OpenRefusal, Stopped};

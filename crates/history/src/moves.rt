@@ -6,7 +6,7 @@
 ghost use Rattle.std.specs.Prelude.{◌≡◌, Ok, IsOk, IfErr, OnOk, false, IsErrOf};
 ghost use Rattle.gix_ref_file.specs.History.{Adds};
 ghost use Rattle.history_model.specs.Meaning.{after};
-ghost use Rattle.history_steps.specs.Passing.{HoldsBetween};
+ghost use Rattle.history_layout.specs.Passing.{HoldsBetween};
 ghost use Rattle.history_names.specs.Face.{kind_of_names};
 ghost use Rattle.history_objects.specs.Face.{kind_of_objects};
 ghost use Rattle.history_repository.specs.Face.{KeepsAllButObjects, names_part, objects_part};

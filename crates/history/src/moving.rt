@@ -3,7 +3,7 @@
 ghost use Rattle.std.specs.Prelude.{◌≡◌, OnOk, IsErrOf};
 ghost use Rattle.gix_ref_file.specs.History.{Adds};
 ghost use Rattle.history_model.specs.Meaning.{after};
-ghost use Rattle.history_steps.specs.Passing.{HoldsBetween};
+ghost use Rattle.history_layout.specs.Passing.{HoldsBetween};
 ghost use Rattle.history_names.specs.Face.{kind_of_names};
 ghost use Rattle.history_word.specs.Commands.{IsMove};
 ghost use Rattle.history.specs.Acts.{CountsFailure, CountsRise, KeepsCounts, OnlyFileCounts};

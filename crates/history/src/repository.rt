@@ -5,7 +5,7 @@ ghost use Rattle.gix_ref_file.specs.History.{Adds};
 ghost use Rattle.history_model.specs.Meaning.{after};
 ghost use Rattle.history_model.specs.Repository.{fresh};
 ghost use Rattle.history_model.specs.StandsFor.{StandsWhole};
-ghost use Rattle.history_steps.specs.Passing.{HoldsBetween};
+ghost use Rattle.history_layout.specs.Passing.{HoldsBetween};
 ghost use Rattle.history_objects.specs.Face.{kind_of_objects};
 ghost use Rattle.history_names.specs.Face.{kind_of_names};
 ghost use Rattle.history_store.specs.Creation.{IsNew};
@@ -28,7 +28,7 @@ ghost use Rattle.history_repository.specs.declared.stopped.Stopped.TheVariants a
 use crate::moves::{Moves, move_names, store_objects};
 use gix_hash::Kind;
 use gix_ref_file::Files;
-use gix_traverse_commit_graph::Graph;
+use gix_traverse_graph::Graph;
 use history_model::Fault;
 use history_repository::{OpenRefusal, Repository as State, Stopped};
 use history_word::Command;

@@ -5,10 +5,10 @@ use Rattle.gix_ref_file.specs.Tree.{Tree}
 use Rattle.history_texts.specs.declared.parts.Part.TheVariants.{Objects, Names}
 use Rattle.history_model.specs.Bytes.{Bytes}
 use Rattle.history_model.specs.Places.{Pair}
-use Rattle.history_names_survey.specs.Parts.{NamesBranch}
-use Rattle.history_names_survey.specs.declared.error.NamesError.{NamesError}
-use Rattle.history_names_survey.specs.declared.error.NamesError.TheVariants as names
-use Rattle.history_names_survey.specs.Told.{cause_of_names}
+use Rattle.history_check_names.specs.Parts.{NamesBranch}
+use Rattle.history_check_names.specs.declared.error.NamesError.{NamesError}
+use Rattle.history_check_names.specs.declared.error.NamesError.TheVariants as names
+use Rattle.history_check_names.specs.Told.{cause_of_names}
 use Rattle.history_actions.specs.Looking.{AreOwn, IsForeign, IsHeadless, IsRecoverable, IsStrayed}
 
 pub foreign_head : (MayFail : Type 0) (kind : Kind) (pair : Pair) (cause : NamesError)

@@ -13,8 +13,8 @@ use Rattle.history_model.specs.Bytes.{Bytes}
 use Rattle.history_model.specs.Forms.{is_branch}
 use Rattle.history_model.specs.Places.{file_at, head_place}
 use Rattle.history_model.specs.StandsFor.{head_text}
-use Rattle.history_names_survey.specs.Causes.{HasBadHead}
-use Rattle.history_names_survey.specs.Parts.{NamesBranch}
+use Rattle.history_check_names.specs.Causes.{HasBadHead}
+use Rattle.history_check_names.specs.Parts.{NamesBranch}
 use Rattle.gix_ref_way.proofs.Walked.{all_below, none_below_file, found_all}
 use Rattle.history_actions.specs.Looking.{AreOwn, AreOwnBelow, IsOwnAt, TellsHead, may_have_file}
 

@@ -13,10 +13,10 @@ use Rattle.history_model.specs.Bytes.{Bytes}
 use Rattle.history_model.specs.Forms.{is_branch, is_name}
 use Rattle.history_model.specs.Places.{Pair, file_at, head_place, packed_place, unfinished_place, is_lock_file, is_log_place, is_lower_hex, is_object_folder, log_name}
 use Rattle.history_model.specs.StandsFor.{head_text}
-use Rattle.history_names_survey.specs.Causes.{HasBadHead}
-use Rattle.history_names_survey.specs.Parts.{NamesBranch}
-use Rattle.history_names_survey.specs.declared.error.NamesError.{NamesError}
-use Rattle.history_names_survey.specs.declared.error.NamesError.TheVariants as names
+use Rattle.history_check_names.specs.Causes.{HasBadHead}
+use Rattle.history_check_names.specs.Parts.{NamesBranch}
+use Rattle.history_check_names.specs.declared.error.NamesError.{NamesError}
+use Rattle.history_check_names.specs.declared.error.NamesError.TheVariants as names
 use Rattle.history_texts.specs.declared.open_error.OpenError.{OpenError}
 use Rattle.history_texts.specs.declared.open_error.OpenError.TheVariants.{NoHead, BadHead, Stray, File, Memory}
 

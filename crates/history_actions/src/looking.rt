@@ -5,8 +5,8 @@ ghost use Rattle.gix_ref_file.specs.Calls.{Finds};
 ghost use Rattle.history_model.specs.Bytes.{Bytes};
 ghost use Rattle.history_model.specs.Forms.{is_branch, is_name};
 ghost use Rattle.history_model.specs.Places.{is_log_place, is_lower_hex, log_name};
-ghost use Rattle.history_names_survey.specs.Parts.{NamesBranch};
-ghost use Rattle.history_names_survey.specs.Told.{cause_of_names};
+ghost use Rattle.history_check_names.specs.Parts.{NamesBranch};
+ghost use Rattle.history_check_names.specs.Told.{cause_of_names};
 ghost use Rattle.history_repository.specs.Opened.{trees_of};
 ghost use Rattle.history_actions.specs.Looking.{AreOwnBelow, IsForeign, IsHeadless, IsRecoverable, IsStrayed, TellsHead, is_lock_of_place, is_names_place, is_object_place, may_have_file};
 
@@ -14,8 +14,8 @@ use gix_hash::Kind;
 use gix_object_lines::cut::{strip_prefix, strip_suffix};
 use gix_ref_file::paths::{is_deeper, joined};
 use gix_ref_file::{Files, Place};
+use history_check_names::NamesError;
 use history_model::names::{HEAD, HEADS};
-use history_names_survey::NamesError;
 use history_texts::{Part, is_name};
 use std::alloc::Global;
 

@@ -5,8 +5,8 @@ use Rattle.std.specs.declared.alloc.Global.{Global}
 use Rattle.std.proofs.lemmas.Bool.{or_parts, or_from}
 use Rattle.gix_hash_id.specs.declared.kind.Kind.{Kind}
 use Rattle.gix_ref_file.specs.Tree.{Tree, bytes_at}
-use Rattle.gix_ref_transaction.specs.PackedEdits as packed
-use Rattle.gix_ref_transaction.specs.declared.packed.Transaction.{Transaction}
+use Rattle.gix_ref_lock.specs.PackedEdits as packed
+use Rattle.gix_ref_lock.specs.declared.packed.Transaction.{Transaction}
 use Rattle.gix_ref_moves.specs.Committing.{OnTheWay, IsCommitted, EachOf, Shows, StaysYet, FileStays, LogGone, PackedStays, PackedIsNew, commit_paths}
 use Rattle.gix_ref_moves.specs.Contents.{Contents, IsBetween, contents, noted, moved as moved_by, place_of, lock_path_of, log_path_of}
 use Rattle.gix_ref_moves.specs.Moments.{SameButLocks}
@@ -22,9 +22,9 @@ use Rattle.history_model.specs.Places.{file_at, packed_place, log_place, is_lock
 use Rattle.history_model.proofs.NameLemmas.{ends_after, name-lock, log-lock}
 use Rattle.history_model.proofs.PlaceLemmas.{apart_texts, texts_apart}
 use Rattle.history_model.proofs.WholeLists.{either}
-use Rattle.history_steps.specs.EditSteps.{MovedName, NameMoved, HasGone, NameMoves, NameGoes, MayGo, ShowsMove, edited_names}
-use Rattle.history_steps.specs.TakeSteps.{LacksRecord, TakesRecord}
-use Rattle.history_steps.proofs.TreeMoves.{packed_apart, packed_no_log}
+use Rattle.history_layout.specs.EditSteps.{MovedName, NameMoved, HasGone, NameMoves, NameGoes, MayGo, ShowsMove, edited_names}
+use Rattle.history_layout.specs.TakeSteps.{LacksRecord, TakesRecord}
+use Rattle.history_layout.proofs.TreeMoves.{packed_apart, packed_no_log}
 use Rattle.history_edits.specs.Bridges.{records_end}
 use Rattle.history_edits.specs.EditCommits.{PutsName, RemovesName, AreMovesOf, IsOfRecords, RecordsGo, IsReady, IsLineFor, ReadyingPasses, CommitPasses, CommitMakes}
 

@@ -3,13 +3,13 @@ use Rattle.std.proofs.Common.{◌≡◌, true, List, subst, Option, Some, None}
 use Rattle.std.specs.List.{AllByRecursion}
 use Rattle.gix_ref_file.specs.Tree.{Tree}
 use Rattle.gix_ref_packed.specs.Edited.{Line}
-use Rattle.gix_ref_transaction.specs.declared.packed.Transaction.{Transaction}
+use Rattle.gix_ref_lock.specs.declared.packed.Transaction.{Transaction}
 use Rattle.gix_ref_repacking.specs.Repacking.{HoldsIf}
 use Rattle.history_model.specs.Bytes.{Bytes}
 use Rattle.history_model.specs.Forms.{is_name}
 use Rattle.history_model.specs.Repository.{Repository}
-use Rattle.history_steps.specs.EditSteps.{MovedName, edited_names}
-use Rattle.history_steps.specs.TreeHalves.{HoldsNames}
+use Rattle.history_layout.specs.EditSteps.{MovedName, edited_names}
+use Rattle.history_layout.specs.TreeHalves.{HoldsNames}
 use Rattle.history_edits.specs.Bridges.{root_base}
 use Rattle.history_edits.specs.EditCommits.{IsOfRecords, RecordsGo}
 use Rattle.history_edits.specs.EditPlans.{EditsReady, removals_of}

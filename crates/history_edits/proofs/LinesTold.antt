@@ -8,7 +8,7 @@ use Rattle.gix_object_lines.specs.declared.lines.actor.ActorRef.{ActorRef}
 use Rattle.gix_object_lines.specs.declared.lines.time.Time.{Time}
 use Rattle.gix_object_lines.proofs.TimeLemmas.{time_once}
 use Rattle.gix_ref_log.specs.LogLine.{line_text}
-use Rattle.gix_ref_loose_transaction.specs.LogLines.{IsLogLine}
+use Rattle.gix_ref_transaction.specs.LogLines.{IsLogLine}
 use Rattle.history_model.specs.Bytes.{Bytes, line}
 use Rattle.history_model.specs.Forms.{is_actor}
 use Rattle.history_model.specs.Logs.{log_line}

@@ -3,14 +3,14 @@ use Rattle.std.proofs.Common.{◌≡◌, true, false, ◌||◌, List, [], ◌∷
 use Rattle.std.specs.List.{list_any, list_all}
 use Rattle.std.proofs.lemmas.Bool.{and_parts, or_parts, or_from}
 use Rattle.std.proofs.lemmas.List.{append_cancel_right}
-use Rattle.gix_ref_transaction.specs.Locks.{lock_of}
-use Rattle.gix_ref_loose_transaction.specs.Paths as paths
+use Rattle.gix_ref_lock.specs.Locks.{lock_of}
+use Rattle.gix_ref_transaction.specs.Paths as paths
 use Rattle.history_model.specs.Bytes.{Bytes, has_twice}
 use Rattle.history_model.specs.Forms.{is_name}
 use Rattle.history_model.specs.Places.{packed_place, log_place, is_log_place, is_lock_file}
 use Rattle.history_model.proofs.NameLemmas.{ends_after, name-lock, name-log, log-lock}
 use Rattle.history_model.proofs.PlaceLemmas.{texts_apart, apart_texts}
-use Rattle.history_steps.proofs.TreeMoves.{packed_apart}
+use Rattle.history_layout.proofs.TreeMoves.{packed_apart}
 use Rattle.history_edits.specs.Bridges.{name_paths, PathsOnce}
 
 -- ---- one path and many

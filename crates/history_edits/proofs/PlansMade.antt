@@ -28,16 +28,16 @@ use Rattle.gix_ref_store.specs.Places as store
 use Rattle.gix_ref_store.specs.RefStates.{RefState, state_among}
 use Rattle.gix_ref_store.specs.declared.options.WriteReflog.{WriteReflog}
 use Rattle.gix_ref_store.specs.declared.options.WriteReflog.TheVariants.{Always}
-use Rattle.gix_ref_loose_transaction.specs.LogLines.{Logging, AllLined, IsLineOf, IsUpdateLine, IsLineIf, IsLineBy, end_id, has_log, id_before, is_logged, line_in}
-use Rattle.gix_ref_loose_transaction.specs.Plans.{AllPlanned, AllHold, HoldsText, IsActOf, IsDeletionBy, IsPlanOf, IsPut, IsUpdateBy, is_packed_alone}
+use Rattle.gix_ref_transaction.specs.LogLines.{Logging, AllLined, IsLineOf, IsUpdateLine, IsLineIf, IsLineBy, end_id, has_log, id_before, is_logged, line_in}
+use Rattle.gix_ref_transaction.specs.Plans.{AllPlanned, AllHold, HoldsText, IsActOf, IsDeletionBy, IsPlanOf, IsPut, IsUpdateBy, is_packed_alone}
 use Rattle.history_model.specs.Bytes.{Bytes}
 use Rattle.history_model.specs.Forms.{is_actor, is_name, is_private}
 use Rattle.history_model.specs.Places.{file_at, packed_place, log_place}
 use Rattle.history_model.specs.Repository.{Repository, id_at}
 use Rattle.history_model.proofs.FormatLemmas.{records_alike}
 use Rattle.history_model.proofs.IdLemmas.{apart_ids, one_id}
-use Rattle.history_steps.specs.EditSteps.{MovedName, edited_names}
-use Rattle.history_steps.specs.TreeHalves.{HoldsNames}
+use Rattle.history_layout.specs.EditSteps.{MovedName, edited_names}
+use Rattle.history_layout.specs.TreeHalves.{HoldsNames}
 use Rattle.history_edits.specs.Bridges.{Commits, ReadsAs, removals, root_base}
 use Rattle.history_edits.specs.EditCommits.{AreMovesOf, IsLineFor, PutsName, RemovesName}
 use Rattle.history_edits.specs.EditPlans.{AsksMove, AsksDeletion, AreEdits, BeginsHeld, PlansMove, EditsSay}

@@ -10,9 +10,9 @@ use Rattle.gix_ref_format.specs.PackedBuffer.{KeepsFile, hit}
 use Rattle.gix_ref_format.specs.PackedKept.{kept}
 use Rattle.gix_ref_format.specs.declared.packed.buffer.Buffer.{Buffer}
 use Rattle.gix_ref_packed.specs.Edited.{IsEdited, Line}
-use Rattle.gix_ref_transaction.specs.PackedEdits.{lock_path_of, place_of}
-use Rattle.gix_ref_transaction.specs.Records.{records_in, IsTextOf}
-use Rattle.gix_ref_transaction.specs.declared.packed.Transaction.{Transaction}
+use Rattle.gix_ref_lock.specs.PackedEdits.{lock_path_of, place_of}
+use Rattle.gix_ref_lock.specs.Records.{records_in, IsTextOf}
+use Rattle.gix_ref_lock.specs.declared.packed.Transaction.{Transaction}
 use Rattle.gix_ref_moves.specs.Committing.{packed_end}
 use Rattle.gix_ref_repacking.specs.Repacking.{HoldsIf, HoldsRecords, changes_record, changes_records}
 use Rattle.gix_ref_store.specs.RefStates.{records_of}
@@ -23,9 +23,9 @@ use Rattle.history_model.specs.Places.{file_at, packed_place}
 use Rattle.history_model.specs.Repository.{Repository}
 use Rattle.history_model.proofs.FormatLemmas.{records_alike}
 use Rattle.history_model.proofs.PlaceLemmas.{one_text}
-use Rattle.history_steps.specs.TakeSteps.{LacksName, LacksRecord}
-use Rattle.history_steps.specs.TreeHalves.{HoldsNames}
-use Rattle.history_steps.proofs.PackedRecords.{found_named, name_in, not_found}
+use Rattle.history_layout.specs.TakeSteps.{LacksName, LacksRecord}
+use Rattle.history_layout.specs.TreeHalves.{HoldsNames}
+use Rattle.history_layout.proofs.PackedRecords.{found_named, name_in, not_found}
 use Rattle.history_edits.specs.Bridges.{root_base, removals, records_end, RecordTaken}
 use Rattle.history_names.specs.Packing.{IsEditedText, IfSomeRecords}
 use Rattle.history_names.proofs.RecordsLeft.{removed_lacks}

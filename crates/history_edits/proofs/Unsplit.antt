@@ -3,7 +3,7 @@ use Rattle.std.proofs.Common.{◌≡◌, ℕ, zero, suc, false, cond, List, [], 
 use Rattle.std.specs.List.{AllByRecursion, cons_option}
 use Rattle.gix_ref_edit.specs.Splits.{Targets, further, hop, hop_to, hops, settled, settled_as}
 use Rattle.gix_ref_edit.specs.declared.change.RefEdit.{RefEdit}
-use Rattle.gix_ref_loose_transaction.specs.Found.{points_at}
+use Rattle.gix_ref_transaction.specs.Found.{points_at}
 use Rattle.history_edits.specs.EditPlans.{UnsplitStay}
 
 module _ (read : Targets) where

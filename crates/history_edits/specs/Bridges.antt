@@ -14,20 +14,20 @@ use Rattle.gix_ref_store.specs.Places.{Base, place}
 use Rattle.gix_ref_store.specs.Places as store
 use Rattle.gix_ref_store.specs.RefStates.{RefState, Stands, Absent, state_among}
 use Rattle.gix_ref_packed.specs.Edited.{Line}
-use Rattle.gix_ref_transaction.specs.Locks.{lock_of}
-use Rattle.gix_ref_transaction.specs.declared.packed.Transaction.{Transaction}
+use Rattle.gix_ref_lock.specs.Locks.{lock_of}
+use Rattle.gix_ref_lock.specs.declared.packed.Transaction.{Transaction}
 use Rattle.gix_ref_moves.specs.Committing.{packed_end}
 use Rattle.gix_ref_repacking.specs.Repacking.{HoldsIf}
-use Rattle.gix_ref_loose_transaction.specs.Paths as paths
-use Rattle.gix_ref_loose_transaction.specs.LogLines.{IsLogLine}
+use Rattle.gix_ref_transaction.specs.Paths as paths
+use Rattle.gix_ref_transaction.specs.LogLines.{IsLogLine}
 use Rattle.history_model.specs.Bytes.{Bytes, has_twice}
 use Rattle.history_model.specs.Objects.{Actor}
 use Rattle.history_model.specs.Repository.{Repository, LogEntry, id_at}
 use Rattle.history_model.specs.Forms.{is_actor, is_name, is_private}
 use Rattle.history_model.specs.Logs.{log_line}
 use Rattle.history_model.specs.Places.{file_at, packed_place, log_place}
-use Rattle.history_steps.specs.TreeHalves.{HoldsNames}
-use Rattle.history_steps.specs.TakeSteps.{LacksRecord}
+use Rattle.history_layout.specs.TreeHalves.{HoldsNames}
+use Rattle.history_layout.specs.TakeSteps.{LacksRecord}
 
 -- the root has the names of the only worktree
 abbrev pub root_base : Kind → Base

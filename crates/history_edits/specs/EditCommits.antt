@@ -7,8 +7,8 @@ use Rattle.gix_hash_id.specs.declared.kind.Kind.{Kind}
 use Rattle.gix_ref_file.specs.Tree.{Tree, folder}
 use Rattle.gix_ref_name.specs.Targets.{ToObject}
 use Rattle.gix_ref_format.specs.Loose.{loose_text}
-use Rattle.gix_ref_transaction.specs.PackedEdits as packed
-use Rattle.gix_ref_transaction.specs.declared.packed.Transaction.{Transaction}
+use Rattle.gix_ref_lock.specs.PackedEdits as packed
+use Rattle.gix_ref_lock.specs.declared.packed.Transaction.{Transaction}
 use Rattle.gix_ref_moves.specs.Committing.{OnTheWay, IsCommitted}
 use Rattle.gix_ref_moves.specs.Contents.{place_of, lock_path_of, log_path_of}
 use Rattle.gix_ref_moves.specs.Moments.{SameButLocks}
@@ -18,8 +18,8 @@ use Rattle.history_model.specs.Bytes.{Bytes}
 use Rattle.history_model.specs.Forms.{is_name}
 use Rattle.history_model.specs.Logs.{log_line}
 use Rattle.history_model.specs.Places.{file_at, packed_place, log_place, is_lock_file, is_name_folder}
-use Rattle.history_steps.specs.EditSteps.{MovedName, EditsOnTheWay, EditsMade, edited_names}
-use Rattle.history_steps.specs.TakeSteps.{LacksRecord}
+use Rattle.history_layout.specs.EditSteps.{MovedName, EditsOnTheWay, EditsMade, edited_names}
+use Rattle.history_layout.specs.TakeSteps.{LacksRecord}
 use Rattle.history_edits.specs.Bridges.{records_end}
 
 -- the line is the entry's if the entry's two ids differ; otherwise there is none

@@ -14,20 +14,20 @@ use Rattle.gix_ref_edit.specs.declared.log.RefLog.TheVariants.{AndReference}
 use Rattle.gix_ref_format.specs.Packed.{Record}
 use Rattle.gix_ref_format.specs.PackedBuffer.{KeepsFile}
 use Rattle.gix_ref_packed.specs.Edited.{Line}
-use Rattle.gix_ref_transaction.specs.declared.packed.Transaction.{Transaction}
+use Rattle.gix_ref_lock.specs.declared.packed.Transaction.{Transaction}
 use Rattle.gix_ref_moves.specs.Moments.{SameButLocks}
 use Rattle.gix_ref_moves.specs.declared.act.Move.{Move}
 use Rattle.gix_ref_repacking.specs.Repacking.{AreRepacked, SayOfRecords}
 use Rattle.gix_ref_store.specs.RefStates.{RefState, state_among}
 use Rattle.gix_ref_store.specs.declared.options.WriteReflog.TheVariants.{Always}
-use Rattle.gix_ref_loose_transaction.specs.LogLines.{Logging, AllLined}
-use Rattle.gix_ref_loose_transaction.specs.Plans.{AllPlanned, AllHold, AreSplit}
+use Rattle.gix_ref_transaction.specs.LogLines.{Logging, AllLined}
+use Rattle.gix_ref_transaction.specs.Plans.{AllPlanned, AllHold, AreSplit}
 use Rattle.history_model.specs.Bytes.{Bytes}
 use Rattle.history_model.specs.Forms.{is_actor, is_name}
 use Rattle.history_model.specs.Places.{file_at, packed_place}
 use Rattle.history_model.specs.Repository.{Repository, id_at}
-use Rattle.history_steps.specs.EditSteps.{MovedName, edited_names}
-use Rattle.history_steps.specs.TreeHalves.{HoldsNames}
+use Rattle.history_layout.specs.EditSteps.{MovedName, edited_names}
+use Rattle.history_layout.specs.TreeHalves.{HoldsNames}
 use Rattle.history_edits.specs.Bridges.{Commits, removals, root_base}
 use Rattle.history_edits.specs.EditCommits.{AreMovesOf, IsReady}
 

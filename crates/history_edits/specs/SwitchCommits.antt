@@ -10,7 +10,7 @@ use Rattle.gix_ref_moves.specs.declared.act.Act.TheVariants.{Put}
 use Rattle.gix_ref_moves.specs.declared.act.Move.{Move}
 use Rattle.history_model.specs.Bytes.{Bytes}
 use Rattle.history_model.specs.Places.{file_at, head_place}
-use Rattle.history_steps.specs.SwitchSteps.{HeadOnTheWay, NamesBranch}
+use Rattle.history_layout.specs.SwitchSteps.{HeadOnTheWay, NamesBranch}
 use Rattle.history_edits.specs.EditCommits.{HasNameFolders, LocksAsBefore}
 
 -- The move replaces HEAD by its lock, which names the branch, and its log has no line more.

@@ -1,8 +1,8 @@
 -- Entries of a tree, looked through for a name.
 use Rattle.std.proofs.Common.{◌≡◌, ◌∙◌, ap, sym, ℕ, suc, ◌+◌, ◌<◌, true, false, cond, List, ◌∷◌, map, length, drop, get_or, Some, bytes_eq, arith}
 use Rattle.std.proofs.Math.Seq.{drop-cons}
-use Rattle.gix_object_entries.specs.Entry.{item_of}
-use Rattle.gix_object_entries.specs.declared.tree.entry.EntryRef.{EntryRef}
+use Rattle.gix_object_tree.specs.Entry.{item_of}
+use Rattle.gix_object_tree.specs.declared.tree.entry.EntryRef.{EntryRef}
 use Rattle.gix_object_nodes.specs.Files.{named}
 use Rattle.history_model.specs.Bytes.{Bytes}
 

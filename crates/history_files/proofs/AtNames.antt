@@ -7,8 +7,8 @@ use Rattle.gix_hash_id.specs.Id.{Id, id_of}
 use Rattle.gix_hash_id.specs.declared.kind.Kind.{Kind}
 use Rattle.gix_hash_id.specs.declared.object_id.ObjectId.{ObjectId}
 use Rattle.gix_object_lines.specs.declared.kind.Kind.TheVariants as objects
-use Rattle.gix_object_entries.specs.Mode.{kind_value, kind_of}
-use Rattle.gix_object_tree.specs.Object.{Tree}
+use Rattle.gix_object_tree.specs.Mode.{kind_value, kind_of}
+use Rattle.gix_object_any.specs.Object.{Tree}
 use Rattle.gix_object_lookup.specs.Table.{Table}
 use Rattle.gix_object_find.specs.Values.{StandsAs}
 use Rattle.gix_object_nodes.specs.Files.{named}

@@ -1,13 +1,13 @@
 -- Which broken tree an error names, whatever the root is.
 use Rattle.std.proofs.Common.{◌≡◌, ◌∙◌, ap, sym, subst, refl, inl, inr, ℕ, List, [], Some, None, option_map, Result, Ok, Err}
 use Rattle.gix_hash_id.specs.Id.{Id, id_of}
-use Rattle.gix_object_entries.specs.Entry.{Item, SpellsTree}
-use Rattle.gix_object_entries.specs.WellFormed.{IsWellFormed}
-use Rattle.gix_object_entries.proofs.TreeLaws.{one_tree}
+use Rattle.gix_object_tree.specs.Entry.{Item, SpellsTree}
+use Rattle.gix_object_tree.specs.WellFormed.{IsWellFormed}
+use Rattle.gix_object_tree.proofs.TreeLaws.{one_tree}
 use Rattle.gix_object_lines.specs.declared.decode.Error as decode
 use Rattle.gix_object_lines.specs.declared.decode.Error.TheVariants as unread
 use Rattle.gix_object_lines.specs.declared.kind.Kind.TheVariants as objects
-use Rattle.gix_object_tree.specs.Object.{Tree}
+use Rattle.gix_object_any.specs.Object.{Tree}
 use Rattle.gix_object_lookup.specs.Existing.{Stands}
 use Rattle.gix_object_find.specs.Values.{StandsAs}
 use Rattle.gix_object_lookup.specs.Table.{Object, Table}

@@ -3,11 +3,11 @@ use Rattle.std.proofs.Common.{◌≡◌, ◌≢◌, ℕ, Bool, true, false, cond
 use Rattle.gix_hash_id.specs.Id.{Id, id_of}
 use Rattle.gix_hash_id.specs.Order.{id_eq}
 use Rattle.gix_hash_id.specs.declared.kind.Kind.{Kind}
-use Rattle.gix_object_entries.specs.Entry.{Item, SpellsTree}
-use Rattle.gix_object_entries.specs.Mode.{is_tree_value}
-use Rattle.gix_object_entries.specs.ModeText.{Mode}
-use Rattle.gix_object_entries.specs.WellFormed.{IsWellFormed}
-use Rattle.gix_object_entries.proofs.TreeLaws.{one_tree}
+use Rattle.gix_object_tree.specs.Entry.{Item, SpellsTree}
+use Rattle.gix_object_tree.specs.Mode.{is_tree_value}
+use Rattle.gix_object_tree.specs.ModeText.{Mode}
+use Rattle.gix_object_tree.specs.WellFormed.{IsWellFormed}
+use Rattle.gix_object_tree.proofs.TreeLaws.{one_tree}
 use Rattle.gix_object_lines.specs.declared.decode.Error as decode
 use Rattle.gix_object_lines.specs.declared.decode.Error.TheVariants as unread
 use Rattle.gix_object_lines.specs.declared.kind.Kind.TheVariants as objects

@@ -4,7 +4,7 @@ use Rattle.std.specs.Prelude.{⊤}
 use Rattle.std.specs.List.{AllByRecursion, list_any}
 use Rattle.gix_hash_id.specs.Id.{id_of}
 use Rattle.gix_hash_id.specs.declared.kind.Kind.{Kind}
-use Rattle.gix_object_entries.specs.Writing as writing
+use Rattle.gix_object_tree.specs.Writing as writing
 use Rattle.gix_object_lookup.specs.Table.{Table}
 use Rattle.gix_object_editor.specs.declared.tree.editor.state.Editor.{Editor}
 use Rattle.gix_object_nodes.specs.declared.node.Slot.{Slot}

@@ -5,11 +5,11 @@ use Rattle.std.specs.FinMap.{entries, get}
 use Rattle.gix_hash_id.specs.Id.{Id}
 use Rattle.gix_hash_id.specs.Order.{id_eq}
 use Rattle.gix_hash_id.specs.declared.kind.Kind.{Kind}
-use Rattle.gix_object_entries.specs.Entry.{Item}
-use Rattle.gix_object_entries.specs.Mode.{is_tree_value}
-use Rattle.gix_object_entries.specs.ModeText.{Mode}
-use Rattle.gix_object_entries.specs.WellFormed.{IsFilename, IsWellFormed}
-use Rattle.gix_object_entries.specs.Writing as writing
+use Rattle.gix_object_tree.specs.Entry.{Item}
+use Rattle.gix_object_tree.specs.Mode.{is_tree_value}
+use Rattle.gix_object_tree.specs.ModeText.{Mode}
+use Rattle.gix_object_tree.specs.WellFormed.{IsFilename, IsWellFormed}
+use Rattle.gix_object_tree.specs.Writing as writing
 use Rattle.gix_object_lookup.specs.Table.{Table}
 use Rattle.gix_object_nodes.specs.declared.node.Slot.{Slot}
 use Rattle.gix_object_editor.specs.Entries.{EachHas}

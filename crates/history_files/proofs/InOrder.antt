@@ -8,10 +8,10 @@ use Rattle.std.specs.FinMap.Entries.{below_all}
 use Rattle.std.proofs.lemmas.Cmp.{nat_list_cmp_total}
 use Rattle.std.proofs.lemmas.List.Kept.{AllPairs-cons}
 use Rattle.gix_hash_id.specs.declared.kind.Kind.{Kind}
-use Rattle.gix_object_entries.specs.Entry.{Item, SpellsTree}
-use Rattle.gix_object_entries.specs.Order.{item_key}
-use Rattle.gix_object_entries.specs.WellFormed.{IsFilename, ComesBefore, IsWellFormed}
-use Rattle.gix_object_entries.proofs.TreeLaws.{one_tree}
+use Rattle.gix_object_tree.specs.Entry.{Item, SpellsTree}
+use Rattle.gix_object_tree.specs.Order.{item_key}
+use Rattle.gix_object_tree.specs.WellFormed.{IsFilename, ComesBefore, IsWellFormed}
+use Rattle.gix_object_tree.proofs.TreeLaws.{one_tree}
 use Rattle.history_model.specs.Bytes.{Bytes, by_bytes, has_byte}
 use Rattle.history_model.specs.FileMap.{FileMap, Content, IsFileMap, is_below}
 use Rattle.history_model.specs.Objects.{TreeEntry, FileEntry, FolderEntry, into_folder, tree_entries, root}
@@ -22,7 +22,7 @@ use Rattle.history_model.proofs.WholeStores.{in_get}
 use Rattle.history_files.proofs.Items.{items, items_spelled, item_of, item_name, name_of, name_plain, no_zero, all_of}
 use Rattle.history_files.proofs.Unfolded.{plain_map, leaf_no_tree}
 use Rattle.history_files.proofs.Walk.{tree_of, some_items, some_name}
-use Rattle.gix_object_entries.specs.SameItem.{one_number}
+use Rattle.gix_object_tree.specs.SameItem.{one_number}
 use Rattle.std.proofs.lemmas.Bool.{or_parts, and_parts}
 use Rattle.history_model.proofs.WholeRoots.{some_entry}
 

@@ -7,12 +7,12 @@ use Rattle.gix_hash_id.specs.Id.{raw_bytes}
 use Rattle.gix_hash_id.specs.Kind.{byte_len}
 use Rattle.gix_hash_id.specs.Views.{IsBytesOf}
 use Rattle.gix_hash_id.specs.declared.kind.Kind.{Kind}
-use Rattle.gix_object_entries.specs.Entry.{Item, SpellsTree}
-use Rattle.gix_object_entries.specs.Mode.{kind_value}
-use Rattle.gix_object_entries.specs.ModeText.{mode_text, SpellsMode}
-use Rattle.gix_object_entries.specs.Writing.{entry_text as item_text, tree_text as items_text, has_zero, tree_refusal, HasIds, IsToldAgain}
-use Rattle.gix_object_entries.proofs.TreeLaws.{tree_back, mode_back}
-use Rattle.gix_object_entries.proofs.Written.{no_refusal}
+use Rattle.gix_object_tree.specs.Entry.{Item, SpellsTree}
+use Rattle.gix_object_tree.specs.Mode.{kind_value}
+use Rattle.gix_object_tree.specs.ModeText.{mode_text, SpellsMode}
+use Rattle.gix_object_tree.specs.Writing.{entry_text as item_text, tree_text as items_text, has_zero, tree_refusal, HasIds, IsToldAgain}
+use Rattle.gix_object_tree.proofs.TreeLaws.{tree_back, mode_back}
+use Rattle.gix_object_tree.proofs.Written.{no_refusal}
 use Rattle.gix_object_nodes.specs.Files.{named}
 use Rattle.gix_object_nodes.specs.Writing.{folder_mode, folder_item}
 use Rattle.history_model.specs.Bytes.{Bytes, has_byte, is_empty}

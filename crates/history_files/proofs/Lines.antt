@@ -5,10 +5,10 @@ use Rattle.std.specs.FinMap.{entries}
 use Rattle.gix_hash_id.specs.Id.{Id, id_of}
 use Rattle.gix_hash_id.specs.declared.kind.Kind.{Kind}
 use Rattle.gix_hash_id.specs.declared.object_id.ObjectId.{ObjectId}
-use Rattle.gix_object_entries.specs.Entry.{Item, SpellsEntry, SpellsEntries, SpellsTree}
-use Rattle.gix_object_entries.specs.Mode.{kind_value, kind_of}
-use Rattle.gix_object_entries.specs.Order.{is_tree}
-use Rattle.gix_object_entries.proofs.Spelled.{none_left}
+use Rattle.gix_object_tree.specs.Entry.{Item, SpellsEntry, SpellsEntries, SpellsTree}
+use Rattle.gix_object_tree.specs.Mode.{kind_value, kind_of}
+use Rattle.gix_object_tree.specs.Order.{is_tree}
+use Rattle.gix_object_tree.proofs.Spelled.{none_left}
 use Rattle.gix_object_lookup.specs.Table.{Table, Object}
 use Rattle.gix_traverse_tree.specs.Depth.{InDepth, before}
 use Rattle.gix_traverse_tree.specs.Opened.{WalksIn, IsGood}

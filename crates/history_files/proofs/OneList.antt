@@ -3,10 +3,10 @@ use Rattle.std.proofs.Common.{◌≡◌, ◌∙◌, ap, refl, sym, subst, ℕ, z
 use Rattle.std.specs.List.{AllPairs}
 use Rattle.std.specs.Ordering.{ordering_reverse}
 use Rattle.std.proofs.lemmas.Cmp.{nat_list_cmp_total}
-use Rattle.gix_object_entries.specs.Entry.{Item}
-use Rattle.gix_object_entries.specs.Order.{item_key}
+use Rattle.gix_object_tree.specs.Entry.{Item}
+use Rattle.gix_object_tree.specs.Order.{item_key}
 use Rattle.gix_object_nodes.specs.Files.{named}
-use Rattle.gix_object_entries.specs.WellFormed.{ComesBefore, IsInOrder, HasNamesOnce}
+use Rattle.gix_object_tree.specs.WellFormed.{ComesBefore, IsInOrder, HasNamesOnce}
 use Rattle.history_model.specs.Bytes.{Bytes}
 use Rattle.history_model.proofs.WholeLists.{In, same_text, text_itself, texts_differ, none_is_some}
 use Rattle.std.proofs.lemmas.Option.{same_Some}

@@ -6,7 +6,7 @@ use Rattle.std.specs.FinMap.{entries, keys, get, from_entries, get-from_entries,
 use Rattle.std.specs.FinMap.Entries.{find, below_all}
 use Rattle.std.proofs.lemmas.Cmp.{nat_list_cmp_total}
 use Rattle.gix_hash_id.specs.declared.kind.Kind.{Kind}
-use Rattle.gix_object_entries.specs.Mode.{kind_value}
+use Rattle.gix_object_tree.specs.Mode.{kind_value}
 use Rattle.gix_object_nodes.specs.Files as unfolded
 use Rattle.gix_object_nodes.specs.Files.{Leaf, SameFiles}
 use Rattle.history_model.specs.Bytes.{Bytes, by_bytes, has_byte}

@@ -6,10 +6,10 @@ use Rattle.std.specs.Str.Parse.{digits_value}
 use Rattle.gix_hash_id.specs.Id.{Id, digits_of}
 use Rattle.gix_hash_id.specs.Kind.{byte_len}
 use Rattle.gix_hash_id.specs.declared.kind.Kind.{Kind}
-use Rattle.gix_object_entries.specs.Entry.{Item, SpellsEntry, SpellsTree}
-use Rattle.gix_object_entries.specs.ModeText.{Mode, text_before}
-use Rattle.gix_object_entries.proofs.Octals.{before_cut}
-use Rattle.gix_object_entries.proofs.Spelled.{lacks_space}
+use Rattle.gix_object_tree.specs.Entry.{Item, SpellsEntry, SpellsTree}
+use Rattle.gix_object_tree.specs.ModeText.{Mode, text_before}
+use Rattle.gix_object_tree.proofs.Octals.{before_cut}
+use Rattle.gix_object_tree.proofs.Spelled.{lacks_space}
 use Rattle.gix_object_lookup.specs.Table.{Object, Table}
 use Rattle.gix_object_editor.specs.Stored.{HasStored}
 use Rattle.gix_object_nodes.specs.Files.{Trees}

@@ -2,9 +2,9 @@
 use Rattle.std.proofs.Common.{◌≡◌, ◌∙◌, ap, sym, subst, List}
 use Rattle.gix_hash_id.specs.Id.{Id}
 use Rattle.gix_object_lines.specs.declared.kind.Kind.TheVariants as objects
-use Rattle.gix_object_entries.specs.Entry.{Item, SpellsTree}
-use Rattle.gix_object_entries.proofs.TreeLaws.{one_tree}
-use Rattle.gix_object_tree.specs.Object.{Tree}
+use Rattle.gix_object_tree.specs.Entry.{Item, SpellsTree}
+use Rattle.gix_object_tree.proofs.TreeLaws.{one_tree}
+use Rattle.gix_object_any.specs.Object.{Tree}
 use Rattle.gix_object_lookup.specs.Table.{Table, Object}
 use Rattle.gix_object_find.specs.Values.{StandsAs}
 use Rattle.history_files.specs.Reading.{TreeFault, RootFault}

@@ -9,22 +9,22 @@ use Rattle.gix_hash_id.specs.declared.kind.Kind.{Kind}
 use Rattle.gix_hash_id.specs.declared.object_id.ObjectId.{ObjectId}
 use Rattle.gix_object_lines.specs.declared.decode.Error as decode
 use Rattle.gix_object_lines.specs.declared.kind.Kind.TheVariants as objects
-use Rattle.gix_object_entries.specs.Entry.{Item, SpellsEntries, SpellsTree}
-use Rattle.gix_object_entries.specs.Mode.{kind_of, file_kind, is_tree_value}
-use Rattle.gix_object_entries.specs.ModeText.{Mode, mode_of}
-use Rattle.gix_object_entries.specs.Order.{is_tree}
-use Rattle.gix_object_entries.specs.Reading.{Place}
-use Rattle.gix_object_entries.specs.declared.tree.mode.EntryKind.{EntryKind}
-use Rattle.gix_object_entries.specs.declared.tree.mode.EntryKind.TheVariants as entries
-use Rattle.gix_object_entries.proofs.Spelled.{must_be, read_first}
-use Rattle.gix_object_entries.proofs.TreeLaws.{one_tree}
+use Rattle.gix_object_tree.specs.Entry.{Item, SpellsEntries, SpellsTree}
+use Rattle.gix_object_tree.specs.Mode.{kind_of, file_kind, is_tree_value}
+use Rattle.gix_object_tree.specs.ModeText.{Mode, mode_of}
+use Rattle.gix_object_tree.specs.Order.{is_tree}
+use Rattle.gix_object_tree.specs.Reading.{Place}
+use Rattle.gix_object_tree.specs.declared.tree.mode.EntryKind.{EntryKind}
+use Rattle.gix_object_tree.specs.declared.tree.mode.EntryKind.TheVariants as entries
+use Rattle.gix_object_tree.proofs.Spelled.{must_be, read_first}
+use Rattle.gix_object_tree.proofs.TreeLaws.{one_tree}
 use Rattle.gix_object_lookup.specs.Existing.{Stands, KindFault}
 use Rattle.gix_object_find.specs.Values.{StandsAs}
 use Rattle.gix_object_lookup.specs.Path.{FindsFirst, LackName, IsNamedBy, IsBelow, Follows}
 use Rattle.gix_object_lookup.specs.Table.{Table, Object}
 use Rattle.gix_object_lookup.specs.declared.find.Error.TheVariants as looked_up
 use Rattle.gix_object_lookup.specs.declared.find.existing_iter.Error.TheVariants as not_given
-use Rattle.gix_object_tree.specs.Object.{Tree}
+use Rattle.gix_object_any.specs.Object.{Tree}
 use Rattle.gix_object_nodes.specs.Files.{named}
 use Rattle.gix_traverse_tree.specs.AtPaths.{Answer, root_item, told_of, TellsAt, BeginsOne, IsTreeAbove, IsUnread, EntriesFault}
 use Rattle.gix_traverse_tree.specs.declared.error.Error as walking

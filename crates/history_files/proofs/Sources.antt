@@ -5,7 +5,7 @@ use Rattle.gix_hash_id.specs.Id.{Id, id_of, null_id}
 use Rattle.gix_hash_id.specs.declared.kind.Kind.{Kind}
 use Rattle.gix_hash_id.specs.declared.kind.Kind.TheVariants.{Sha1}
 use Rattle.gix_hash_id.specs.declared.object_id.ObjectId.{ObjectId}
-use Rattle.gix_object_entries.specs.Mode.{kind_value}
+use Rattle.gix_object_tree.specs.Mode.{kind_value}
 use Rattle.gix_object_lookup.specs.Table.{Table}
 use Rattle.gix_object_nodes.specs.Files.{Path, Leaf, Trees, files_of_entry, files_of_tree, is_null, leaf_of, named, through, tree_under, unless_tree}
 use Rattle.gix_object_editor.specs.Stored.{HasStored}

@@ -3,8 +3,8 @@ use Rattle.std.proofs.Common.{◌≡◌, ℕ, zero, suc, ◌<◌, Bool, true, fa
 use Rattle.std.specs.List.{list_any, before_first, after_first}
 use Rattle.std.specs.FinMap.{entries, keys, get, contains_key}
 use Rattle.gix_hash_id.specs.declared.kind.Kind.{Kind}
-use Rattle.gix_object_entries.specs.Entry.{Item}
-use Rattle.gix_object_entries.specs.Mode.{kind_value, is_tree_value}
+use Rattle.gix_object_tree.specs.Entry.{Item}
+use Rattle.gix_object_tree.specs.Mode.{kind_value, is_tree_value}
 use Rattle.gix_object_lookup.specs.Table.{Table}
 use Rattle.gix_object_nodes.specs.Files.{Path, Leaf, Trees, named, through, tree_under, unless_tree, files_of_entry, files_of_tree, is_null, leaf_of}
 use Rattle.gix_object_editor.specs.Stored.{HasStored}

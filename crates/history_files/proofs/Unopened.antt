@@ -2,8 +2,8 @@
 -- opened: over no trees each of these is a file.
 use Rattle.std.proofs.Common.{◌≡◌, ◌∙◌, ap, sym, subst, refl, ℕ, ◌&&◌, not, true, false, Bool, cond, List, [], ◌∷◌, Option, Some, None}
 use Rattle.gix_hash_id.specs.Id.{Id}
-use Rattle.gix_object_entries.specs.Entry.{Item}
-use Rattle.gix_object_entries.specs.Mode.{is_tree_value}
+use Rattle.gix_object_tree.specs.Entry.{Item}
+use Rattle.gix_object_tree.specs.Mode.{is_tree_value}
 use Rattle.gix_object_editor.specs.Asked.{ids_from, slot_into, trees_into, unopened_into}
 use Rattle.gix_object_nodes.specs.Files.{Path, Leaf, Trees, files_of_entry, files_of_tree, is_null, leads_on, leaf_of, named, no_trees, through, tree_under, unless_tree}
 use Rattle.gix_object_nodes.specs.Nodes.{Slots, child_or, files_of_node, files_of_slot, leaf_in}

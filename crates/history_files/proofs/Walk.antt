@@ -8,10 +8,10 @@ use Rattle.gix_hash_id.specs.Id.{Id}
 use Rattle.gix_hash_id.specs.Order.{id_eq}
 use Rattle.gix_hash_id.specs.declared.kind.Kind.{Kind}
 use Rattle.gix_object_lines.specs.declared.kind.Kind.TheVariants as objects
-use Rattle.gix_object_entries.specs.Entry.{Item, SpellsEntry, SpellsEntries, SpellsTree}
-use Rattle.gix_object_entries.specs.Order.{is_tree}
-use Rattle.gix_object_entries.proofs.Spelled.{one_entry, none_left}
-use Rattle.gix_object_tree.specs.Object.{Tree}
+use Rattle.gix_object_tree.specs.Entry.{Item, SpellsEntry, SpellsEntries, SpellsTree}
+use Rattle.gix_object_tree.specs.Order.{is_tree}
+use Rattle.gix_object_tree.proofs.Spelled.{one_entry, none_left}
+use Rattle.gix_object_any.specs.Object.{Tree}
 use Rattle.gix_object_lookup.specs.Table.{Table, Object}
 use Rattle.gix_object_lookup.specs.Existing.{Stands}
 use Rattle.gix_object_find.specs.Values.{StandsAs}

@@ -6,9 +6,9 @@ use Rattle.gix_hash_id.specs.Id.{null_id}
 use Rattle.gix_hash_id.specs.Order.{id_eq}
 use Rattle.gix_hash_id.specs.declared.kind.Kind.{Kind}
 use Rattle.gix_hash_id.specs.declared.kind.Kind.TheVariants.{Sha1}
-use Rattle.gix_object_entries.specs.Mode.{kind_value}
-use Rattle.gix_object_entries.specs.ModeText.{Mode}
-use Rattle.gix_object_entries.specs.declared.tree.mode.EntryKind.TheVariants as entries
+use Rattle.gix_object_tree.specs.Mode.{kind_value}
+use Rattle.gix_object_tree.specs.ModeText.{Mode}
+use Rattle.gix_object_tree.specs.declared.tree.mode.EntryKind.TheVariants as entries
 use Rattle.gix_object_editor.specs.Editor.{leaf_of_kind}
 use Rattle.gix_object_editor.specs.Entries.{Property, MayStand}
 use Rattle.gix_object_nodes.specs.Files.{Leaf, is_null}

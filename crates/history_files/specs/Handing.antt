@@ -3,9 +3,9 @@ use Rattle.std.specs.Prelude.{◌≡◌, ⊤, List, [], ◌∷◌, ◌++◌, map
 use Rattle.gix_hash_id.specs.Id.{id_of}
 use Rattle.gix_hash_id.specs.declared.kind.Kind.{Kind}
 use Rattle.gix_hash_id.specs.declared.object_id.ObjectId.{ObjectId}
-use Rattle.gix_object_entries.specs.Entry.{Item, own_item}
-use Rattle.gix_object_entries.specs.Writing as writing
-use Rattle.gix_object_entries.specs.declared.tree.owned.Tree.{Tree}
+use Rattle.gix_object_tree.specs.Entry.{Item, own_item}
+use Rattle.gix_object_tree.specs.Writing as writing
+use Rattle.gix_object_tree.specs.declared.tree.owned.Tree.{Tree}
 use Rattle.gix_object_nodes.specs.Written.{HandedOut}
 use Rattle.gix_object_editor.specs.Written.{IsWritten}
 use Rattle.gix_object_editor.specs.declared.tree.editor.state.Editor.{Editor}

@@ -3,8 +3,8 @@ use Rattle.std.specs.Prelude.{◌≡◌, false, List, Option, Some, option_map, 
 use Rattle.std.specs.FinMap.{get}
 use Rattle.gix_hash_id.specs.Id.{Id}
 use Rattle.gix_hash_id.specs.declared.kind.Kind.{Kind}
-use Rattle.gix_object_entries.specs.Entry.{Item, SpellsTree}
-use Rattle.gix_object_entries.specs.WellFormed.{IsWellFormed}
+use Rattle.gix_object_tree.specs.Entry.{Item, SpellsTree}
+use Rattle.gix_object_tree.specs.WellFormed.{IsWellFormed}
 use Rattle.gix_object_lookup.specs.Table.{Table}
 use Rattle.gix_object_nodes.specs.Files as unfolded
 use Rattle.gix_object_nodes.specs.Files.{Trees, SameFiles, HasNoneBelow, is_null}

@@ -6,12 +6,12 @@ use Rattle.gix_hash_id.specs.declared.kind.Kind.{Kind}
 use Rattle.gix_object_lines.specs.declared.kind.Kind.TheVariants as objects
 use Rattle.gix_object_lines.specs.declared.decode.Error as decode
 use Rattle.gix_object_lines.specs.declared.decode.Error.TheVariants as unread
-use Rattle.gix_object_entries.specs.Entry.{Item}
-use Rattle.gix_object_entries.specs.WellFormed.{IsWellFormed}
-use Rattle.gix_object_entries.specs.Mode.{kind_of}
-use Rattle.gix_object_entries.specs.declared.tree.mode.EntryKind.{EntryKind}
-use Rattle.gix_object_entries.specs.declared.tree.mode.EntryKind.TheVariants as entries
-use Rattle.gix_object_tree.specs.Object.{Tree}
+use Rattle.gix_object_tree.specs.Entry.{Item}
+use Rattle.gix_object_tree.specs.WellFormed.{IsWellFormed}
+use Rattle.gix_object_tree.specs.Mode.{kind_of}
+use Rattle.gix_object_tree.specs.declared.tree.mode.EntryKind.{EntryKind}
+use Rattle.gix_object_tree.specs.declared.tree.mode.EntryKind.TheVariants as entries
+use Rattle.gix_object_any.specs.Object.{Tree}
 use Rattle.gix_object_lookup.specs.Table.{Table}
 use Rattle.gix_object_find.specs.Values.{StandsAs}
 use Rattle.gix_object_lookup.specs.declared.find.Error as looking_up

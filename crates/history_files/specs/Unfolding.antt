@@ -5,9 +5,9 @@ use Rattle.std.specs.List.{AllByRecursion}
 use Rattle.std.specs.FinMap.{get}
 use Rattle.gix_hash_id.specs.declared.kind.Kind.{Kind}
 use Rattle.gix_object_lines.specs.declared.kind.Kind.TheVariants as objects
-use Rattle.gix_object_entries.specs.Mode.{kind_value}
-use Rattle.gix_object_entries.specs.declared.tree.mode.EntryKind.{EntryKind}
-use Rattle.gix_object_entries.specs.declared.tree.mode.EntryKind.TheVariants as entries
+use Rattle.gix_object_tree.specs.Mode.{kind_value}
+use Rattle.gix_object_tree.specs.declared.tree.mode.EntryKind.{EntryKind}
+use Rattle.gix_object_tree.specs.declared.tree.mode.EntryKind.TheVariants as entries
 use Rattle.gix_object_lookup.specs.Table.{Table}
 use Rattle.gix_object_lookup.specs.Existing.{Stands}
 use Rattle.gix_object_nodes.specs.Files as unfolded

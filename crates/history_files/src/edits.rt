@@ -24,10 +24,10 @@ use crate::found::Found;
 use crate::names::names_of;
 use gix_hash::{Kind, ObjectId};
 use gix_object_editor::tree::editor::{self, Editor};
-use gix_object_entries::tree::EntryKind;
 use gix_object_lines::decode;
 use gix_object_lookup::find::existing_object;
 use gix_object_lookup::{FindInto, find};
+use gix_object_tree::tree::EntryKind;
 use history_model::FileKind;
 use std::alloc::{AllocError, Global};
 

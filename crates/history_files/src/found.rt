@@ -3,9 +3,9 @@
 ghost use Rattle.std.specs.Prelude.{◌≡◌, map, List, IfOk, IfErr, IsErrOf, None, option_map, option_and_then};
 ghost use Rattle.gix_hash_id.specs.Id.{Id, id_of};
 ghost use Rattle.gix_object_lines.specs.declared.kind.Kind.TheVariants as objects;
-ghost use Rattle.gix_object_entries.specs.Entry.{Item, item_of};
-ghost use Rattle.gix_object_entries.specs.Mode.{kind_of};
-ghost use Rattle.gix_object_tree.specs.Object.{Tree};
+ghost use Rattle.gix_object_tree.specs.Entry.{Item, item_of};
+ghost use Rattle.gix_object_tree.specs.Mode.{kind_of};
+ghost use Rattle.gix_object_any.specs.Object.{Tree};
 ghost use Rattle.gix_object_find.specs.Values.{StandsAs};
 ghost use Rattle.gix_object_nodes.specs.Files.{named};
 ghost use Rattle.history_model.specs.Objects as model;
@@ -16,9 +16,9 @@ ghost use Rattle.history_files.specs.declared.found.Found.TheVariants.{File, Fol
 use crate::error::ReadError;
 use crate::names::names_of;
 use gix_hash::ObjectId;
-use gix_object_entries::tree::{EntryKind, EntryMode, EntryRef};
 use gix_object_lines::decode;
 use gix_object_lookup::{self as lookup, FindInto};
+use gix_object_tree::tree::{EntryKind, EntryMode, EntryRef};
 use history_model::FileKind;
 use std::alloc::Global;
 

@@ -12,8 +12,8 @@ use crate::error::ReadError;
 use crate::found::{Found, found_of};
 use crate::listing::read_error;
 use gix_hash::ObjectId;
-use gix_object_entries::tree::EntryMode;
 use gix_object_lookup::FindInto;
+use gix_object_tree::tree::EntryMode;
 use gix_traverse_tree::EntriesState;
 use std::alloc::{AllocError, Global};
 

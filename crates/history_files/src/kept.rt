@@ -12,10 +12,10 @@ ghost use Rattle.history_files.specs.declared.error.ReadError.TheVariants.{Faile
 use crate::error::ReadError;
 use crate::listing::{File, files};
 use gix_hash::{ObjectId, oid};
-use gix_object_entries::TreeRefIter;
 use gix_object_lines::{Kind, decode};
 use gix_object_lookup::find::Error;
 use gix_object_lookup::{FindInto, Lookup};
+use gix_object_tree::TreeRefIter;
 use std::alloc::{AllocError, Global};
 use std::collections::BTreeMap;
 

@@ -4,7 +4,7 @@ ghost use Rattle.std.specs.Prelude.{◌≡◌, map, filter_map, ◌++◌, IfOk, 
 ghost use Rattle.std.specs.FinMap.{entries};
 ghost use Rattle.gix_hash_id.specs.Id.{Id, id_of};
 ghost use Rattle.history_model.specs.Bytes.{Bytes};
-ghost use Rattle.gix_object_entries.specs.Mode.{kind_of};
+ghost use Rattle.gix_object_tree.specs.Mode.{kind_of};
 ghost use Rattle.gix_traverse_tree.specs.Recorder.{recorded_of};
 ghost use Rattle.history_model.specs.Answers.{file_line};
 ghost use Rattle.history_files.specs.Reading.{OfFiles, OwnFault, StopsBelow, line_of, line_named, line_recorded, as_walked};
@@ -12,8 +12,8 @@ ghost use Rattle.history_files.specs.declared.error.ReadError.TheVariants.{Faile
 
 use crate::error::ReadError;
 use gix_hash::ObjectId;
-use gix_object_entries::tree::{EntryKind, EntryMode};
 use gix_object_lookup::FindInto;
+use gix_object_tree::tree::{EntryKind, EntryMode};
 use gix_traverse_tree::Recorder;
 use gix_traverse_tree::depthfirst::{self, State, depthfirst};
 use gix_traverse_tree::recorder::Entry;

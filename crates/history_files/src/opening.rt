@@ -14,8 +14,8 @@ use crate::error::ReadError;
 use crate::found::entries_of;
 use gix_hash::ObjectId;
 use gix_object_editor::tree::editor::Editor;
-use gix_object_entries::TreeRef;
 use gix_object_lookup::FindInto;
+use gix_object_tree::TreeRef;
 use std::alloc::Global;
 
 /// Returns an editor of a root's files, which looks trees up in the store. The root is the id of a

@@ -12,9 +12,9 @@ use Rattle.history_model.specs.Commands.{Commit, CommitCommand, EditLine, LogCom
 use Rattle.history_model.specs.Words.{commit_of}
 use Rattle.history_model.specs.Meaning.{after, takes_id, branch_or_name, name_commit, first_files, files_at, read_line, read_edit, edits_of, new_commit, put_bytes, read_actor, moved_reference}
 use Rattle.history_model.specs.Replies.{Committed, LogIs}
-use Rattle.gix_traverse_commit_graph.specs.Walks.{InSomeOrder}
-use Rattle.gix_traverse_commit_graph.specs.declared.parents.Parents.TheVariants.{All as AllParents, First as FirstParent}
-use Rattle.gix_traverse_commit_graph.proofs.Listing.{one_set}
+use Rattle.gix_traverse_graph.specs.Walks.{InSomeOrder}
+use Rattle.gix_traverse_graph.specs.declared.parents.Parents.TheVariants.{All as AllParents, First as FirstParent}
+use Rattle.gix_traverse_graph.proofs.Listing.{one_set}
 use Rattle.history_model.specs.Answers.{IsLog, commits_of, walk_request, kept, tip_word, hidden_word, since_of}
 use Rattle.history_model.specs.Steps.{Step}
 use Rattle.history_model.specs.Wholeness.{IsSound}

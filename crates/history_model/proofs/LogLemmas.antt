@@ -3,11 +3,11 @@ use Rattle.std.proofs.Common.{◌≡◌, ℕ, ◌<◌, inl, inr, List, take, sym
 use Rattle.std.specs.Prelude.{pos, ◌≤ℤ◌}
 use Rattle.std.proofs.lemmas.Int.{ints}
 use Rattle.gix_hash_id.specs.Id.{Id}
-use Rattle.gix_traverse_commit_graph.specs.Commits.{Commits, WalkRequest}
-use Rattle.gix_traverse_commit_graph.specs.Order.{At, IsChosen}
-use Rattle.gix_traverse_commit_graph.specs.Walks.{FinishedByDate, InSomeOrder, breadth, newest, oldest, date, topological, unfiltered}
-use Rattle.gix_traverse_commit_graph.proofs.Lists.{at_one, at_from_contains, contains_from_at, at_take, at_from_take, three}
-use Rattle.gix_traverse_commit_graph.proofs.Listing.{breadth_is_one, topological_is_one, filter_all}
+use Rattle.gix_traverse_graph.specs.Commits.{Commits, WalkRequest}
+use Rattle.gix_traverse_graph.specs.Order.{At, IsChosen}
+use Rattle.gix_traverse_graph.specs.Walks.{FinishedByDate, InSomeOrder, breadth, newest, oldest, date, topological, unfiltered}
+use Rattle.gix_traverse_graph.proofs.Lists.{at_one, at_from_contains, contains_from_at, at_take, at_from_take, three}
+use Rattle.gix_traverse_graph.proofs.Listing.{breadth_is_one, topological_is_one, filter_all}
 use Rattle.history_model.specs.Commands.{Order, Breadth, Newest, Oldest, NewestSince, OldestSince, Date, Topological}
 use Rattle.history_model.specs.Repository.{Repository}
 use Rattle.history_model.specs.Answers.{commits_of, time_at, IsWalk}

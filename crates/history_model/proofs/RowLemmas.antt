@@ -16,7 +16,7 @@ use Rattle.history_model.specs.Rows.{first_command, first_commit, three_files, c
 use Rattle.gix_hash_id.specs.declared.kind.Kind.{Kind}
 use Rattle.gix_hash_id.specs.declared.kind.Kind.TheVariants.{Sha1, Sha256}
 use Rattle.history_model.specs.declared.FileKind.TheVariants.{Exec}
-use Rattle.gix_traverse_commit_graph.proofs.Lists.{none_from_length}
+use Rattle.gix_traverse_graph.proofs.Lists.{none_from_length}
 
 pub blob_text_hello : blob_text (codes "hello") ≡ codes "blob 5" ++ 0 ∷ codes "hello"
 unfolding digits

@@ -16,7 +16,7 @@ use Rattle.history_model.specs.Replies.{Reply, RefusedFor, Faulted, LogIs, Files
 use Rattle.history_model.specs.Meaning.{after, moved_reference, history_actor}
 use Rattle.history_model.specs.Causes.{first_cause, holds, in_order}
 use Rattle.history_model.specs.Answers.{Answers, StandsForCommit, IsWalk, commits_of, walk_request, kept, differs_at, files_shown, commit_shown, content_shown}
-use Rattle.gix_traverse_commit_graph.proofs.Listing.{one_set}
+use Rattle.gix_traverse_graph.proofs.Listing.{one_set}
 use Rattle.history_model.specs.Steps.{Step, is_faulted, Accepts}
 use Rattle.history_model.specs.Stops.{LeftByStop, Between, IsNotLost, is_changing}
 use Rattle.history_model.specs.Laws.{TreesAreCanonical, StepsAreDetermined, ListsAlike, AreAlike, RepliesTellTheState, RenamesLoseNothing, StopsMayLeaveAll}

@@ -12,10 +12,10 @@ use Rattle.history_model.specs.Words.{commit_of}
 use Rattle.history_model.specs.Commands.{Command, Commit, Tag, Move, Rename, Delete, Switch, Pack, Index, Names, Files, Past, Log, Show, LogCommand, Order, Breadth, Newest, Oldest, NewestSince, OldestSince, Date, Topological, LogItem, Tip, Hidden}
 use Rattle.history_model.specs.Replies.{Reply, Committed, Tagged, Moved, Renamed, Deleted, Switched, Packed, Indexed, NamesAre, LogIs, FilesAre, ShowsCommit, ShowsContent, PastIs, NameLine, FileLine, CommitShown, ContentShown}
 use Rattle.history_model.specs.Meaning.{past_name, files_at, first_files, new_commit, new_tag}
-use Rattle.gix_traverse_commit_graph.specs.Commits.{Commits, WalkRequest}
-use Rattle.gix_traverse_commit_graph.specs.Rows.{generation_limit}
-use Rattle.gix_traverse_commit_graph.specs.Walks.{InBreadth, ByNewest, ByOldest, InDate, InTopological}
-use Rattle.gix_traverse_commit_graph.specs.declared.parents.Parents.TheVariants.{All as AllParents, First as FirstParent}
+use Rattle.gix_traverse_graph.specs.Commits.{Commits, WalkRequest}
+use Rattle.gix_traverse_graph.specs.Rows.{generation_limit}
+use Rattle.gix_traverse_graph.specs.Walks.{InBreadth, ByNewest, ByOldest, InDate, InTopological}
+use Rattle.gix_traverse_graph.specs.declared.parents.Parents.TheVariants.{All as AllParents, First as FirstParent}
 use Rattle.history_model.specs.declared.FileKind.{FileKind}
 use Rattle.history_model.specs.declared.FileKind.TheVariants.{File, Exec, Link}
 

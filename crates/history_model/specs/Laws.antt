@@ -12,7 +12,7 @@ use Rattle.gix_hash_id.specs.Id.{Id}
 use Rattle.history_model.specs.Repository.{Repository, IsWhole, id_at, moves_at, peeled, first_branch, fresh}
 use Rattle.history_model.specs.Commands.{Command, Rename, Pack, Files, Log, LogCommand, Order, Breadth, Topological}
 use Rattle.history_model.specs.Answers.{commits_of, walk_request, IsWalk, kept, time_at}
-use Rattle.gix_traverse_commit_graph.specs.Order.{At}
+use Rattle.gix_traverse_graph.specs.Order.{At}
 use Rattle.history_model.specs.Replies.{Reply, FileLine, FilesAre, LogIs, reply_text}
 use Rattle.history_model.specs.Causes.{first_cause}
 use Rattle.history_model.specs.Places.{Pair, file_at, head_place, is_log_place, unfinished_place, is_object_folder, is_name_folder}

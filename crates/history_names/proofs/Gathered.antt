@@ -24,7 +24,7 @@ use Rattle.history_model.specs.PackedNames.{id_from_hex}
 use Rattle.history_model.specs.Places.{file_at}
 use Rattle.history_model.proofs.FormatLemmas.{ends_so}
 use Rattle.history_model.proofs.WholePaths.{below_front, below_parts}
-use Rattle.history_steps.proofs.TreeMoves.{line_read}
+use Rattle.history_layout.proofs.TreeMoves.{line_read}
 use Rattle.history_names.specs.NameLists.{Gathers, ListsNames, NameIds, held_id, id_below, name_entry, spelled_id}
 use Rattle.history_names.specs.References.{SpellsId, NameHolds}
 use Rattle.gix_ref_way.specs.Ways.{IsAtOrBelow, IsAbove}

@@ -7,7 +7,7 @@ use Rattle.history_model.specs.Bytes.{Bytes}
 use Rattle.history_model.specs.Forms.{is_name}
 use Rattle.history_model.specs.Places.{file_at, log_place, is_name_folder}
 use Rattle.history_model.proofs.PlaceLemmas.{one_text, text_itself}
-use Rattle.history_steps.specs.TreeSteps.{MovesName}
+use Rattle.history_layout.specs.TreeSteps.{MovesName}
 use Rattle.history_texts.specs.Formats.{entry_of}
 use Rattle.history_names.specs.References.{HasMoved, FoldersOfName, lock_place}
 use Rattle.history_texts.specs.declared.log_entry.LogEntry.{LogEntry}

@@ -20,7 +20,7 @@ use Rattle.history_model.specs.Places.{file_at, packed_place}
 use Rattle.history_model.proofs.FormatLemmas.{records_alike}
 use Rattle.history_model.proofs.NameLemmas.{partial_of, some_or}
 use Rattle.history_model.proofs.WholePaths.{begins_parts}
-use Rattle.history_steps.proofs.PackedRecords.{packed_read}
+use Rattle.history_layout.proofs.PackedRecords.{packed_read}
 use Rattle.history_names.specs.NameLists.{spelled_id}
 use Rattle.history_names.specs.Packing.{NameReads, kept_hit, told_id}
 use Rattle.history_names.specs.References.{SpellsId}

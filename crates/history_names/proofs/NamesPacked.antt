@@ -22,9 +22,9 @@ use Rattle.history_model.specs.Places.{file_at, head_place, is_lock_file, is_log
 use Rattle.history_model.specs.Repository.{Reference, Repository, id_at, is_tag, is_tag_value, peeled, peeled_value, stands}
 use Rattle.history_model.proofs.IdLemmas.{has_kind}
 use Rattle.history_model.proofs.PlaceLemmas.{one_text, text_itself}
-use Rattle.history_steps.specs.PackSteps.{HasAllNames, HasPacked, IsTextOfAll, PacksAll, PacksNames, PacksOnTheWay, record_for}
-use Rattle.history_steps.specs.TreeHalves.{HoldsNames}
-use Rattle.history_steps.proofs.PackedRecords.{all_by_finds}
+use Rattle.history_layout.specs.PackSteps.{HasAllNames, HasPacked, IsTextOfAll, PacksAll, PacksNames, PacksOnTheWay, record_for}
+use Rattle.history_layout.specs.TreeHalves.{HoldsNames}
+use Rattle.history_layout.proofs.PackedRecords.{all_by_finds}
 use Rattle.history_names.specs.Packed.{AllOfKind, ArePacked, HasPackedText, MayPack, name_texts, record_of_name, records_of}
 use Rattle.history_names.specs.References.{SameFolders, lock_place}
 use Rattle.history_names.specs.declared.packs.PackedName.{PackedName}

@@ -20,8 +20,8 @@ use Rattle.history_model.specs.Forms.{is_name, is_private}
 use Rattle.history_model.specs.PackedNames.{PackedFile, is_packed_form, packed_file, packed_with, says_sorted}
 use Rattle.history_model.proofs.FormatLemmas.{records_alike}
 use Rattle.history_model.proofs.PlaceLemmas.{one_text, text_itself, texts_apart}
-use Rattle.history_steps.specs.TakeSteps.{LacksName, LacksRecord}
-use Rattle.history_steps.proofs.PackedRecords.{all_by_finds, all_found, found_named, name_in, not_found}
+use Rattle.history_layout.specs.TakeSteps.{LacksName, LacksRecord}
+use Rattle.history_layout.proofs.PackedRecords.{all_by_finds, all_found, found_named, name_in, not_found}
 use Rattle.history_names.specs.Packing.{IfSomeRecords, IsEditedText, kept_hit}
 use Rattle.history_names.proofs.PlainTexts.{packed_plain}
 use Rattle.history_names.proofs.ReadRecords.{records_kind}

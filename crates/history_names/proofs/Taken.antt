@@ -11,7 +11,7 @@ use Rattle.history_model.specs.Bytes.{Bytes}
 use Rattle.history_model.specs.Forms.{is_name}
 use Rattle.history_model.specs.Places.{file_at, head_place, is_lock_file, is_log_place, log_place, packed_place}
 use Rattle.history_model.proofs.NameLemmas.{ends_after}
-use Rattle.history_steps.specs.TakeSteps.{LacksRecord, TakesRecord}
+use Rattle.history_layout.specs.TakeSteps.{LacksRecord, TakesRecord}
 use Rattle.history_names.specs.Packing.{FileIsGone, FileMayGo, HasPackedRoom, IsPackedForm, IsTaken, KeepsRecords, LosesRecord, MayLoseRecord, MayTake}
 use Rattle.history_names.specs.declared.names.Names.{Names}
 use Rattle.history_texts.specs.declared.log_entry.LogEntry.{LogEntry}

@@ -17,7 +17,7 @@ use Rattle.history_model.specs.Bytes.{Bytes}
 use Rattle.history_model.specs.NameStates.{NameState, Holds, Symbolic, Absent, Faulty, name_state}
 use Rattle.history_model.specs.PackedNames.{packed_file, is_packed_form}
 use Rattle.history_model.specs.Places.{file_at, log_place, packed_place}
-use Rattle.history_steps.specs.TakeSteps.{TakesRecord}
+use Rattle.history_layout.specs.TakeSteps.{TakesRecord}
 use Rattle.history_names.specs.References.{HasLockRoom, OthersStay, lock_place}
 use Rattle.history_names.specs.declared.names.Names.{Names}
 

@@ -13,7 +13,7 @@ use Rattle.gix_hash_id.specs.Id.{Id}
 use Rattle.gix_hash_id.specs.Kind.{hex_len}
 use Rattle.history_model.specs.Forms.{is_id}
 use Rattle.history_model.specs.Places.{file_at, object_place, unfinished_place, is_lower_hex, is_object_folder}
-use Rattle.history_steps.specs.TreeHalves.{HoldsValues}
+use Rattle.history_layout.specs.TreeHalves.{HoldsValues}
 use Rattle.history_model.specs.Repository.{Values, HaveOwnIds}
 use Rattle.gix_hash_id.specs.declared.kind.Kind.{Kind}
 use Rattle.gix_hash_id.specs.declared.kind.Kind.TheVariants.{Sha1, Sha256}

@@ -21,7 +21,7 @@ use Rattle.history_objects.specs.KnownObjects.{object_at}
 use Rattle.history_texts.specs.ObjectTexts.{object_in}
 use Rattle.history_texts.proofs.TextObjects.{object_in-text}
 use Rattle.history_objects.specs.Opened.{IsOpened}
-use Rattle.history_survey.specs.Surveyed.{IsWholePart}
+use Rattle.history_check_objects.specs.Surveyed.{IsWholePart}
 
 module _ (kind : Kind) (tree : Tree) (ids : List ObjectId) (whole : IsWholePart kind tree ids) where
   formed : (id : Id) (v : Value) → get whole.values id ≡ Some v → IsTrue (is_id kind id)

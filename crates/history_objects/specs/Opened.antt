@@ -5,8 +5,8 @@ use Rattle.gix_hash_id.specs.Id.{Id}
 use Rattle.gix_hash_id.specs.declared.kind.Kind.{Kind}
 use Rattle.gix_ref_file.specs.Tree.{Tree}
 use Rattle.history_model.specs.Repository.{Values}
-use Rattle.history_steps.specs.TreeHalves.{HoldsValues}
-use Rattle.history_survey.specs.Opened.{IsSoundStore}
+use Rattle.history_layout.specs.TreeHalves.{HoldsValues}
+use Rattle.history_check_objects.specs.Opened.{IsSoundStore}
 use Rattle.history_objects.specs.Ids.{IdSet}
 
 -- The tree has the files of values that are a whole store in written form, and no others, no

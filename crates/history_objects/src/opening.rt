@@ -3,13 +3,13 @@ ghost use Rattle.std.specs.Prelude.{◌≡◌, IfErr, IfOk};
 ghost use Rattle.history_objects.specs.Face.{files_of_objects, ids_of_objects, kind_of_objects};
 ghost use Rattle.history_objects.specs.KnownObjects.{HoldsKnown};
 ghost use Rattle.history_objects.specs.Opened.{IsOpened};
-ghost use Rattle.history_survey.specs.Flaws.{IsObjectsFlaw};
-ghost use Rattle.history_survey.specs.Surveyed.{IsWholePart};
+ghost use Rattle.history_check_objects.specs.Flaws.{IsObjectsFlaw};
+ghost use Rattle.history_check_objects.specs.Surveyed.{IsWholePart};
 
 use crate::objects::Objects;
 use gix_hash::{Kind, ObjectId};
 use gix_ref_file::Files;
-use history_survey::whole_ids;
+use history_check_objects::whole_ids;
 use history_texts::OpenError;
 use std::alloc::Global;
 

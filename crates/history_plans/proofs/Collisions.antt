@@ -10,7 +10,7 @@ use Rattle.history_model.specs.Forms.{is_name}
 use Rattle.history_model.specs.Commands.{Commit, CommitCommand}
 use Rattle.history_model.specs.Causes.{do_collide, holds_tag, some_collide}
 use Rattle.history_model.specs.declared.Cause.TheVariants.{Collides, HoldsTag}
-use Rattle.history_steps.proofs.OfferedFiles.{each_key}
+use Rattle.history_layout.proofs.OfferedFiles.{each_key}
 use Rattle.gix_ref_way.specs.Ways.{IsAbove}
 use Rattle.history_plans.specs.CommitCauses.{first_among, place_causes}
 use Rattle.history_plans.specs.Halves.{FitsAmong}

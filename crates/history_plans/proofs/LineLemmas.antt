@@ -22,7 +22,7 @@ use Rattle.history_model.specs.Causes.{do_collide, first_cause, holds, is_at, sa
 use Rattle.history_model.specs.declared.Cause.{Cause}
 use Rattle.history_model.specs.declared.Cause.TheVariants.{BadActor, BadMessage, BadName, BadTime, NoSuchName, Taken, NotExpected, NothingMoves}
 use Rattle.history_model.specs.declared.Fault.TheVariants.{Memory, File, IdTaken}
-use Rattle.history_steps.specs.MoveSteps.{line_entry}
+use Rattle.history_layout.specs.MoveSteps.{line_entry}
 use Rattle.history_texts.specs.Formats.{actor_of, entry_of}
 use Rattle.history_texts.specs.declared.log_entry.LogEntry.{LogEntry}
 use Rattle.history_word.specs.Commands.{AreTos, IsTo}

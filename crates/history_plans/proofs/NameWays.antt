@@ -8,7 +8,7 @@ use Rattle.history_model.proofs.NameLemmas.{name-lock, log-lock}
 use Rattle.gix_ref_way.specs.Ways.{IsAbove, HasWay}
 use Rattle.history_model.specs.Forms.{is_name}
 use Rattle.history_model.specs.Places.{file_at, head_place, packed_place, log_place, log_name, is_lock_file, is_log_place}
-use Rattle.history_steps.specs.TreeHalves.{HoldsNames}
+use Rattle.history_layout.specs.TreeHalves.{HoldsNames}
 use Rattle.history_names.specs.References.{HasLockRoom, lock_place}
 use Rattle.history_names.proofs.NameFolders.{refs_of}
 use Rattle.std.proofs.lemmas.Slice.Eq.{bytes_eq-Decides}

@@ -20,8 +20,8 @@ use Rattle.history_model.specs.declared.Fault.TheVariants.{Memory, File, IdTaken
 use Rattle.history_model.proofs.PlaceLemmas.{same_key, text_itself, texts_apart}
 use Rattle.history_model.proofs.WholeLists.{In, same_text}
 use Rattle.history_model.proofs.WholeStores.{in_get}
-use Rattle.history_steps.specs.PackSteps.{record_for}
-use Rattle.history_steps.proofs.OfferedReads.{tags_stand_for_others}
+use Rattle.history_layout.specs.PackSteps.{record_for}
+use Rattle.history_layout.proofs.OfferedReads.{tags_stand_for_others}
 use Rattle.history_names.specs.Packed.{record_of_name, records_of}
 use Rattle.history_names.specs.declared.packs.PackedName.{PackedName}
 use Rattle.history_names.proofs.NameRead.{full_of}

@@ -7,7 +7,7 @@ use Rattle.std.specs.FinMap.{contains_key, get}
 use Rattle.history_model.specs.Objects.{StoredCommit, StoredTag, id_of as value_id}
 use Rattle.history_model.specs.Forms.{IsWritten, is_name, is_private, is_reference}
 use Rattle.history_model.specs.Repository.{Reference, stands, HaveOwnIds}
-use Rattle.history_steps.specs.TreeSteps.{MovesName}
+use Rattle.history_layout.specs.TreeSteps.{MovesName}
 use Rattle.history_texts.specs.Formats.{entry_of}
 use Rattle.gix_ref_file.specs.Tree.{Tree}
 use Rattle.history_model.specs.Commands.{Command, Commit, CommitCommand, Tag, TagCommand}
@@ -16,17 +16,17 @@ use Rattle.history_model.specs.Meaning.{new_commit, new_tag, stored_by, store_al
 use Rattle.history_model.specs.Causes.{holds, first_cause}
 use Rattle.history_model.specs.Steps.{Accepts}
 use Rattle.history_model.specs.StandsFor.{StandsFor}
-use Rattle.history_steps.specs.TreeHalves.{HoldsValues, HoldsNames}
-use Rattle.history_steps.specs.OneNameSteps.{NameMove, MovesOneName, entry_of_move}
+use Rattle.history_layout.specs.TreeHalves.{HoldsValues, HoldsNames}
+use Rattle.history_layout.specs.OneNameSteps.{NameMove, MovesOneName, entry_of_move}
 use Rattle.history_model.specs.Wholeness.{IsSound}
-use Rattle.history_steps.proofs.OneNameStands.{one_name_moves}
+use Rattle.history_layout.proofs.OneNameStands.{one_name_moves}
 use Rattle.history_model.proofs.WholeReads.{no_cause}
-use Rattle.history_steps.proofs.TreePuts.{halves_stand}
+use Rattle.history_layout.proofs.TreePuts.{halves_stand}
 use Rattle.history_model.proofs.WholeSteps.{steps_keep_sound}
 use Rattle.history_objects.specs.Face.{ids_of_objects}
 use Rattle.history_names.specs.Packing.{KeepsRecords}
 use Rattle.gix_traverse_commit_known.specs.Told.{rows_of}
-use Rattle.gix_traverse_commit_graph.specs.declared.rows.Row.{Row}
+use Rattle.gix_traverse_graph.specs.declared.rows.Row.{Row}
 use Rattle.history_repository.specs.Face.{objects_part, names_part, rows_in, KeepsAllButObjects, KeepsAllButNames}
 use Rattle.history_repository.specs.KeptRows.{AgreeRows}
 use Rattle.history_model.proofs.WholeStores.{all_keep}

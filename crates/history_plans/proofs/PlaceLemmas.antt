@@ -13,7 +13,7 @@ use Rattle.history_model.specs.Forms.{is_name}
 use Rattle.history_model.specs.Causes.{do_collide}
 use Rattle.history_model.specs.NameStates.{name_state}
 use Rattle.history_model.specs.Places.{file_at}
-use Rattle.history_steps.proofs.OfferedFiles.{all_keys}
+use Rattle.history_layout.proofs.OfferedFiles.{all_keys}
 use Rattle.gix_ref_way.specs.Ways.{IsAbove, HasWay}
 use Rattle.history_names.specs.AllNames.{TellsMeeting}
 use Rattle.history_repository.specs.Face.{names_part}

@@ -16,9 +16,9 @@ use Rattle.history_model.specs.Commands.{CommitCommand, Commit}
 use Rattle.history_model.specs.CommandParts.{paths_in, contents_in}
 use Rattle.history_model.specs.Meaning.{branch_or_name, first_files, parents_of, edits_of, new_commit, put_bytes, read_actor, stored_by, takes_id}
 use Rattle.history_model.specs.Causes.{first_cause, grafted_in, is_bad_path, is_too_large}
-use Rattle.history_steps.specs.Passing.{AreNewFolders, commit_puts}
+use Rattle.history_layout.specs.Passing.{AreNewFolders, commit_puts}
 use Rattle.history_model.specs.Steps.{MayTake}
-use Rattle.history_steps.specs.TreeSteps.{HasText, move_entry}
+use Rattle.history_layout.specs.TreeSteps.{HasText, move_entry}
 use Rattle.history_model.specs.Wholeness.{IsSound}
 use Rattle.history_model.specs.declared.Cause.{Cause}
 use Rattle.history_model.specs.declared.Cause.TheVariants.{BadPath, IsFolder, NoSuchPath, TooLarge}
@@ -26,8 +26,8 @@ use Rattle.history_model.specs.declared.Fault.{Fault}
 use Rattle.history_model.specs.declared.Fault.TheVariants.{Memory, File, IdTaken}
 use Rattle.gix_hash_id.specs.declared.kind.Kind.{Kind}
 use Rattle.history_model.proofs.IdLemmas.{digest_is_id}
-use Rattle.history_steps.proofs.OfferedReads.{parents_are_commits}
-use Rattle.history_steps.proofs.PassedStops.{commits_store_whole}
+use Rattle.history_layout.proofs.OfferedReads.{parents_are_commits}
+use Rattle.history_layout.proofs.PassedStops.{commits_store_whole}
 use Rattle.history_model.proofs.PlaceLemmas.{values_have_ids}
 use Rattle.history_model.proofs.WholeLists.{In, in_left, in_right, in_either, in_map, of_map}
 use Rattle.history_model.proofs.WholeSteps.{contains_in, in_contains}
@@ -44,7 +44,7 @@ use Rattle.history_texts.specs.declared.log_entry.LogEntry.{LogEntry}
 use Rattle.history_word.specs.Commands.{AreEdits}
 use Rattle.history_word.specs.declared.command.Edit.{Edit}
 use Rattle.history_repository.specs.Reads.{IsReadingFault}
-use Rattle.history_steps.specs.OneNameSteps.{commit_move}
+use Rattle.history_layout.specs.OneNameSteps.{commit_move}
 use Rattle.history_plans.specs.CommitCauses.{first_among, form_causes, name_causes, path_causes, is_long, IsToldBy, Tests}
 use Rattle.history_plans.specs.Bases.{IsCommitBase}
 use Rattle.history_plans.specs.Files.{TellsEdited, TellsRead, grafts_badly, kept_edit}

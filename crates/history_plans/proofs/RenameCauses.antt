@@ -16,7 +16,7 @@ use Rattle.history_model.specs.declared.Cause.{Cause}
 use Rattle.history_model.specs.declared.Cause.TheVariants.{BadName, PrivateName, NameTwice, NoSuchName, Taken, Collides}
 use Rattle.history_model.proofs.WholeLists.{none_passes}
 use Rattle.history_model.proofs.WholeReads.{no_cause}
-use Rattle.history_steps.specs.RenameSteps.{rename_entry}
+use Rattle.history_layout.specs.RenameSteps.{rename_entry}
 use Rattle.history_texts.specs.Formats.{actor_of, entry_of}
 use Rattle.history_names.specs.Packing.{NameReads}
 use Rattle.history_texts.specs.declared.log_entry.LogEntry.{LogEntry}

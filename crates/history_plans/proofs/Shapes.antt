@@ -5,7 +5,7 @@ use Rattle.std.specs.List.{list_all, list_any, flat_map, AllZip}
 use Rattle.std.specs.FinMap.{keys, contains_key, get, insert, retain_keys}
 use Rattle.history_model.specs.Bytes.{Bytes}
 use Rattle.history_model.specs.FileMap.{FileMap, Content, Edit, Put, Remove, RemoveFile, Graft, carried, cleared, edited, is_below, has_below, is_refused, is_within, some_refused, grafted_paths, grafts_nothing}
-use Rattle.history_steps.proofs.OfferedFiles.{all_keys, each_key}
+use Rattle.history_layout.proofs.OfferedFiles.{all_keys, each_key}
 use Rattle.history_model.proofs.WholeStores.{get_retained}
 use Rattle.history_model.proofs.AfterFirstLemmas.{get-with}
 use Rattle.history_files.proofs.StandInEdits.{put_keys_all}

@@ -19,7 +19,7 @@ use Rattle.history_model.specs.declared.Cause.{Cause}
 use Rattle.history_model.specs.declared.Cause.TheVariants.{AmbiguousWord, BadActor, BadMessage, BadName, BadTime, Collides, NotACommit, NothingMoves, TooLarge, UnbornHead, UnknownWord}
 use Rattle.history_model.specs.declared.Fault.TheVariants.{File, IdTaken, Memory}
 use Rattle.history_model.specs.CommandParts.{at_word}
-use Rattle.history_steps.specs.OneNameSteps.{entry_of_move, tag_move}
+use Rattle.history_layout.specs.OneNameSteps.{entry_of_move, tag_move}
 use Rattle.history_model.proofs.WholePaths.{begins_parts}
 use Rattle.history_model.proofs.WholeReads.{read_holds}
 use Rattle.history_texts.specs.Formats.{actor_of, entry_of}

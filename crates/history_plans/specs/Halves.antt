@@ -8,8 +8,8 @@ use Rattle.history_model.specs.Bytes.{Bytes}
 use Rattle.history_model.specs.Forms.{is_name}
 use Rattle.history_model.specs.Causes.{do_collide}
 use Rattle.history_model.specs.Meaning.{some_taken, store_all}
-use Rattle.history_steps.specs.TreeHalves.{HoldsValues, HoldsNames}
-use Rattle.history_steps.specs.TreeSteps.{MovesName}
+use Rattle.history_layout.specs.TreeHalves.{HoldsValues, HoldsNames}
+use Rattle.history_layout.specs.TreeSteps.{MovesName}
 use Rattle.gix_hash_id.specs.declared.kind.Kind.{Kind}
 use Rattle.history_model.specs.declared.Fault.TheVariants.{Memory, File, IdTaken}
 use Rattle.std.specs.FinMap.{contains_key}

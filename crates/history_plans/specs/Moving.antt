@@ -14,7 +14,7 @@ use Rattle.history_model.specs.Words.{commit_of}
 use Rattle.history_model.specs.declared.Cause.{Cause}
 use Rattle.history_model.specs.declared.Cause.TheVariants.{BadName, PrivateName, NameTwice, NoSuchName, Taken, NotExpected, BadActor, BadTime, BadMessage, NothingMoves}
 use Rattle.history_model.specs.declared.Fault.TheVariants.{Memory, File, IdTaken}
-use Rattle.history_steps.specs.MoveSteps.{line_entry}
+use Rattle.history_layout.specs.MoveSteps.{line_entry}
 use Rattle.history_texts.specs.Formats.{actor_of, entry_of}
 use Rattle.history_texts.specs.declared.actor.Actor.{Actor}
 use Rattle.history_word.specs.declared.command.Field.{Field}

@@ -13,9 +13,9 @@ use Rattle.history_model.specs.Commands.{CommitCommand, Commit}
 use Rattle.history_model.specs.Meaning.{edits_of, first_files, new_commit, parents_of, put_bytes, read_actor, stored_by}
 use Rattle.history_model.specs.Causes.{first_cause}
 use Rattle.history_model.specs.Steps.{MayTake}
-use Rattle.history_steps.specs.OneNameSteps.{NameMove, commit_move, entry_of_move}
-use Rattle.history_steps.specs.TreeSteps.{HasText}
-use Rattle.history_steps.specs.Passing.{StoresWhole}
+use Rattle.history_layout.specs.OneNameSteps.{NameMove, commit_move, entry_of_move}
+use Rattle.history_layout.specs.TreeSteps.{HasText}
+use Rattle.history_layout.specs.Passing.{StoresWhole}
 use Rattle.history_model.specs.declared.Cause.{Cause}
 use Rattle.history_model.specs.declared.Cause.TheVariants.{TooLarge}
 use Rattle.history_model.specs.declared.Fault.TheVariants.{Memory, File, IdTaken}

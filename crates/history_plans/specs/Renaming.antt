@@ -6,7 +6,7 @@ use Rattle.history_model.specs.Bytes.{Bytes}
 use Rattle.history_model.specs.Causes.{first_cause}
 use Rattle.history_model.specs.Commands.{Rename}
 use Rattle.history_model.specs.Repository.{id_at}
-use Rattle.history_steps.specs.RenameSteps.{rename_entry}
+use Rattle.history_layout.specs.RenameSteps.{rename_entry}
 use Rattle.history_texts.specs.Formats.{entry_of}
 use Rattle.history_repository.specs.Reads.{IsReadingFault}
 use Rattle.history_plans.specs.declared.planning.Moves.{Moves}

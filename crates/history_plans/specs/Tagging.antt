@@ -11,7 +11,7 @@ use Rattle.history_model.specs.Objects.{TagValue, tag_content}
 use Rattle.history_model.specs.Words.{commit_of}
 use Rattle.history_model.specs.declared.Cause.{Cause}
 use Rattle.history_model.specs.declared.Cause.TheVariants.{BadActor, BadTime, BadMessage, TooLarge, NothingMoves}
-use Rattle.history_steps.specs.OneNameSteps.{tag_move}
+use Rattle.history_layout.specs.OneNameSteps.{tag_move}
 use Rattle.history_texts.specs.Formats.{actor_of}
 use Rattle.history_texts.specs.declared.actor.Actor.{Actor}
 use Rattle.history_texts.specs.declared.object.NewObject.{NewObject}

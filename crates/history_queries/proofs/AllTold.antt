@@ -8,13 +8,13 @@ use Rattle.gix_hash_id.specs.Id.{Id, id_of}
 use Rattle.gix_hash_id.specs.Order.{id_eq}
 use Rattle.gix_hash_id.specs.Packed.{object_id_of, object_id_of-id_of}
 use Rattle.gix_hash_id.specs.declared.object_id.ObjectId.{ObjectId}
-use Rattle.gix_traverse_commit_graph.specs.Commits.{Commits, Listed, Reached, WalkRequest, tip, parent}
-use Rattle.gix_traverse_commit_graph.specs.Order.{At}
-use Rattle.gix_traverse_commit_graph.specs.Walks.{topological}
-use Rattle.gix_traverse_commit_graph.specs.declared.parents.Parents.TheVariants.{All}
-use Rattle.gix_traverse_commit_graph.specs.declared.rows.Row.{Row}
-use Rattle.gix_traverse_commit_graph.proofs.Listing.{has_listed}
-use Rattle.gix_traverse_commit_graph.proofs.Lists.{at_append, at_from_contains, at_from_take, contains_from_at}
+use Rattle.gix_traverse_graph.specs.Commits.{Commits, Listed, Reached, WalkRequest, tip, parent}
+use Rattle.gix_traverse_graph.specs.Order.{At}
+use Rattle.gix_traverse_graph.specs.Walks.{topological}
+use Rattle.gix_traverse_graph.specs.declared.parents.Parents.TheVariants.{All}
+use Rattle.gix_traverse_graph.specs.declared.rows.Row.{Row}
+use Rattle.gix_traverse_graph.proofs.Listing.{has_listed}
+use Rattle.gix_traverse_graph.proofs.Lists.{at_append, at_from_contains, at_from_take, contains_from_at}
 use Rattle.history_model.specs.Answers.{commits_of, parents_at}
 use Rattle.history_model.specs.Forms.{IsWritten}
 use Rattle.history_model.specs.Objects.{Actor, CommitValue, Value, StoredCommit, StoredTag, StoredBytes, StoredFolder}

@@ -23,7 +23,7 @@ use Rattle.gix_hash_id.specs.declared.kind.Kind.{Kind}
 use Rattle.history_model.specs.declared.Cause.{Cause}
 use Rattle.history_model.specs.declared.Cause.TheVariants.{BadPath, IsFolder, NoSuchPath}
 use Rattle.history_model.proofs.WholeReads.{read_holds}
-use Rattle.history_steps.proofs.OfferedFiles.{files_are_stored}
+use Rattle.history_layout.proofs.OfferedFiles.{files_are_stored}
 use Rattle.history_model.proofs.WholeLists.{texts_differ}
 use Rattle.history_texts.specs.Commits.{SaysCommit}
 use Rattle.gix_hash_id.specs.declared.object_id.ObjectId.{ObjectId}

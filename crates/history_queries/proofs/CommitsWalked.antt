@@ -20,19 +20,19 @@ use Rattle.gix_object_commit_tokens.proofs.OnePart.{one_id}
 use Rattle.gix_object_commit_tokens.proofs.ToldParts.{parts_read, end}
 use Rattle.gix_object_lookup.specs.Existing.{Stands}
 use Rattle.gix_object_lookup.specs.Table.{Object, Table, content_or_none}
-use Rattle.gix_traverse_commit_graph.specs.Commits.{Commit, Commits, Reached, WalkRequest, asked_parents, tip, parent}
+use Rattle.gix_traverse_graph.specs.Commits.{Commit, Commits, Reached, WalkRequest, asked_parents, tip, parent}
 use Rattle.gix_traverse_commit_known.specs.Fetching.{LacksParents}
-use Rattle.gix_traverse_commit_graph.specs.Order.{At}
-use Rattle.gix_traverse_commit_graph.specs.declared.parents.Parents.{Parents}
-use Rattle.gix_traverse_commit_graph.specs.declared.parents.Parents.TheVariants.{All}
-use Rattle.gix_traverse_commit_graph.specs.Walks.{InSomeOrder, breadth, newest, oldest, date, topological}
+use Rattle.gix_traverse_graph.specs.Order.{At}
+use Rattle.gix_traverse_graph.specs.declared.parents.Parents.{Parents}
+use Rattle.gix_traverse_graph.specs.declared.parents.Parents.TheVariants.{All}
+use Rattle.gix_traverse_graph.specs.Walks.{InSomeOrder, breadth, newest, oldest, date, topological}
 use Rattle.gix_traverse_commit_known.specs.Painting.{ReachedFrom}
-use Rattle.gix_traverse_commit_graph.specs.RowCommits.{commit_of}
-use Rattle.gix_traverse_commit_graph.specs.Rows.{AllHeld, Holds}
+use Rattle.gix_traverse_graph.specs.RowCommits.{commit_of}
+use Rattle.gix_traverse_graph.specs.Rows.{AllHeld, Holds}
 use Rattle.gix_traverse_commit_known.specs.Told.{AreTold, IsNoCommit, TellsCommit, rows_of}
-use Rattle.gix_traverse_commit_graph.specs.declared.rows.Row.{Row}
-use Rattle.gix_traverse_commit_graph.proofs.Listing.{asked_parent, has_listed}
-use Rattle.gix_traverse_commit_graph.proofs.Lists.{at_from_contains}
+use Rattle.gix_traverse_graph.specs.declared.rows.Row.{Row}
+use Rattle.gix_traverse_graph.proofs.Listing.{asked_parent, has_listed}
+use Rattle.gix_traverse_graph.proofs.Lists.{at_from_contains}
 use Rattle.gix_traverse_topo.specs.Standing.{NoneReachesItself}
 use Rattle.history_model.specs.Answers.{commits_of, parents_at, time_at}
 use Rattle.history_model.specs.Bytes.{Bytes}

@@ -13,8 +13,8 @@ use Rattle.gix_hash_id.specs.Id.{Id, id_of}
 use Rattle.gix_hash_id.specs.declared.kind.Kind.{Kind}
 use Rattle.gix_hash_id.specs.declared.object_id.ObjectId.{ObjectId}
 use Rattle.gix_ref_file.specs.History.{History}
-use Rattle.gix_traverse_commit_graph.specs.Order.{At}
-use Rattle.gix_traverse_commit_graph.proofs.Lists.{contains_from_at}
+use Rattle.gix_traverse_graph.specs.Order.{At}
+use Rattle.gix_traverse_graph.proofs.Lists.{contains_from_at}
 use Rattle.history_files.specs.Reading.{entry_of}
 use Rattle.history_files.specs.declared.found.Found.{Found}
 use Rattle.history_model.specs.Answers.{differs_at, files_before, parents_at, same_entries, same_kind}

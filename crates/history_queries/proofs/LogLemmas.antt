@@ -8,12 +8,12 @@ use Rattle.std.proofs.lemmas.Bool.{or_parts}
 use Rattle.std.proofs.lemmas.List.Folds.{list_any-append}
 use Rattle.gix_hash_id.specs.Id.{Id, id_of}
 use Rattle.gix_hash_id.specs.declared.object_id.ObjectId.{ObjectId}
-use Rattle.gix_traverse_commit_graph.specs.Commits.{Commits, WalkRequest}
-use Rattle.gix_traverse_commit_graph.specs.Order.{At}
-use Rattle.gix_traverse_commit_graph.proofs.Lists.{at_from_contains}
-use Rattle.gix_traverse_commit_graph.specs.Walks.{InBreadth, ByNewest, ByOldest, InDate, InTopological}
-use Rattle.gix_traverse_commit_graph.specs.declared.parents.Parents.{Parents}
-use Rattle.gix_traverse_commit_graph.specs.declared.parents.Parents.TheVariants.{All}
+use Rattle.gix_traverse_graph.specs.Commits.{Commits, WalkRequest}
+use Rattle.gix_traverse_graph.specs.Order.{At}
+use Rattle.gix_traverse_graph.proofs.Lists.{at_from_contains}
+use Rattle.gix_traverse_graph.specs.Walks.{InBreadth, ByNewest, ByOldest, InDate, InTopological}
+use Rattle.gix_traverse_graph.specs.declared.parents.Parents.{Parents}
+use Rattle.gix_traverse_graph.specs.declared.parents.Parents.TheVariants.{All}
 use Rattle.history_model.specs.Answers.{IsWalk, commits_of, differs_at, hidden_word, kept, since_of, tip_word, walk_request}
 use Rattle.history_model.specs.Bytes.{Bytes, digits_value}
 use Rattle.history_model.specs.Causes.{first_cause, is_ambiguous, is_bad_path, is_hidden, is_no_commit, is_unborn, is_unknown}

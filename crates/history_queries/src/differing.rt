@@ -17,7 +17,7 @@ ghost use Rattle.history_model.specs.Repository as plain;
 use crate::rows::told_of;
 use gix_hash::ObjectId;
 use gix_ref_file::Files;
-use gix_traverse_commit_graph::ParentIds;
+use gix_traverse_graph::ParentIds;
 use history_files::{EntriesState, Found, entries_at};
 use history_repository::{Repository, Stopped};
 use history_walks::ReadCommits;

@@ -3,7 +3,7 @@
 ghost use Rattle.std.specs.Prelude.{◌≡◌, Contains, IfOk, IfSome, Some, is_some};
 ghost use Rattle.std.specs.FinMap.{get};
 ghost use Rattle.gix_hash_id.specs.Id.{id_of};
-ghost use Rattle.gix_traverse_commit_graph.specs.Rows.{AreRows};
+ghost use Rattle.gix_traverse_graph.specs.Rows.{AreRows};
 ghost use Rattle.gix_traverse_commit_known.specs.Told.{rows_of as graph_rows};
 ghost use Rattle.history_model.specs.Objects.{Value};
 ghost use Rattle.history_model.specs.Repository.{HoldsCommit};
@@ -21,7 +21,7 @@ use crate::reading::{commit_kept, commits};
 use gix_hash::ObjectId;
 use gix_object::Commit;
 use gix_ref_file::Files;
-use gix_traverse_commit_graph::{ParentIds, Row};
+use gix_traverse_graph::{ParentIds, Row};
 use history_repository::{Repository, Stopped};
 use history_store::object_place;
 use history_walks::{Order, Parents, ReadCommits, Request, Told, rows_of};

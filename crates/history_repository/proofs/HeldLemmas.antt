@@ -7,7 +7,7 @@ use Rattle.gix_hash_id.specs.declared.object_id.ObjectId.{ObjectId}
 use Rattle.history_model.specs.Bytes.{Bytes}
 use Rattle.history_model.specs.Objects.{TagValue, Value, StoredBytes, StoredCommit, StoredFolder, StoredTag, object_kind}
 use Rattle.history_model.specs.Repository.{Repository, HasWholeNames, IsWholeStore, id_at, is_tag, peeled, peeled_value, stands}
-use Rattle.history_steps.proofs.OfferedReads.{tags_stand_for_others}
+use Rattle.history_layout.proofs.OfferedReads.{tags_stand_for_others}
 use Rattle.history_repository.specs.Held.{IsHeld, held_commit, held_id}
 use Rattle.history_repository.specs.Meant.{peeled_id}
 use Rattle.history_repository.specs.declared.held.Held.{Held}

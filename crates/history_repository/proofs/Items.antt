@@ -4,11 +4,11 @@ use Rattle.std.specs.List.{flat_map}
 use Rattle.std.specs.Fmt.{digits}
 use Rattle.std.specs.FinMap.{entries, empty, get, keys, values}
 use Rattle.gix_hash_id.specs.declared.kind.Kind.{Kind}
-use Rattle.gix_object_entries.specs.Entry.{Item, SpellsTree}
-use Rattle.gix_object_entries.specs.Mode.{kind_of, kind_value, kind_word}
-use Rattle.gix_object_entries.specs.ModeText.{mode_text}
-use Rattle.gix_object_entries.specs.Order.{is_tree}
-use Rattle.gix_object_entries.specs.declared.tree.mode.EntryKind.TheVariants as modes
+use Rattle.gix_object_tree.specs.Entry.{Item, SpellsTree}
+use Rattle.gix_object_tree.specs.Mode.{kind_of, kind_value, kind_word}
+use Rattle.gix_object_tree.specs.ModeText.{mode_text}
+use Rattle.gix_object_tree.specs.Order.{is_tree}
+use Rattle.gix_object_tree.specs.declared.tree.mode.EntryKind.TheVariants as modes
 use Rattle.gix_object_nodes.specs.Writing.{folder_mode}
 use Rattle.gix_object_lines.specs.declared.kind.Kind.TheVariants as kinds
 use Rattle.history_files.specs.Unfolding.{entry_kind as mode_kind}
@@ -27,8 +27,8 @@ use Rattle.history_model.proofs.WholeLists.{In, in_flat, in_left, in_map, in_rig
 use Rattle.history_model.proofs.WholePaths.{is_beginning}
 use Rattle.history_model.proofs.WholeRoots.{HasAll, in_inside}
 use Rattle.history_texts.specs.Written.{IsWrittenEntry, IsWrittenMode, IsWrittenTree, entry_kind}
-use Rattle.history_survey.specs.Opened.{store_of}
-use Rattle.history_survey.proofs.Empties.{entries-empty}
+use Rattle.history_check_objects.specs.Opened.{store_of}
+use Rattle.history_check_objects.proofs.Empties.{entries-empty}
 
 pub same_files : (a b : FileMap) → StoredFolder a ≡ StoredFolder b → a ≡ b
 same_files a b e = cc

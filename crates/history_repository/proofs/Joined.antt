@@ -20,26 +20,26 @@ use Rattle.history_model.specs.Repository.{HaveOwnIds, Repository, Values, first
 use Rattle.history_model.specs.StandsFor.{StandsWhole, head_text}
 use Rattle.history_model.proofs.PlaceLemmas.{file_at_id, id_length, values_have_ids}
 use Rattle.history_model.proofs.IdLemmas.{id_from_hex-hex, length-hex}
-use Rattle.history_steps.specs.TreeHalves.{HoldsValues}
-use Rattle.history_steps.proofs.TreePuts.{halves_stand}
+use Rattle.history_layout.specs.TreeHalves.{HoldsValues}
+use Rattle.history_layout.proofs.TreePuts.{halves_stand}
 use Rattle.history_objects.specs.Face.{ids_of_objects}
 use Rattle.history_objects.specs.Ids.{IdSet}
 use Rattle.history_objects.specs.KnownObjects.{object_at}
 use Rattle.history_texts.specs.ObjectTexts.{object_in}
 use Rattle.history_names.specs.Packing.{KeepsRecords}
 use Rattle.history_texts.proofs.TextObjects.{object_in-text}
-use Rattle.history_survey.specs.Flaws.{IsObjectsFlaw}
+use Rattle.history_check_objects.specs.Flaws.{IsObjectsFlaw}
 use Rattle.history_objects.specs.Opened.{IsOpened}
-use Rattle.history_survey.specs.Opened.{IsSoundStore, store_of}
+use Rattle.history_check_objects.specs.Opened.{IsSoundStore, store_of}
 use Rattle.history_texts.specs.declared.open_error.OpenError.{OpenError}
-use Rattle.history_survey.proofs.Joins.{whole_on}
-use Rattle.history_names_survey.specs.Causes.{HasCause, IsFault}
-use Rattle.history_names_survey.specs.Joined.{StandsStore}
-use Rattle.history_names_survey.specs.Parts.{IsNamesPart, StandsNames}
-use Rattle.history_names_survey.specs.Stored.{AreFactsOf, Fact, Facts, fact_of, fact_told, is_of_wrong_kind, is_tag_of, target_in}
-use Rattle.history_names_survey.specs.declared.error.NamesError.{NamesError}
-use Rattle.history_names_survey.specs.declared.error.NamesError.TheVariants.{NoHead, BadHead, Stray, Unfinished, BadName, PrivateName, Symbolic, Missing, WrongKind, BadPacked, BadPeeled, Collides, BadLog, LongLogLine, LogWithoutName, File, Memory}
-use Rattle.history_names_survey.specs.Told.{cause_of_names}
+use Rattle.history_check_objects.proofs.Joins.{whole_on}
+use Rattle.history_check_names.specs.Causes.{HasCause, IsFault}
+use Rattle.history_check_names.specs.Joined.{StandsStore}
+use Rattle.history_check_names.specs.Parts.{IsNamesPart, StandsNames}
+use Rattle.history_check_names.specs.Stored.{AreFactsOf, Fact, Facts, fact_of, fact_told, is_of_wrong_kind, is_tag_of, target_in}
+use Rattle.history_check_names.specs.declared.error.NamesError.{NamesError}
+use Rattle.history_check_names.specs.declared.error.NamesError.TheVariants.{NoHead, BadHead, Stray, Unfinished, BadName, PrivateName, Symbolic, Missing, WrongKind, BadPacked, BadPeeled, Collides, BadLog, LongLogLine, LogWithoutName, File, Memory}
+use Rattle.history_check_names.specs.Told.{cause_of_names}
 use Rattle.history_repository.specs.Causes.{IsOpenCause, IsOpenFault, facts_of}
 use Rattle.history_repository.specs.Opened.{IsOpenedAs}
 use Rattle.history_repository.specs.declared.folder.OpenedFolder.{OpenedFolder}

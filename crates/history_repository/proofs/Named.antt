@@ -6,7 +6,7 @@ use Rattle.gix_hash_id.specs.Kind.{hex_len}
 use Rattle.gix_hash_id.specs.declared.kind.Kind.{Kind}
 use Rattle.gix_object_commit_lines.specs.Commit.{SpellsCommit, commit_text}
 use Rattle.gix_object_commit_lines.proofs.Once.{spells_once}
-use Rattle.gix_object_entries.proofs.TreeLaws.{one_tree}
+use Rattle.gix_object_tree.proofs.TreeLaws.{one_tree}
 use Rattle.gix_object_lines.specs.declared.kind.Kind.TheVariants as kinds
 use Rattle.history_files.proofs.Items.{items, items_spelled}
 use Rattle.history_files.proofs.Unfolded.{plain_map}
@@ -21,7 +21,7 @@ use Rattle.history_model.proofs.WholeLists.{In, all_in, of_map}
 use Rattle.history_model.proofs.WholeRoots.{HasAll}
 use Rattle.history_texts.specs.Written.{AreCommitParts, NamesByCommit, NamesByParts, NamesByTag, NamesByTree, NamesObjects, Naming, commit_parts, named_by_item}
 use Rattle.history_texts.proofs.CommitTexts.{ids_tell, plain_spelled, value_forms, value_parts, value_spelled}
-use Rattle.history_survey.specs.Opened.{store_of}
+use Rattle.history_check_objects.specs.Opened.{store_of}
 use Rattle.history_repository.proofs.Items.{entry_value, item_is}
 
 module _ (kind : Kind) (stored : Values) (whole : IsWholeStore (store_of kind stored)) where

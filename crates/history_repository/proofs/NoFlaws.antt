@@ -4,8 +4,8 @@ use Rattle.std.specs.FinMap.{contains_key, empty, get}
 use Rattle.gix_hash_id.specs.Id.{Id, id_of, null_id}
 use Rattle.gix_hash_id.specs.Order.{id_eq}
 use Rattle.gix_hash_id.specs.declared.kind.Kind.{Kind}
-use Rattle.gix_object_entries.specs.Entry.{Item, SpellsTree}
-use Rattle.gix_object_entries.proofs.TreeLaws.{one_tree}
+use Rattle.gix_object_tree.specs.Entry.{Item, SpellsTree}
+use Rattle.gix_object_tree.proofs.TreeLaws.{one_tree}
 use Rattle.gix_object_lines.specs.declared.kind.Kind.{Kind as ObjectKind}
 use Rattle.gix_object_lines.specs.declared.kind.Kind.TheVariants as kinds
 use Rattle.gix_ref_file.specs.Tree.{Tree}
@@ -26,18 +26,18 @@ use Rattle.history_model.proofs.WholeLists.{In, clash, none_is_some, passes_one}
 use Rattle.history_model.proofs.WholeSteps.{contains_in}
 use Rattle.history_model.proofs.WholeStores.{in_get}
 use Rattle.history_model.proofs.WholeTexts.{object_same}
-use Rattle.history_steps.specs.TreeHalves.{HoldsValues}
-use Rattle.history_steps.specs.TreeReads.{HasObject}
+use Rattle.history_layout.specs.TreeHalves.{HoldsValues}
+use Rattle.history_layout.specs.TreeReads.{HasObject}
 use Rattle.history_texts.specs.ObjectTexts.{is_empty_tree}
 use Rattle.history_texts.specs.Written.{IsMalformed, NamesObjects, named_by_commit, named_by_item}
 use Rattle.history_texts.proofs.CommitTexts.{content_of_parts, value_parts}
 use Rattle.history_texts.proofs.Malformeds.{before_malformed, of_other_malformed}
-use Rattle.history_survey.specs.Flaws.{HasBadTag, HasBadTime, HasEntry, HasFile, HasMissing, HasPath, HasReserved, HasText, HasWrongKind, IsBadText, IsBadTree, IsObjectsFlaw, IsOther, IsStray, IsTooLong, Leads, Names, by_way_of, deep, deeper, entry, malformed, names, no_commit, no_object, no_tag, stray_file, stray_folder}
-use Rattle.history_survey.specs.Opened.{IsSoundStore, store_of}
+use Rattle.history_check_objects.specs.Flaws.{HasBadTag, HasBadTime, HasEntry, HasFile, HasMissing, HasPath, HasReserved, HasText, HasWrongKind, IsBadText, IsBadTree, IsObjectsFlaw, IsOther, IsStray, IsTooLong, Leads, Names, by_way_of, deep, deeper, entry, malformed, names, no_commit, no_object, no_tag, stray_file, stray_folder}
+use Rattle.history_check_objects.specs.Opened.{IsSoundStore, store_of}
 use Rattle.history_texts.specs.declared.open_error.NamedBy.TheVariants.{Object}
 use Rattle.history_texts.specs.declared.open_error.OpenError.{OpenError}
 use Rattle.history_texts.specs.declared.open_error.OpenError.TheVariants as flaws
-use Rattle.history_survey.proofs.Empties.{root-empty}
+use Rattle.history_check_objects.proofs.Empties.{root-empty}
 use Rattle.history_repository.specs.Causes.{IsOpenFault}
 use Rattle.history_repository.proofs.Items.{IsItem, are_written, bytes_stored, folder_stored, item_is, of_file, of_folder, same_files}
 use Rattle.history_repository.proofs.Named.{IsNamed, named_value}

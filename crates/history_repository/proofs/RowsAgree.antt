@@ -3,8 +3,8 @@ use Rattle.std.proofs.Common.{◌≡◌, arith, List, [], Some}
 use Rattle.std.specs.FinMap.{get}
 use Rattle.gix_hash_id.specs.Id.{Id, id_of}
 use Rattle.gix_hash_id.specs.declared.kind.Kind.{Kind}
-use Rattle.gix_traverse_commit_graph.specs.declared.rows.Row.{Row}
-use Rattle.gix_traverse_commit_graph.proofs.Lists.{none_at_nil}
+use Rattle.gix_traverse_graph.specs.declared.rows.Row.{Row}
+use Rattle.gix_traverse_graph.proofs.Lists.{none_at_nil}
 use Rattle.history_model.specs.Objects.{StoredCommit, Value}
 use Rattle.history_model.specs.Repository.{Values}
 use Rattle.history_repository.specs.KeptRows.{AgreeRows}

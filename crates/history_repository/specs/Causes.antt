@@ -4,12 +4,12 @@ use Rattle.std.specs.FinMap.{get}
 use Rattle.gix_hash_id.specs.declared.kind.Kind.{Kind}
 use Rattle.history_model.specs.Places.{Pair}
 use Rattle.history_model.specs.Repository.{Values}
-use Rattle.history_names_survey.specs.Causes.{HasCause}
-use Rattle.history_names_survey.specs.Joined.{StandsStore}
-use Rattle.history_names_survey.specs.Stored.{Facts, fact_of}
-use Rattle.history_names_survey.specs.Told.{cause_of_names}
-use Rattle.history_names_survey.specs.declared.error.NamesError.{NamesError}
-use Rattle.history_survey.specs.Flaws.{IsObjectsFlaw}
+use Rattle.history_check_names.specs.Causes.{HasCause}
+use Rattle.history_check_names.specs.Joined.{StandsStore}
+use Rattle.history_check_names.specs.Stored.{Facts, fact_of}
+use Rattle.history_check_names.specs.Told.{cause_of_names}
+use Rattle.history_check_names.specs.declared.error.NamesError.{NamesError}
+use Rattle.history_check_objects.specs.Flaws.{IsObjectsFlaw}
 use Rattle.history_texts.specs.declared.open_error.OpenError.{OpenError}
 use Rattle.history_texts.specs.declared.open_error.OpenError.TheVariants.{File, Memory}
 

@@ -1,6 +1,6 @@
 -- What callers see of a repository.
 use Rattle.std.specs.Prelude.{◌≡◌, Bool, List, Option}
-use Rattle.gix_traverse_commit_graph.specs.declared.rows.Row.{Row}
+use Rattle.gix_traverse_graph.specs.declared.rows.Row.{Row}
 use Rattle.history_objects.specs.Ids.{IdSet}
 use Rattle.history_objects.specs.Face.{files_of_objects, ids_of_objects}
 use Rattle.history_names.specs.Face.{files_of_names}

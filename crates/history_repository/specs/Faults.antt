@@ -1,7 +1,7 @@
 -- Why a command isn't done.
 use Rattle.std.specs.Prelude.{⊤}
 use Rattle.gix_ref_file.specs.declared.files.FileError.{FileError}
-use Rattle.gix_traverse_commit_graph.specs.declared.rows.RowsError.{RowsError}
+use Rattle.gix_traverse_graph.specs.declared.rows.RowsError.{RowsError}
 use Rattle.history_model.specs.declared.Fault.{Fault}
 use Rattle.history_model.specs.declared.Fault.TheVariants.{Memory, File, IdTaken}
 use Rattle.history_files.specs.declared.error.ReadError.{ReadError}
@@ -11,7 +11,7 @@ use Rattle.history_repository.specs.declared.stopped.Stopped.{Stopped}
 use Rattle.gix_ref_file.specs.declared.files.FileError.TheVariants as file
 use Rattle.gix_object_lookup.specs.declared.find.Error as find
 use Rattle.gix_object_lookup.specs.declared.find.Error.TheVariants as found
-use Rattle.gix_traverse_commit_graph.specs.declared.rows.RowsError.TheVariants as rows
+use Rattle.gix_traverse_graph.specs.declared.rows.RowsError.TheVariants as rows
 use Rattle.history_files.specs.declared.error.ReadError.TheVariants as read
 use Rattle.history_objects.specs.declared.objects.PutMadeError.TheVariants as put
 use Rattle.history_walks.specs.declared.error.WalkError.TheVariants as walk

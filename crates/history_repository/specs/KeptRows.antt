@@ -3,8 +3,8 @@ use Rattle.std.specs.Prelude.{◌≡◌, pos, List, Some, Contains, map}
 use Rattle.std.specs.FinMap.{get}
 use Rattle.gix_hash_id.specs.Id.{id_of}
 use Rattle.gix_hash_id.specs.declared.kind.Kind.{Kind}
-use Rattle.gix_traverse_commit_graph.specs.Rows.{AreRows}
-use Rattle.gix_traverse_commit_graph.specs.declared.rows.Row.{Row}
+use Rattle.gix_traverse_graph.specs.Rows.{AreRows}
+use Rattle.gix_traverse_graph.specs.declared.rows.Row.{Row}
 use Rattle.history_model.specs.Objects.{CommitValue, StoredCommit, folder_id}
 use Rattle.history_model.specs.Repository.{Values}
 

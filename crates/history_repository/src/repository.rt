@@ -4,7 +4,7 @@ ghost use Rattle.std.specs.Prelude.{◌≡◌, option_map};
 ghost use Rattle.history_repository.specs.Face.{objects_part, names_part, has_failed, rows_in};
 
 use gix_ref_file::Files;
-use gix_traverse_commit_graph::Graph;
+use gix_traverse_graph::Graph;
 use history_store::{Names, Objects};
 
 /// A repository over two file trees: one holds the objects, the other HEAD, the names and their

@@ -7,7 +7,7 @@ ghost use Rattle.history_repository.specs.declared.stopped.Stopped.TheVariants a
 
 use gix_object::find;
 use gix_ref_file::FileError;
-use gix_traverse_commit_graph::RowsError;
+use gix_traverse_graph::RowsError;
 use history_files::ReadError;
 use history_model::{Cause, Fault};
 use history_store::PutMadeError;

@@ -3,11 +3,11 @@
 ghost use Rattle.history_edits.specs.EditCommits.{CommitMakes};
 ghost use Rattle.history_edits.specs.EditPlans.{EditsReady};
 ghost use Rattle.history_model.specs.Rows.{Gives, first_stream, first_output};
-ghost use Rattle.history_steps.specs.Passing.{CommitsStoreWhole};
+ghost use Rattle.history_layout.specs.Passing.{CommitsStoreWhole};
 
 use history_edits::laws;
+use history_layout::passing;
 use history_model::rows;
-use history_steps::passing;
 
 // What the stream means, computed on the definitions, is what git makes of it.
 fn first_stream_gives()

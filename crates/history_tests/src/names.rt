@@ -3,8 +3,8 @@
 use crate::common::{INPUT, KINDS, REPLIES, made_id, parts_after};
 use gix_ref_file::MemoryFiles;
 use history::Objects;
+use history_check_names::{NamesError, survey_names};
 use history_names::Names;
-use history_names_survey::{NamesError, survey_names};
 use std::test::Fail;
 
 #[test]

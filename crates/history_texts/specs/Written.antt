@@ -7,13 +7,13 @@ use Rattle.gix_hash_id.specs.declared.kind.Kind.{Kind}
 use Rattle.gix_object_lines.specs.Bytes.{Lacks}
 use Rattle.gix_object_lines.specs.declared.kind.Kind.{Kind as ObjectKind}
 use Rattle.gix_object_lines.specs.declared.kind.Kind.TheVariants as kinds
-use Rattle.gix_object_entries.specs.Entry.{Item, SpellsTree}
-use Rattle.gix_object_entries.specs.Mode.{kind_of, kind_word}
-use Rattle.gix_object_entries.specs.ModeText.{Mode, mode_text}
-use Rattle.gix_object_entries.specs.Order.{is_tree}
-use Rattle.gix_object_entries.specs.WellFormed.{IsWellFormed}
-use Rattle.gix_object_entries.specs.Writing.{tree_text}
-use Rattle.gix_object_entries.specs.declared.tree.mode.EntryKind.TheVariants as modes
+use Rattle.gix_object_tree.specs.Entry.{Item, SpellsTree}
+use Rattle.gix_object_tree.specs.Mode.{kind_of, kind_word}
+use Rattle.gix_object_tree.specs.ModeText.{Mode, mode_text}
+use Rattle.gix_object_tree.specs.Order.{is_tree}
+use Rattle.gix_object_tree.specs.WellFormed.{IsWellFormed}
+use Rattle.gix_object_tree.specs.Writing.{tree_text}
+use Rattle.gix_object_tree.specs.declared.tree.mode.EntryKind.TheVariants as modes
 use Rattle.gix_object_commit_lines.specs.Commit.{Parts, commit_text}
 use Rattle.history_model.specs.Bytes.{Bytes, is_empty}
 use Rattle.history_model.specs.Forms.{is_id, is_actor, is_commit_form, is_tag_form, is_tag_name, title, max_title}

@@ -7,23 +7,23 @@ use Rattle.gix_hash_id.specs.Id.{id_of}
 use Rattle.gix_hash_id.specs.declared.object_id.ObjectId.{ObjectId}
 use Rattle.gix_object_lookup.specs.Table.{Object, Table}
 use Rattle.gix_object_lines.specs.declared.kind.Kind.TheVariants as kinds
-use Rattle.gix_traverse_commit_graph.specs.Commits.{Commit, Commits, Listed, Passes, WalkRequest}
-use Rattle.gix_traverse_commit_graph.specs.Order.{At, IsListOf}
-use Rattle.gix_traverse_commit_graph.specs.Numbered.{same_id}
+use Rattle.gix_traverse_graph.specs.Commits.{Commit, Commits, Listed, Passes, WalkRequest}
+use Rattle.gix_traverse_graph.specs.Order.{At, IsListOf}
+use Rattle.gix_traverse_graph.specs.Numbered.{same_id}
 use Rattle.gix_traverse_commit_known.specs.Painting.{ReachedFrom}
-use Rattle.gix_traverse_commit_graph.specs.RowCommits.{row_of}
-use Rattle.gix_traverse_commit_graph.specs.Rows.{Holds}
+use Rattle.gix_traverse_graph.specs.RowCommits.{row_of}
+use Rattle.gix_traverse_graph.specs.Rows.{Holds}
 use Rattle.gix_traverse_commit_known.specs.Asked.{Answers, Asked, request_in, timing}
-use Rattle.gix_traverse_commit_graph.specs.Sorting.{InOrder, InTimeOrder}
+use Rattle.gix_traverse_graph.specs.Sorting.{InOrder, InTimeOrder}
 use Rattle.gix_traverse_commit_known.specs.Told.{AreTold, IsNoCommit, TellsCommit}
-use Rattle.gix_traverse_commit_graph.specs.declared.parents.Parents.TheVariants.{All}
-use Rattle.gix_traverse_commit_graph.specs.declared.rows.Row.{Row}
-use Rattle.gix_traverse_commit_graph.specs.declared.sorting.CommitTimeOrder.{CommitTimeOrder}
-use Rattle.gix_traverse_commit_graph.specs.declared.sorting.CommitTimeOrder.TheVariants.{NewestFirst, OldestFirst}
-use Rattle.gix_traverse_commit_graph.specs.declared.sorting.Sorting.{Sorting}
-use Rattle.gix_traverse_commit_graph.specs.declared.sorting.Timing.{Timing}
-use Rattle.gix_traverse_commit_graph.proofs.Ids.{same_from_test, test_from_same}
-use Rattle.gix_traverse_commit_graph.proofs.Lists.{contains_from_at}
+use Rattle.gix_traverse_graph.specs.declared.parents.Parents.TheVariants.{All}
+use Rattle.gix_traverse_graph.specs.declared.rows.Row.{Row}
+use Rattle.gix_traverse_graph.specs.declared.sorting.CommitTimeOrder.{CommitTimeOrder}
+use Rattle.gix_traverse_graph.specs.declared.sorting.CommitTimeOrder.TheVariants.{NewestFirst, OldestFirst}
+use Rattle.gix_traverse_graph.specs.declared.sorting.Sorting.{Sorting}
+use Rattle.gix_traverse_graph.specs.declared.sorting.Timing.{Timing}
+use Rattle.gix_traverse_graph.proofs.Ids.{same_from_test, test_from_same}
+use Rattle.gix_traverse_graph.proofs.Lists.{contains_from_at}
 use Rattle.history_walks.specs.Faults.{IsMet, IsUnread, WalkFault, absent, lines, time}
 use Rattle.history_walks.specs.ReadCommits.{AreKept, Contents, commit_object, table_of}
 use Rattle.history_walks.specs.Simply.{asked}

@@ -9,23 +9,23 @@ use Rattle.gix_object_lookup.specs.declared.find.existing_iter.Error as existing
 use Rattle.gix_object_lookup.specs.declared.find.existing_iter.Error.TheVariants as iter_case
 use Rattle.gix_object_lines.specs.declared.decode.Error as decode
 use Rattle.gix_object_lines.specs.declared.kind.Kind.TheVariants as kinds
-use Rattle.gix_traverse_commit_graph.specs.Commits.{Commits, Reached, tip, parent, asked_parents}
+use Rattle.gix_traverse_graph.specs.Commits.{Commits, Reached, tip, parent, asked_parents}
 use Rattle.gix_traverse_commit_known.specs.Fetching.{FindFault, ReadFault, TimeFault}
 use Rattle.gix_traverse_commit_known.specs.Asked.{IsTurn, Asked, timing, request_in}
 use Rattle.gix_traverse_commit_known.specs.Faults.{SimpleFault, TipFault}
 use Rattle.gix_traverse_commit_known.specs.Painting.{ReachedFrom}
-use Rattle.gix_traverse_commit_graph.specs.Rows.{Holds}
-use Rattle.gix_traverse_commit_graph.specs.Sorting.{IsNextIn}
+use Rattle.gix_traverse_graph.specs.Rows.{Holds}
+use Rattle.gix_traverse_graph.specs.Sorting.{IsNextIn}
 use Rattle.gix_traverse_commit_known.specs.Told.{AreTold}
 use Rattle.gix_traverse_commit_known.specs.declared.fetch.FetchError.TheVariants as fetch
-use Rattle.gix_traverse_commit_graph.specs.declared.parents.Parents.{Parents}
-use Rattle.gix_traverse_commit_graph.specs.declared.parents.Parents.TheVariants.{All, First}
-use Rattle.gix_traverse_commit_graph.specs.declared.rows.Row.{Row}
+use Rattle.gix_traverse_graph.specs.declared.parents.Parents.{Parents}
+use Rattle.gix_traverse_graph.specs.declared.parents.Parents.TheVariants.{All, First}
+use Rattle.gix_traverse_graph.specs.declared.rows.Row.{Row}
 use Rattle.gix_traverse_commit_known.specs.declared.faults.Error as simple
 use Rattle.gix_traverse_commit_known.specs.declared.faults.Error.TheVariants as walked
 use Rattle.gix_traverse_commit_known.specs.declared.faults.HiddenGraphError.TheVariants as hidden_fault
-use Rattle.gix_traverse_commit_graph.specs.declared.sorting.Timing.{Timing}
-use Rattle.gix_traverse_commit_graph.proofs.Lists.{at_from_contains, at_from_take, contains_from_at}
+use Rattle.gix_traverse_graph.specs.declared.sorting.Timing.{Timing}
+use Rattle.gix_traverse_graph.proofs.Lists.{at_from_contains, at_from_take, contains_from_at}
 use Rattle.gix_traverse_topo.specs.Faults.{IsFaultOf, IsBuildFault}
 use Rattle.gix_traverse_topo.specs.declared.error.Error as topo
 use Rattle.gix_traverse_topo.specs.declared.error.Error.TheVariants as sorted

@@ -14,14 +14,14 @@ use Rattle.gix_hash_id.specs.declared.object_id.ObjectId.{ObjectId}
 use Rattle.gix_object_lookup.specs.Existing.{Stands}
 use Rattle.gix_object_lookup.specs.Table.{Table}
 use Rattle.gix_object_lines.specs.declared.kind.Kind.TheVariants as kinds
-use Rattle.gix_traverse_commit_graph.specs.Commits.{Commits, Listed, Reached, tip, parent}
+use Rattle.gix_traverse_graph.specs.Commits.{Commits, Listed, Reached, tip, parent}
 use Rattle.gix_traverse_commit_known.specs.Painting.{ReachedFrom}
-use Rattle.gix_traverse_commit_graph.specs.Rows.{Holds}
+use Rattle.gix_traverse_graph.specs.Rows.{Holds}
 use Rattle.gix_traverse_commit_known.specs.Asked.{Answers, request_in}
-use Rattle.gix_traverse_commit_graph.specs.declared.parents.Parents.TheVariants.{All}
-use Rattle.gix_traverse_commit_graph.specs.declared.rows.Row.{Row}
-use Rattle.gix_traverse_commit_graph.specs.declared.sorting.Sorting.TheVariants.{BreadthFirst}
-use Rattle.gix_traverse_commit_graph.proofs.Lists.{at_from_contains, none_at_nil}
+use Rattle.gix_traverse_graph.specs.declared.parents.Parents.TheVariants.{All}
+use Rattle.gix_traverse_graph.specs.declared.rows.Row.{Row}
+use Rattle.gix_traverse_graph.specs.declared.sorting.Sorting.TheVariants.{BreadthFirst}
+use Rattle.gix_traverse_graph.proofs.Lists.{at_from_contains, none_at_nil}
 use Rattle.history_walks.specs.Faults.{IsMet, WalkFault}
 use Rattle.history_walks.specs.ReadCommits.{AreKept, AreOf, Contents, commit_object, ids_of, table_of}
 use Rattle.history_walks.specs.Simply.{asked}

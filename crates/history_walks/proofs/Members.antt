@@ -8,8 +8,8 @@ use Rattle.std.proofs.lemmas.Cmp.{tied_itself}
 use Rattle.gix_hash_id.specs.Id.{Id}
 use Rattle.gix_hash_id.specs.Order.{id_eq}
 use Rattle.gix_hash_id.specs.OrderLaws.{id_total}
-use Rattle.gix_traverse_commit_graph.specs.Order.{At}
-use Rattle.gix_traverse_commit_graph.proofs.Lists.{at_from_contains, contains_from_at}
+use Rattle.gix_traverse_graph.specs.Order.{At}
+use Rattle.gix_traverse_graph.proofs.Lists.{at_from_contains, contains_from_at}
 use Rattle.history_model.specs.Objects.{by_id}
 use Rattle.history_model.proofs.IdLemmas.{id_itself, one_id, same_id_key}
 use Rattle.history_model.proofs.WholeLists.{In, clash, one_passes}

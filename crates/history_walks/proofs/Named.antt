@@ -4,16 +4,16 @@ use Rattle.std.proofs.Common.{◌≡◌, inl, inr, ℕ, zero, suc, List, [], ◌
 use Rattle.std.specs.Prelude.{Contains, map, filter, option_map, ℤ, ◌≤ℤ◌, ◌<ℤ◌, IfSome, ⊤}
 use Rattle.std.proofs.lemmas.Option.{slice_get-map}
 use Rattle.std.proofs.lemmas.List.{take-map}
-use Rattle.gix_traverse_commit_graph.specs.Commits.{Commits, WalkRequest, asked_parents, Reached, tip, parent, Passes, Hides, Listed}
-use Rattle.gix_traverse_commit_graph.specs.Order.{At, IsListOf, Named, IsKey, IsBreadthFirst, IsChosen, IsOpen, IsReady, IsLastName, HasNoChild, IsFirstAt, Outranks, later_child, has_child, newer, given_later}
-use Rattle.gix_traverse_commit_graph.specs.Walks.{InBreadth, ByNewest, ByOldest, InDate, InTopological}
-use Rattle.gix_traverse_commit_graph.specs.declared.parents.Parents.{Parents}
-use Rattle.gix_traverse_commit_graph.specs.declared.parents.Parents.TheVariants.{All, First}
+use Rattle.gix_traverse_graph.specs.Commits.{Commits, WalkRequest, asked_parents, Reached, tip, parent, Passes, Hides, Listed}
+use Rattle.gix_traverse_graph.specs.Order.{At, IsListOf, Named, IsKey, IsBreadthFirst, IsChosen, IsOpen, IsReady, IsLastName, HasNoChild, IsFirstAt, Outranks, later_child, has_child, newer, given_later}
+use Rattle.gix_traverse_graph.specs.Walks.{InBreadth, ByNewest, ByOldest, InDate, InTopological}
+use Rattle.gix_traverse_graph.specs.declared.parents.Parents.{Parents}
+use Rattle.gix_traverse_graph.specs.declared.parents.Parents.TheVariants.{All, First}
 use Rattle.history_walks.specs.Asking.{IsInOrder, walk_from}
 use Rattle.history_walks.specs.Naming.{AreNamed}
 use Rattle.history_walks.specs.declared.listing.Order.{Order}
 use Rattle.history_walks.specs.declared.listing.Order.TheVariants.{Breadth, Newest, Oldest, Date, Topological}
-use Rattle.gix_traverse_commit_graph.proofs.Lists.{at_from_contains, contains_from_at}
+use Rattle.gix_traverse_graph.proofs.Lists.{at_from_contains, contains_from_at}
 
 keep_all : {I : Type 0} (xs : List I) → filter (λ _. true) xs ≡ xs
 keep_all [] = refl

@@ -8,19 +8,19 @@ use Rattle.gix_hash_id.specs.declared.object_id.ObjectId.{ObjectId}
 use Rattle.gix_object_lookup.specs.Existing as object
 use Rattle.gix_object_lookup.specs.Table.{Table}
 use Rattle.gix_object_lines.specs.declared.kind.Kind.TheVariants as kinds
-use Rattle.gix_traverse_commit_graph.specs.Commits.{Commits}
+use Rattle.gix_traverse_graph.specs.Commits.{Commits}
 use Rattle.gix_traverse_commit_known.specs.Fetching.{HasRowsGeneration}
 use Rattle.gix_traverse_commit.specs.Giving.{GivesNext, IsContentOf, IsInfo}
 use Rattle.gix_traverse_commit_known.specs.Asked.{Answers, Asked, IsSure}
 use Rattle.gix_traverse_commit.specs.Simply.{IsMade, Stands, content_of, graph_of, objects_of}
 use Rattle.gix_traverse_commit_known.specs.Told.{AreTold, rows_of}
 use Rattle.gix_traverse_commit_known.specs.declared.accept.All.{All}
-use Rattle.gix_traverse_commit_graph.specs.declared.info.Info.{Info}
-use Rattle.gix_traverse_commit_graph.specs.declared.parents.Parents.TheVariants.{All as AllParents}
-use Rattle.gix_traverse_commit_graph.specs.declared.rows.Row.{Row}
+use Rattle.gix_traverse_graph.specs.declared.info.Info.{Info}
+use Rattle.gix_traverse_graph.specs.declared.parents.Parents.TheVariants.{All as AllParents}
+use Rattle.gix_traverse_graph.specs.declared.rows.Row.{Row}
 use Rattle.gix_traverse_commit.specs.declared.simple.Simple.{Simple}
 use Rattle.gix_traverse_commit_known.specs.declared.faults.Error as simple
-use Rattle.gix_traverse_commit_graph.specs.declared.sorting.Sorting.TheVariants.{BreadthFirst}
+use Rattle.gix_traverse_graph.specs.declared.sorting.Sorting.TheVariants.{BreadthFirst}
 use Rattle.history_walks.specs.Asking.{OverTable}
 use Rattle.history_walks.specs.Faults.{IsMet, WalkFault}
 use Rattle.history_walks.specs.ReadCommits.{AreKept, Contents, table_of}

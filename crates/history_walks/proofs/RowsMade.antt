@@ -7,12 +7,12 @@ use Rattle.std.proofs.lemmas.List.{append_assoc, length-map}
 use Rattle.std.proofs.lemmas.List.Elements.{Contains-append_left, Contains-push, Contains-push_cases}
 use Rattle.gix_hash_id.specs.Id.{Id, id_of}
 use Rattle.gix_hash_id.specs.declared.object_id.ObjectId.{ObjectId}
-use Rattle.gix_traverse_commit_graph.specs.Numbered.{NumberMap, same_id}
-use Rattle.gix_traverse_commit_graph.specs.Order.{At}
-use Rattle.gix_traverse_commit_graph.specs.Rows.{AreRows, HasGeneration, HasParents, Holds, IsGreatest, IsOnce, IsRowsFault, generation_limit}
-use Rattle.gix_traverse_commit_graph.specs.declared.rows.Row.{Row}
-use Rattle.gix_traverse_commit_graph.proofs.Ids.{same_from_test, test_from_same}
-use Rattle.gix_traverse_commit_graph.proofs.Lists.{at_from_contains, at_from_push, contains_from_at, none_at_nil}
+use Rattle.gix_traverse_graph.specs.Numbered.{NumberMap, same_id}
+use Rattle.gix_traverse_graph.specs.Order.{At}
+use Rattle.gix_traverse_graph.specs.Rows.{AreRows, HasGeneration, HasParents, Holds, IsGreatest, IsOnce, IsRowsFault, generation_limit}
+use Rattle.gix_traverse_graph.specs.declared.rows.Row.{Row}
+use Rattle.gix_traverse_graph.proofs.Ids.{same_from_test, test_from_same}
+use Rattle.gix_traverse_graph.proofs.Lists.{at_from_contains, at_from_push, contains_from_at, none_at_nil}
 use Rattle.history_model.specs.Answers as model
 use Rattle.history_model.specs.Answers.{counted, generation, row_of, rows_of}
 use Rattle.history_model.specs.Objects.{CommitValue, folder_id}

@@ -16,10 +16,10 @@ use Rattle.gix_object_commit_tokens.specs.Tokens.{Part, Tree, Parent, Author, Co
 use Rattle.gix_object_commit_tokens.specs.Whole.{parent_tokens}
 use Rattle.gix_object_commit_tokens.proofs.Left.{no_part}
 use Rattle.gix_object_commit_tokens.proofs.OnePart.{one_next}
-use Rattle.gix_traverse_commit_graph.specs.Commits.{Commit}
+use Rattle.gix_traverse_graph.specs.Commits.{Commit}
 use Rattle.gix_traverse_commit_known.specs.Fetching.{LacksParents}
 use Rattle.gix_traverse_commit_known.specs.Told.{beyond_told, IsPastParents, TellsCommit, TellsParents, TellsSeconds}
-use Rattle.gix_traverse_commit_graph.specs.declared.parents.Parents.TheVariants.{All}
+use Rattle.gix_traverse_graph.specs.declared.parents.Parents.TheVariants.{All}
 
 -- ---- readings
 

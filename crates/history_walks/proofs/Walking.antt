@@ -5,16 +5,16 @@ use Rattle.std.specs.Prelude.{◌⊎◌, ℤ, IfOk, IfErr, IfSome, IsErrAnd}
 use Rattle.gix_hash_id.specs.Id.{Id}
 use Rattle.gix_hash_id.specs.declared.object_id.ObjectId.{ObjectId}
 use Rattle.gix_object_lookup.specs.Table.{Table}
-use Rattle.gix_traverse_commit_graph.specs.Commits.{Commits, Listed}
+use Rattle.gix_traverse_graph.specs.Commits.{Commits, Listed}
 use Rattle.gix_traverse_commit.specs.Giving.{GivesNext, IsNext}
 use Rattle.gix_traverse_commit_known.specs.Asked.{IsTurn, Answers, Asked, IsSure, request_in}
 use Rattle.gix_traverse_commit_known.specs.Faults.{SimpleFault}
 use Rattle.gix_traverse_commit.specs.Simply.{IsMade, Stands, graph_of, objects_of}
 use Rattle.gix_traverse_commit_known.specs.Told.{AreTold, rows_of}
 use Rattle.gix_traverse_commit_known.specs.declared.accept.All.{All}
-use Rattle.gix_traverse_commit_graph.specs.declared.info.Info.{Info}
-use Rattle.gix_traverse_commit_graph.specs.declared.parents.Parents.{Parents}
-use Rattle.gix_traverse_commit_graph.specs.declared.rows.Row.{Row}
+use Rattle.gix_traverse_graph.specs.declared.info.Info.{Info}
+use Rattle.gix_traverse_graph.specs.declared.parents.Parents.{Parents}
+use Rattle.gix_traverse_graph.specs.declared.rows.Row.{Row}
 use Rattle.gix_traverse_commit.specs.declared.simple.Simple.{Simple}
 use Rattle.gix_traverse_commit_known.specs.declared.faults.Error as simple
 use Rattle.gix_traverse_topo.specs.Giving as sorted
@@ -28,12 +28,12 @@ use Rattle.gix_traverse_topo.specs.declared.iter.Topo.{Topo}
 use Rattle.history_walks.specs.Faults.{WalkFault, as_sorted, as_walked}
 use Rattle.history_walks.specs.Sorted.{StopsSorted}
 use Rattle.history_walks.specs.declared.error.WalkError.{WalkError}
-use Rattle.gix_traverse_commit_graph.specs.Sorting.{InOrder, timing_of}
-use Rattle.gix_traverse_commit_graph.specs.declared.parents.Parents.TheVariants.{All as AllParents, First as FirstParent}
-use Rattle.gix_traverse_commit_graph.specs.declared.sorting.CommitTimeOrder.TheVariants.{NewestFirst, OldestFirst}
-use Rattle.gix_traverse_commit_graph.specs.declared.sorting.Sorting.{Sorting as SimpleSorting}
-use Rattle.gix_traverse_commit_graph.specs.declared.sorting.Sorting.TheVariants.{BreadthFirst}
-use Rattle.gix_traverse_commit_graph.specs.declared.sorting.Timing.{Timing}
+use Rattle.gix_traverse_graph.specs.Sorting.{InOrder, timing_of}
+use Rattle.gix_traverse_graph.specs.declared.parents.Parents.TheVariants.{All as AllParents, First as FirstParent}
+use Rattle.gix_traverse_graph.specs.declared.sorting.CommitTimeOrder.TheVariants.{NewestFirst, OldestFirst}
+use Rattle.gix_traverse_graph.specs.declared.sorting.Sorting.{Sorting as SimpleSorting}
+use Rattle.gix_traverse_graph.specs.declared.sorting.Sorting.TheVariants.{BreadthFirst}
+use Rattle.gix_traverse_graph.specs.declared.sorting.Timing.{Timing}
 use Rattle.gix_traverse_topo.specs.Asking as asking
 use Rattle.gix_traverse_topo.specs.Faults.{IsBuildFault, IsFaultOf}
 use Rattle.history_walks.specs.Asking.{IsInOrder, OverTable, walk_from}

@@ -2,12 +2,12 @@
 use Rattle.std.specs.Prelude.{true, ℤ, List, Option, None}
 use Rattle.gix_hash_id.specs.declared.object_id.ObjectId.{ObjectId}
 use Rattle.gix_object_lookup.specs.Table.{Table}
-use Rattle.gix_traverse_commit_graph.specs.Commits.{Commits, WalkRequest}
+use Rattle.gix_traverse_graph.specs.Commits.{Commits, WalkRequest}
 use Rattle.gix_traverse_commit_known.specs.Told.{AreTold}
-use Rattle.gix_traverse_commit_graph.specs.Walks.{InBreadth, ByNewest, ByOldest, InDate, InTopological}
-use Rattle.gix_traverse_commit_graph.specs.declared.parents.Parents.{Parents}
-use Rattle.gix_traverse_commit_graph.specs.declared.parents.Parents.TheVariants.{All}
-use Rattle.gix_traverse_commit_graph.specs.declared.rows.Row.{Row}
+use Rattle.gix_traverse_graph.specs.Walks.{InBreadth, ByNewest, ByOldest, InDate, InTopological}
+use Rattle.gix_traverse_graph.specs.declared.parents.Parents.{Parents}
+use Rattle.gix_traverse_graph.specs.declared.parents.Parents.TheVariants.{All}
+use Rattle.gix_traverse_graph.specs.declared.rows.Row.{Row}
 use Rattle.history_walks.specs.declared.listing.Order.{Order}
 use Rattle.history_walks.specs.declared.listing.Order.TheVariants.{Breadth, Newest, Oldest, Date, Topological}
 use Rattle.history_walks.specs.declared.listing.Request.{Request}

@@ -12,13 +12,13 @@ use Rattle.gix_object_lookup.specs.declared.find.existing_iter.Error as existing
 use Rattle.gix_object_lookup.specs.declared.find.existing_iter.Error.TheVariants as found
 use Rattle.gix_object_lines.specs.declared.decode.Error as decode
 use Rattle.gix_object_lines.specs.declared.kind.Kind.TheVariants as kinds
-use Rattle.gix_traverse_commit_graph.specs.Commits.{Commits}
+use Rattle.gix_traverse_graph.specs.Commits.{Commits}
 use Rattle.gix_traverse_commit_known.specs.Fetching.{LacksParents}
 use Rattle.gix_traverse_commit_known.specs.Painting.{ReachedFrom}
-use Rattle.gix_traverse_commit_graph.specs.Rows.{Holds}
+use Rattle.gix_traverse_graph.specs.Rows.{Holds}
 use Rattle.gix_traverse_commit_known.specs.Told.{IsNoCommit}
-use Rattle.gix_traverse_commit_graph.specs.declared.parents.Parents.TheVariants.{All}
-use Rattle.gix_traverse_commit_graph.specs.declared.rows.Row.{Row}
+use Rattle.gix_traverse_graph.specs.declared.parents.Parents.TheVariants.{All}
+use Rattle.gix_traverse_graph.specs.declared.rows.Row.{Row}
 use Rattle.gix_traverse_commit_known.specs.declared.faults.Error as simple
 use Rattle.gix_traverse_commit_known.specs.declared.faults.Error.TheVariants as walked
 use Rattle.gix_traverse_commit_known.specs.declared.faults.HiddenGraphError.TheVariants as hidden

@@ -1,8 +1,8 @@
 -- Why a walk ends early whose commits each come after their children.
 use Rattle.std.specs.Prelude.{◌≡◌, ◌⊎◌, List, Option, Some}
 use Rattle.gix_hash_id.specs.declared.object_id.ObjectId.{ObjectId}
-use Rattle.gix_traverse_commit_graph.specs.Commits.{Commits, Listed}
-use Rattle.gix_traverse_commit_graph.specs.declared.parents.Parents.{Parents}
+use Rattle.gix_traverse_graph.specs.Commits.{Commits, Listed}
+use Rattle.gix_traverse_graph.specs.declared.parents.Parents.{Parents}
 use Rattle.gix_traverse_topo.specs.Standing.{all_accepted, topo_request}
 use Rattle.gix_traverse_topo.specs.declared.error.Error.{Error}
 use Rattle.history_walks.specs.Faults.{as_sorted}

@@ -1,9 +1,9 @@
 //! Lists of commits.
 
 ghost use Rattle.std.specs.Prelude.{◌≡◌, IfOk, IfErr, Some};
-ghost use Rattle.gix_traverse_commit_graph.specs.Sorting.{timing_of};
+ghost use Rattle.gix_traverse_graph.specs.Sorting.{timing_of};
 ghost use Rattle.gix_traverse_commit_known.specs.Told.{rows_of};
-ghost use Rattle.gix_traverse_commit_graph.specs.declared.parents.Parents.TheVariants.{All as AllParents};
+ghost use Rattle.gix_traverse_graph.specs.declared.parents.Parents.TheVariants.{All as AllParents};
 ghost use Rattle.gix_traverse_topo.specs.Standing.{NoneReachesItself};
 ghost use Rattle.history_walks.specs.Asking.{IsInOrder, OverTable, request_of};
 ghost use Rattle.history_walks.specs.Faults.{WalkFault};

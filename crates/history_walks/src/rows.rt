@@ -2,8 +2,8 @@
 
 ghost use Rattle.std.specs.Prelude.{◌≡◌, IfOk, fold, map, max, unwrap_or};
 ghost use Rattle.std.specs.HashMap.{get};
-ghost use Rattle.gix_traverse_commit_graph.specs.Numbered.{same_id};
-ghost use Rattle.gix_traverse_commit_graph.specs.Rows.{AreRows};
+ghost use Rattle.gix_traverse_graph.specs.Numbered.{same_id};
+ghost use Rattle.gix_traverse_graph.specs.Rows.{AreRows};
 ghost use Rattle.history_model.specs.Answers as model;
 ghost use Rattle.history_model.specs.Repository.{Repository};
 ghost use Rattle.history_walks.specs.Rows.{AreTheRows};
@@ -11,7 +11,7 @@ ghost use Rattle.history_walks.specs.Telling.{AreAllTold};
 
 use crate::told::Told;
 use gix_hash::ObjectId;
-use gix_traverse_commit_graph::{GENERATION_LIMIT, Row};
+use gix_traverse_graph::{GENERATION_LIMIT, Row};
 use std::alloc::{AllocError, Global};
 use std::collections::HashMap;
 

@@ -1,7 +1,7 @@
 //! Lists in breadth order and by time.
 
 ghost use Rattle.std.specs.Prelude.{◌≡◌, true, IfOk, IfErr};
-ghost use Rattle.gix_traverse_commit_graph.specs.declared.parents.Parents.TheVariants.{All as AllParents};
+ghost use Rattle.gix_traverse_graph.specs.declared.parents.Parents.TheVariants.{All as AllParents};
 ghost use Rattle.gix_traverse_commit_known.specs.Asked.{Answers, Asked, IsSure};
 ghost use Rattle.gix_traverse_commit.specs.Simply.{IsMade, graph_of, objects_of};
 ghost use Rattle.gix_traverse_commit_known.specs.Told.{rows_of};

@@ -2,9 +2,9 @@
 
 ghost use Rattle.std.specs.Prelude.{◌≡◌, ◌⊎◌, true, [], List, Option, Some, IfOk, IfErr};
 ghost use Rattle.gix_hash_id.specs.declared.object_id.ObjectId.{ObjectId};
-ghost use Rattle.gix_traverse_commit_graph.specs.Commits.{Commits};
+ghost use Rattle.gix_traverse_graph.specs.Commits.{Commits};
 ghost use Rattle.gix_traverse_commit_known.specs.Told.{rows_of};
-ghost use Rattle.gix_traverse_commit_graph.specs.declared.rows.Row.{Row};
+ghost use Rattle.gix_traverse_graph.specs.declared.rows.Row.{Row};
 ghost use Rattle.gix_traverse_topo.specs.Asking.{parents_of};
 ghost use Rattle.gix_traverse_topo.specs.Giving.{HasGiven};
 ghost use Rattle.gix_traverse_topo.specs.Standing.{Answers, NoneReachesItself, all_accepted, topo_request};

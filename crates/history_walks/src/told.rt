@@ -1,7 +1,7 @@
 //! What is said of a commit.
 
 use gix_hash::ObjectId;
-use gix_traverse_commit_graph::ParentIds;
+use gix_traverse_graph::ParentIds;
 
 /// What a stored commit says, of which its row is made.
 #[derive(Drop)]

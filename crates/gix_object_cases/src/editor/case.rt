@@ -2,9 +2,9 @@
 
 use case_words::{Row, Trees, read_digits, read_kind, row_of_content};
 use gix_hash::Kind;
-use gix_object_entries::tree::EntryKind;
-use gix_object_entries::{Tree, TreeRef};
 use gix_object_lines::WriteTo;
+use gix_object_tree::tree::EntryKind;
+use gix_object_tree::{Tree, TreeRef};
 use std::alloc::Global;
 
 /// What a line gives: trees and the edits of the first.

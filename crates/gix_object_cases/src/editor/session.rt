@@ -4,8 +4,8 @@ use crate::editor::case::{Case, read_case, read_entry_kind, read_path, read_tree
 use case_words::{Page, Row, Trees, read_id};
 use gix_hash::{Kind, ObjectId};
 use gix_object_editor::tree::editor::{Cursor, Editor, Error, write};
-use gix_object_entries::Tree;
-use gix_object_entries::tree::{EntryKind, EntryRef};
+use gix_object_tree::Tree;
+use gix_object_tree::tree::{EntryKind, EntryRef};
 use std::alloc::{AllocError, Global};
 
 /// Adds the results of a line's words.

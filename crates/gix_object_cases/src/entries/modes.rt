@@ -1,7 +1,7 @@
 //! Modes.
 
 use case_words::{Case, Page};
-use gix_object_entries::tree::EntryMode;
+use gix_object_tree::tree::EntryMode;
 use std::convert::TryFrom;
 use std::fmt;
 

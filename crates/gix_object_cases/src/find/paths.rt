@@ -3,10 +3,10 @@
 use crate::find::errors;
 use case_words::Page;
 use gix_hash::{ObjectId, oid};
-use gix_object_entries::TreeRefIter;
-use gix_object_entries::tree::Entry;
 use gix_object_find::{Find, FindExt, lookup_entry, lookup_entry_by_path};
 use gix_object_lookup::lookup::Error;
+use gix_object_tree::TreeRefIter;
+use gix_object_tree::tree::Entry;
 use std::alloc::{AllocError, Global};
 
 fn show(found: Result<Option<Entry>, Error>, page: &mut Page) {

@@ -3,8 +3,8 @@
 use crate::object::{show_entries, show_part};
 use crate::written::show_object;
 use case_words::{Case, Page};
+use gix_object_any::ObjectRef;
 use gix_object_lines::Kind;
-use gix_object_tree::ObjectRef;
 use std::alloc::Global;
 
 /// An object's kind, the length and the id of what is written of it, and what it lends as each

@@ -3,9 +3,9 @@
 use crate::object::borrowed;
 use case_words::{Case, Page};
 use gix_hash::ObjectId;
+use gix_object_any::Data;
+use gix_object_any::data::verify::Error;
 use gix_object_lines::Kind;
-use gix_object_tree::Data;
-use gix_object_tree::data::verify::Error;
 use std::alloc::Global;
 
 fn data(case: &Case) -> Option<Data<'_>> {

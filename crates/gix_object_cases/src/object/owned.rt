@@ -3,7 +3,7 @@
 use crate::object::{show_entries, show_part};
 use crate::written::show_object;
 use case_words::{Case, Page};
-use gix_object_tree::{Object, ObjectRef};
+use gix_object_any::{Object, ObjectRef};
 use std::alloc::Global;
 
 fn show(alloc: Global, hash_kind: gix_hash::Kind, object: &Object, page: &mut Page) {

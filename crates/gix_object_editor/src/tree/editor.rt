@@ -3,8 +3,8 @@
 ghost use Rattle.std.specs.Prelude.{◌≡◌, ◌≤◌, ◌+◌, ◌++◌, ◌⊎◌, List, length, map, option_map, IfOk, IfErr, OnOk, OnErr, Err, IsFalse, IsTrue, Some, None, true, false};
 ghost use Rattle.std.specs.Borrow.{sem};
 ghost use Rattle.gix_hash_id.specs.Id.{id_of};
-ghost use Rattle.gix_object_entries.specs.Entry.{Item, item_of, own_item};
-ghost use Rattle.gix_object_entries.specs.Mode.{is_tree_value, kind_value};
+ghost use Rattle.gix_object_tree.specs.Entry.{Item, item_of, own_item};
+ghost use Rattle.gix_object_tree.specs.Mode.{is_tree_value, kind_value};
 ghost use Rattle.gix_object_nodes.specs.Files.{Path, Leaf, Trees, IsEmptyTree, is_null, leaf_of, SameFiles, NamesAreFull, HasNoneBelow, HasSomeBelow, no_trees, removed, put, files_of_tree, entry_of_tree};
 ghost use Rattle.gix_object_editor.specs.Stored.{HasStored};
 ghost use Rattle.gix_object_nodes.specs.Nodes.{slots_of, entry_at};
@@ -12,7 +12,7 @@ ghost use Rattle.gix_object_editor.specs.Editor.{files_of, names_of, leaf_of_kin
 ghost use Rattle.gix_object_editor.specs.Asked.{front_of, Asks};
 ghost use Rattle.gix_object_editor.specs.declared.tree.editor.error.Error.TheVariants.{EmptyPathComponent, EmptyTree};
 ghost use Rattle.gix_object_editor.specs.Entries.{Property, PassesDown, MayStand, ItemsHave};
-ghost use Rattle.gix_object_entries.specs.WellFormed.{IsWellFormed};
+ghost use Rattle.gix_object_tree.specs.WellFormed.{IsWellFormed};
 
 mod cursor;
 mod edits;
@@ -32,10 +32,10 @@ use crate::tree::editor::entry::entry_from;
 use crate::tree::editor::root::opened_root;
 pub use error::Error;
 use gix_hash::ObjectId;
-use gix_object_entries::Tree;
-use gix_object_entries::tree::{EntryKind, EntryRef};
 use gix_object_lookup::FindInto;
 use gix_object_nodes::node::NodeId;
+use gix_object_tree::Tree;
+use gix_object_tree::tree::{EntryKind, EntryRef};
 pub use state::{Cursor, Editor};
 use std::alloc::{AllocError, Global};
 

@@ -14,7 +14,7 @@ use crate::write::Error;
 use crate::write::entries::tree_of;
 use crate::write::reached::reached;
 use gix_hash::ObjectId;
-use gix_object_entries::Tree;
+use gix_object_tree::Tree;
 use std::alloc::Global;
 
 /// Hands out the changed trees below an opened one that have entries, each after those that lie in

@@ -3,7 +3,7 @@
 ghost use Rattle.std.specs.Prelude.{◌≡◌, ◌<◌, ℕ, Some, length, map, IfOk};
 ghost use Rattle.std.specs.Option.{option_map};
 ghost use Rattle.gix_hash_id.specs.Id.{id_of};
-ghost use Rattle.gix_object_entries.specs.Entry.{own_item};
+ghost use Rattle.gix_object_tree.specs.Entry.{own_item};
 ghost use Rattle.gix_object_nodes.specs.Files.{Bytes, through};
 ghost use Rattle.gix_object_nodes.specs.Nodes.{slot_in, child_of};
 ghost use Rattle.gix_object_nodes.specs.Marks.{changed_in, slot_if, slots_if};
@@ -12,9 +12,9 @@ ghost use Rattle.gix_object_nodes.specs.Writing.{ids_of, object_item, unless_nul
 use crate::changed::changed_child;
 use crate::node::{Node, NodeId, Slot};
 use gix_hash::ObjectId;
-use gix_object_entries::Tree;
-use gix_object_entries::tree::{Entry, EntryKind, EntryMode};
 use gix_object_lines::ByteString;
+use gix_object_tree::Tree;
+use gix_object_tree::tree::{Entry, EntryKind, EntryMode};
 use std::alloc::{AllocError, Global};
 
 /// The tree of an opened one's entries, in Git's order. Folders that edits changed have these ids

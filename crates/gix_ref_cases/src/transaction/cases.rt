@@ -6,7 +6,7 @@ use case_words::{Page, read_texts, text_of};
 use gix_hash::Kind;
 use gix_ref_file::{Files, MemoryFiles};
 use gix_ref_fuse::Fuse;
-use gix_ref_transaction::packed::{RecordEdit, Transaction};
+use gix_ref_lock::packed::{RecordEdit, Transaction};
 use std::alloc::Global;
 
 // The paths of the file and its lock.

@@ -2,8 +2,8 @@
 
 use case_words::text_of;
 use gix_hash::ObjectId;
+use gix_ref_lock::packed::RecordEdit;
 use gix_ref_name::FullName;
-use gix_ref_transaction::packed::RecordEdit;
 use std::alloc::Global;
 
 /// The edits of lines `drop <name>`, `write <hex> <name>` and

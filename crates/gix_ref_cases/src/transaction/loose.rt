@@ -12,10 +12,10 @@ use gix_object_lookup::find::Never;
 use gix_ref_edit::RefEdit;
 use gix_ref_file::MemoryFiles;
 use gix_ref_fuse::Fuse;
-use gix_ref_loose_transaction::PackedRefs;
-use gix_ref_loose_transaction::transaction::prepare;
 use gix_ref_store::Options;
 use gix_ref_store::store::file::Store;
+use gix_ref_transaction::PackedRefs;
+use gix_ref_transaction::transaction::prepare;
 use std::alloc::Global;
 
 /// Adds the result of edits of which only deletions reach packed records, and the files that they

@@ -9,13 +9,13 @@ ghost use Rattle.gix_traverse_commit_known.specs.Fetching.{TimeIsTold};
 ghost use Rattle.gix_traverse_commit_known.specs.Known.{turns_of};
 ghost use Rattle.gix_traverse_commit_known.specs.Meeting.{Asks, CountsAll, IsFresh, MarksAll, MarksMet, accepted, fresh, unmet};
 ghost use Rattle.gix_traverse_commit_known.specs.Nodes.{is_met, is_hidden};
-ghost use Rattle.gix_traverse_commit_graph.specs.Numbered.{same_id};
-ghost use Rattle.gix_traverse_commit_graph.specs.Order.{At, IsListOf, IsOpen};
+ghost use Rattle.gix_traverse_graph.specs.Numbered.{same_id};
+ghost use Rattle.gix_traverse_graph.specs.Order.{At, IsListOf, IsOpen};
 ghost use Rattle.gix_traverse_commit_known.specs.Queueing.{QueuesSome};
-ghost use Rattle.gix_traverse_commit_graph.specs.Rows.{AllHeld, Holds};
+ghost use Rattle.gix_traverse_graph.specs.Rows.{AllHeld, Holds};
 ghost use Rattle.gix_traverse_commit.specs.Giving.{IsReadBefore, IsUnmet};
 ghost use Rattle.gix_traverse_commit_known.specs.Faults.{TipFault};
-ghost use Rattle.gix_traverse_commit_graph.specs.Sorting.{in_time};
+ghost use Rattle.gix_traverse_graph.specs.Sorting.{in_time};
 ghost use Rattle.gix_traverse_commit_known.specs.Timely.{AllRowed, CountsAs, IsMetSoFar, Joins, LetsWait, keep_since, turn_of};
 ghost use Rattle.gix_traverse_commit_known.specs.Told.{OverSure, OverTold, rows_of};
 ghost use Rattle.gix_traverse_commit_known.specs.declared.faults.Error.TheVariants.{Memory};
@@ -23,13 +23,13 @@ ghost use Rattle.gix_traverse_commit_known.specs.declared.faults.Error.TheVarian
 use crate::simple::Error;
 use gix_hash::ObjectId;
 use gix_object_lookup::FindInto;
-use gix_traverse_commit_graph::sorting::is_in_time;
 use gix_traverse_commit_known::Accept;
 use gix_traverse_commit_known::fetch::{FetchError, Source};
 use gix_traverse_commit_known::known::Known;
 use gix_traverse_commit_known::meet::mark_met;
 use gix_traverse_commit_known::nodes::Marks;
 use gix_traverse_commit_known::waiting::Turn;
+use gix_traverse_graph::sorting::is_in_time;
 
 // The committer's seconds, and 0 if they aren't read. Returns `Memory` if no memory is left.
 fn seconds_or_zero<F: FindInto>(source: &mut Source<F>, id: &ObjectId) -> Result<i64, Error>

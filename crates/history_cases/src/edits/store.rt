@@ -2,7 +2,7 @@
 
 use case_words::Trees;
 use gix_hash::{Kind, ObjectId};
-use gix_object_entries::TreeRef;
+use gix_object_tree::TreeRef;
 use std::alloc::Global;
 
 /// Returns whether there is each tree that a tree of this content names.

@@ -1,16 +1,16 @@
 //! Trees in written form.
 ghost use Rattle.std.specs.Prelude.{◌≡◌, ◌↔◌, IfOk, IsTrue, List, MatchOption, map};
 ghost use Rattle.std.specs.List.{All};
-ghost use Rattle.gix_object_entries.specs.Entry.{item_of};
-ghost use Rattle.gix_object_entries.specs.ModeText.{mode_of};
+ghost use Rattle.gix_object_tree.specs.Entry.{item_of};
+ghost use Rattle.gix_object_tree.specs.ModeText.{mode_of};
 ghost use Rattle.history_texts.specs.Written.{AreWritten, IsWrittenEntry, IsWrittenMode, NamesByTree, Naming, named_by_item, naming_of};
 
 use crate::written::Named;
 use gix_hash::{Kind, ObjectId};
-use gix_object_entries::TreeRef;
-use gix_object_entries::tree::{EntryMode, EntryRef};
 use gix_object_lines::decode::Error;
 use gix_object_lines::{Kind as ObjectKind, WriteTo};
+use gix_object_tree::TreeRef;
+use gix_object_tree::tree::{EntryMode, EntryRef};
 use std::alloc::{AllocError, Global};
 
 /// Returns the objects that a tree's content names; `None` if it isn't in written form.

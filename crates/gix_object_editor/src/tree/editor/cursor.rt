@@ -3,8 +3,8 @@
 ghost use Rattle.std.specs.Prelude.{◌≡◌, ◌≢◌, ◌≤◌, ◌+◌, ◌++◌, ◌⊎◌, List, [], length, option_map, IfOk, IfErr, OnOk, OnErr, Err, Some, None, true, false};
 ghost use Rattle.std.specs.Borrow.{sem};
 ghost use Rattle.gix_hash_id.specs.Id.{id_of};
-ghost use Rattle.gix_object_entries.specs.Entry.{Item, item_of};
-ghost use Rattle.gix_object_entries.specs.Mode.{is_tree_value, kind_value};
+ghost use Rattle.gix_object_tree.specs.Entry.{Item, item_of};
+ghost use Rattle.gix_object_tree.specs.Mode.{is_tree_value, kind_value};
 ghost use Rattle.gix_object_nodes.specs.Files.{Path, Leaf, Trees, IsEmptyTree, is_null, leaf_of, SameFiles, Begins, NamesAreFull, HasNoneBelow, HasSomeBelow, no_trees, removed, put, cleared, files_of_tree};
 ghost use Rattle.gix_object_editor.specs.Stored.{HasStored};
 ghost use Rattle.gix_object_nodes.specs.Nodes.{slots_of, entry_at};
@@ -19,10 +19,10 @@ use crate::tree::editor::edits::check_graft;
 use crate::tree::editor::entry::entry_from;
 use crate::tree::editor::{Cursor, Editor, Error, write};
 use gix_hash::{Kind, ObjectId};
-use gix_object_entries::Tree;
-use gix_object_entries::tree::{EntryKind, EntryRef};
 use gix_object_lookup::FindInto;
 use gix_object_nodes::node::NodeId;
+use gix_object_tree::Tree;
+use gix_object_tree::tree::{EntryKind, EntryRef};
 use std::alloc::Global;
 
 impl<S: FindInto> Editor<S> {

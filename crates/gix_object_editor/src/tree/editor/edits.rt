@@ -17,9 +17,9 @@ use crate::tree::editor::lay::{lay_entry, make_folders};
 use crate::tree::editor::marks::{cut, mark_changed, mark_where};
 use crate::tree::editor::{Editor, Error};
 use gix_hash::{Kind, ObjectId};
-use gix_object_entries::tree::{EntryKind, EntryMode};
 use gix_object_lookup::FindInto;
 use gix_object_nodes::node::{NodeId, Slot, slot_at};
+use gix_object_tree::tree::{EntryKind, EntryMode};
 use std::alloc::Global;
 
 impl<S: FindInto> Editor<S> {

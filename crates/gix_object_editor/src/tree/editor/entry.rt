@@ -1,12 +1,12 @@
 //! Entries of opened trees.
 
 ghost use Rattle.std.specs.Prelude.{◌≡◌, ◌<◌, length, map, option_map, slice_index_or, IsTrue, IsFalse, None, []};
-ghost use Rattle.gix_object_entries.specs.Entry.{item_of};
+ghost use Rattle.gix_object_tree.specs.Entry.{item_of};
 ghost use Rattle.gix_object_nodes.specs.Nodes.{slot_in, slots_of, child_of, leaf_in, entry_at, entry_in, IsForest, IsEntry};
 
 use bstr::BStr;
-use gix_object_entries::tree::EntryRef;
 use gix_object_nodes::node::{Node, NodeId, Slot, slot_at};
+use gix_object_tree::tree::EntryRef;
 
 /// The entry at the end of a path that begins at an opened tree; `None` if there is none, or a tree
 /// above it isn't opened.

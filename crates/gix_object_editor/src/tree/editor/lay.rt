@@ -12,8 +12,8 @@ ghost use Rattle.gix_object_nodes.specs.Nodes.{slot_in, slots_of, child_of, leaf
 ghost use Rattle.gix_object_editor.specs.Laid.{IsRung, laid_at, made_at};
 
 use gix_hash::{Kind, ObjectId};
-use gix_object_entries::tree::{EntryKind, EntryMode};
 use gix_object_nodes::node::{Node, NodeId, Slot, put_at, take_at};
+use gix_object_tree::tree::{EntryKind, EntryMode};
 use std::alloc::{AllocError, Global};
 
 /// Puts an entry at the end of the names below an opened tree, in folders that are made for it, and

@@ -3,8 +3,8 @@
 ghost use Rattle.std.specs.Prelude.{◌≡◌, map, None, IfOk, IfErr};
 ghost use Rattle.gix_hash_id.specs.Id.{id_of};
 ghost use Rattle.gix_object_lines.specs.declared.kind.Kind.TheVariants as kinds;
-ghost use Rattle.gix_object_entries.specs.Entry.{item_of};
-ghost use Rattle.gix_object_entries.specs.WellFormed.{IsWellFormed};
+ghost use Rattle.gix_object_tree.specs.Entry.{item_of};
+ghost use Rattle.gix_object_tree.specs.WellFormed.{IsWellFormed};
 ghost use Rattle.gix_object_lookup.specs.Existing.{Stands};
 ghost use Rattle.gix_object_nodes.specs.Files.{Bytes, Trees, named};
 ghost use Rattle.gix_object_editor.specs.Stored.{HasStored, OpensTree, IsReadTree};
@@ -14,11 +14,11 @@ ghost use Rattle.gix_object_editor.specs.Refusals.{TreeIsUnread, OpeningFault};
 
 use crate::tree::editor::Error;
 use gix_hash::ObjectId;
-use gix_object_entries::tree::{EntryRef, TreeRef};
 use gix_object_lines::Kind;
 use gix_object_lookup::find::existing_object;
 use gix_object_lookup::{self as lookup, FindInto};
 use gix_object_nodes::node::{Node, Slot};
+use gix_object_tree::tree::{EntryRef, TreeRef};
 use std::alloc::{AllocError, Global};
 
 /// The stored tree of this id, opened.

@@ -1,15 +1,15 @@
 //! The root of an editor.
 
 ghost use Rattle.std.specs.Prelude.{◌≡◌, ℕ, [], length, map, IfOk, None, false};
-ghost use Rattle.gix_object_entries.specs.Entry.{own_item};
+ghost use Rattle.gix_object_tree.specs.Entry.{own_item};
 ghost use Rattle.gix_object_nodes.specs.Files.{Bytes, Path, Trees, named, files_of_tree, entry_of_tree};
 ghost use Rattle.gix_object_nodes.specs.Nodes.{slot_in, slots_of, child_of, files_of_node, entry_from, StandsFor, IsForest};
 ghost use Rattle.gix_object_editor.specs.Entries.{Property, EachHas, ItemsHave};
 ghost use Rattle.gix_object_nodes.specs.Marks.{marks_of, AreMarked};
-ghost use Rattle.gix_object_entries.specs.WellFormed.{IsWellFormed};
+ghost use Rattle.gix_object_tree.specs.WellFormed.{IsWellFormed};
 
-use gix_object_entries::Tree;
 use gix_object_nodes::node::{Node, NodeId, Slot};
+use gix_object_tree::Tree;
 use std::alloc::{AllocError, Global};
 
 /// The nodes below a root: the root alone, opened.

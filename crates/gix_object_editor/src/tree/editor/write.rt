@@ -8,10 +8,10 @@ ghost use Rattle.gix_object_editor.specs.Written.{WriteFault, Writes};
 
 use crate::tree::editor::Editor;
 use gix_hash::ObjectId;
-use gix_object_entries::Tree;
 use gix_object_nodes::node::NodeId;
 pub use gix_object_nodes::write::Error;
 use gix_object_nodes::write::{tree_of, write_below};
+use gix_object_tree::Tree;
 use std::alloc::Global;
 
 impl<S> Editor<S> {

@@ -3,9 +3,9 @@ use Rattle.std.specs.Prelude.{option_map}
 use Rattle.std.proofs.lemmas.Result.{err_from_is_err_and, IfOk-weaker, IfErr-weaker}
 use Rattle.gix_hash_id.specs.Views.{viewed_id}
 use Rattle.gix_object_lines.specs.declared.kind.Kind.TheVariants as kinds
-use Rattle.gix_object_entries.specs.Entry.{own_item}
-use Rattle.gix_object_entries.specs.Order.{is_tree}
-use Rattle.gix_object_entries.specs.Reading.{place_of}
+use Rattle.gix_object_tree.specs.Entry.{own_item}
+use Rattle.gix_object_tree.specs.Order.{is_tree}
+use Rattle.gix_object_tree.specs.Reading.{place_of}
 use Rattle.gix_object_lookup.specs.Existing.{KindFault}
 use Rattle.gix_object_lookup.specs.Path.{FindsFirst, NameFault, IsBelow, BelowFault}
 use Rattle.gix_object_lookup.proofs.Followed.{named_by, below_here, below_fault}

@@ -2,7 +2,7 @@ use Rattle.std.proofs.Common.{subst, ap, refl, ◌<◌, ◌≤◌, ◌+◌, Bor,
 use Rattle.std.specs.Prelude.{option_map}
 use Rattle.std.proofs.lemmas.List.{drop_all}
 use Rattle.std.proofs.lemmas.Result.{err_from_is_err_and}
-use Rattle.gix_object_entries.specs.Entry.{own_item}
+use Rattle.gix_object_tree.specs.Entry.{own_item}
 use Rattle.gix_object_lookup.specs.Path.{IsBelow}
 use Rattle.gix_object_lookup.proofs.Followed.{texts, named_next, along_more, along_none, along_all}
 use Rattle.gix_object_lookup.proofs.lookup.follow.Goals as goal

@@ -1,4 +1,4 @@
-use Rattle.gix_object_entries.specs.Entry.{own_item}
+use Rattle.gix_object_tree.specs.Entry.{own_item}
 use Rattle.gix_object_lookup.proofs.Followed.{IsAlong}
 use Rattle.gix_object_lookup.proofs.lookup.follow.Given as goal
 

@@ -1,7 +1,7 @@
 use Rattle.std.proofs.Common.{sym, subst, ◌∷◌, None}
 use Rattle.std.specs.Prelude.{option_map}
-use Rattle.gix_object_entries.specs.Entry.{own_item}
-use Rattle.gix_object_entries.specs.Reading.{place_of}
+use Rattle.gix_object_tree.specs.Entry.{own_item}
+use Rattle.gix_object_tree.specs.Reading.{place_of}
 use Rattle.gix_object_lookup.specs.Path.{FindsFirst, LooksUp}
 use Rattle.gix_object_lookup.proofs.Followed.{none_follows, texts}
 use Rattle.gix_object_lookup.proofs.lookup.lookup_entry.Goals as goal

@@ -2,9 +2,9 @@ use Rattle.std.proofs.Common.{◌≡◌, ◌∙◌, sym, subst, [], ◌∷◌, �
 use Rattle.std.proofs.lemmas.Bool.{false≢true}
 use Rattle.std.proofs.lemmas.List.Elements.{All-push}
 use Rattle.std.proofs.lemmas.Result.{err_from_is_err_and}
-use Rattle.gix_object_entries.specs.Entry.{Item, item_of, SpellsEntry, SpellsNoEntry, EntryFault}
-use Rattle.gix_object_entries.specs.Reading.{place_of, Steps}
-use Rattle.gix_object_entries.proofs.Spelled.{entries_more}
+use Rattle.gix_object_tree.specs.Entry.{Item, item_of, SpellsEntry, SpellsNoEntry, EntryFault}
+use Rattle.gix_object_tree.specs.Reading.{place_of, Steps}
+use Rattle.gix_object_tree.proofs.Spelled.{entries_more}
 use Rattle.gix_object_lookup.proofs.Named.{found_none}
 use Rattle.gix_object_lookup.proofs.lookup.named.Goals as goal
 

@@ -1,6 +1,6 @@
 use Rattle.std.proofs.Common.{◌≡◌, List, length}
-use Rattle.gix_object_entries.specs.Entry.{Item, SpellsEntries}
-use Rattle.gix_object_entries.specs.Reading.{place_of}
+use Rattle.gix_object_tree.specs.Entry.{Item, SpellsEntries}
+use Rattle.gix_object_tree.specs.Reading.{place_of}
 use Rattle.gix_object_lookup.specs.Path.{LackName}
 use Rattle.gix_object_lookup.proofs.lookup.named.Given as goal
 

@@ -1,7 +1,7 @@
 use Rattle.std.proofs.Common.{sym, subst, Option}
 use Rattle.gix_ref_file.specs.History.{Adds}
 use Rattle.gix_ref_file.proofs.Histories.{adds_weaker}
-use Rattle.gix_ref_transaction.specs.declared.packed.Transaction.{Transaction}
+use Rattle.gix_ref_lock.specs.declared.packed.Transaction.{Transaction}
 use Rattle.gix_ref_moves.specs.Committing.{KeepsPacked}
 use Rattle.gix_ref_moves.proofs.PackedMoves.{dropping}
 use Rattle.gix_ref_moves.proofs.commit.drop_packed.Goals as goal

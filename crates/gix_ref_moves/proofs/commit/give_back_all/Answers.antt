@@ -4,8 +4,8 @@ use Rattle.gix_ref_file.specs.declared.files.FileError.{FileError}
 use Rattle.gix_ref_file.specs.declared.files.FileError.TheVariants.{Failed}
 use Rattle.gix_ref_file.specs.History.{HasRisen}
 use Rattle.gix_ref_file.proofs.Histories.{adds_weaker, adds_joined, adds_nothing}
-use Rattle.gix_ref_transaction.specs.Locks.{OthersStay}
-use Rattle.gix_ref_transaction.proofs.LockLemmas.{folders_joined}
+use Rattle.gix_ref_lock.specs.Locks.{OthersStay}
+use Rattle.gix_ref_lock.proofs.LockLemmas.{folders_joined}
 use Rattle.gix_ref_way.proofs.FoldersMade.{risen_later}
 use Rattle.gix_ref_moves.specs.Contents.{lock_path_of}
 use Rattle.gix_ref_moves.specs.declared.act.Move.{Move}

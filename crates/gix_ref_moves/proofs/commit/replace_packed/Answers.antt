@@ -1,6 +1,6 @@
 use Rattle.std.proofs.Common.{sym, subst, inl, inr, ⊎_elim, Option}
 use Rattle.gix_ref_file.specs.History.{Adds}
-use Rattle.gix_ref_transaction.specs.declared.packed.Transaction.{Transaction}
+use Rattle.gix_ref_lock.specs.declared.packed.Transaction.{Transaction}
 use Rattle.gix_ref_moves.specs.Committing.{MayReplace, Replaces}
 use Rattle.gix_ref_moves.specs.Needs.{CanReplace}
 use Rattle.gix_ref_moves.proofs.PackedMoves.{replacing, replaced}

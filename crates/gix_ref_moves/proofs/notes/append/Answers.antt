@@ -3,7 +3,7 @@ use Rattle.std.proofs.lemmas.Result.{err_from_is_err_and}
 use Rattle.gix_ref_file.specs.Changes.{MayLeave, to_append}
 use Rattle.gix_ref_file.specs.History.{Makes}
 use Rattle.gix_ref_file.proofs.Histories.{adds_weaker}
-use Rattle.gix_ref_transaction.proofs.LockLemmas.{on_ok_both}
+use Rattle.gix_ref_lock.proofs.LockLemmas.{on_ok_both}
 use Rattle.std.specs.Prelude.{Some, OnOk, IsTrue}
 use Rattle.gix_ref_file.specs.Changes.{may_hold_file}
 use Rattle.gix_ref_way.proofs.Clearings.{caused}

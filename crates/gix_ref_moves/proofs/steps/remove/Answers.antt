@@ -1,6 +1,6 @@
 use Rattle.std.proofs.Common.{refl, inl, subst}
 use Rattle.gix_ref_file.proofs.Histories.{adds_weaker}
-use Rattle.gix_ref_transaction.specs.Locks.{OthersStay}
+use Rattle.gix_ref_lock.specs.Locks.{OthersStay}
 use Rattle.std.proofs.lemmas.Result.{on_ok_weaker}
 use Rattle.gix_ref_moves.specs.Contents.{contents, lock_path_of}
 use Rattle.gix_ref_moves.specs.Needs.{KeepsLock}

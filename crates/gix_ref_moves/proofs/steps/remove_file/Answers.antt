@@ -4,7 +4,7 @@ use Rattle.gix_ref_way.proofs.Clearings.{caused}
 use Rattle.gix_ref_moves.proofs.Needed.{told_cause, file_there}
 use Rattle.gix_ref_file.proofs.Histories.{adds_weaker}
 use Rattle.gix_ref_way.proofs.FoldersStay.{while_removed}
-use Rattle.gix_ref_transaction.proofs.LockLemmas.{on_ok_both}
+use Rattle.gix_ref_lock.proofs.LockLemmas.{on_ok_both}
 use Rattle.gix_ref_moves.proofs.FileMoves.{on_told, going, is_gone}
 use Rattle.gix_ref_moves.proofs.steps.remove_file.Goals as goal
 

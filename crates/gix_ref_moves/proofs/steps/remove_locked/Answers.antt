@@ -2,8 +2,8 @@ use Rattle.std.proofs.Common.{refl, sym, ap, ◌∙◌, inl, subst, List, ℕ}
 use Rattle.std.specs.Prelude.{is_some}
 use Rattle.gix_ref_file.specs.History.{Adds}
 use Rattle.gix_ref_file.proofs.Histories.{adds_weaker, adds_joined}
-use Rattle.gix_ref_transaction.specs.Locks.{OthersStay}
-use Rattle.gix_ref_transaction.proofs.LockLemmas.{folders_joined}
+use Rattle.gix_ref_lock.specs.Locks.{OthersStay}
+use Rattle.gix_ref_lock.proofs.LockLemmas.{folders_joined}
 use Rattle.gix_ref_moves.proofs.Needed.{told_cause, since}
 use Rattle.std.proofs.lemmas.Result.{on_ok_weaker, err_from_is_err_and}
 use Rattle.gix_ref_moves.specs.Contents.{lock_path_of}

@@ -3,7 +3,7 @@ use Rattle.std.specs.Prelude.{OnOk}
 use Rattle.gix_ref_file.specs.Tree.{bytes_at}
 use Rattle.gix_ref_file.specs.History.{Adds}
 use Rattle.gix_ref_file.proofs.Histories.{adds_weaker, adds_joined}
-use Rattle.gix_ref_transaction.specs.Locks.{OthersStay, MayBePut}
+use Rattle.gix_ref_lock.specs.Locks.{OthersStay, MayBePut}
 use Rattle.std.proofs.lemmas.Result.{on_ok_weaker, err_from_is_err_and}
 use Rattle.gix_ref_moves.specs.Contents.{act_line, place_of, lock_path_of, log_path_of}
 use Rattle.gix_ref_moves.specs.Needs.{CanNote, noted_logs, logs_of}

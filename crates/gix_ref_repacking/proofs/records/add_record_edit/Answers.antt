@@ -1,6 +1,6 @@
 use Rattle.std.proofs.Common.{option_map}
 use Rattle.gix_ref_repacking.specs.Modes.{objects_in}
-use Rattle.gix_ref_transaction.specs.RecordEdits.{line_in}
+use Rattle.gix_ref_lock.specs.RecordEdits.{line_in}
 use Rattle.std.proofs.lemmas.Result.{err_from_is_err_and}
 use Rattle.gix_ref_repacking.specs.Resolving.{ChangeFault, PackFault}
 use Rattle.gix_ref_repacking.proofs.Unresolved.{anyhow}

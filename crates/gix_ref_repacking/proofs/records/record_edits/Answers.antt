@@ -2,7 +2,7 @@ use Rattle.std.proofs.Common.{[], refl, ap, map, option_map}
 use Rattle.std.proofs.lemmas.Result.{err_from_is_err_and}
 use Rattle.gix_ref_repacking.specs.Resolving.{ChangeFault, PackFault, SomeChangeFault}
 use Rattle.gix_ref_repacking.proofs.Unresolved.{one_off, is_among, by_reason}
-use Rattle.gix_ref_transaction.specs.RecordEdits.{line_in}
+use Rattle.gix_ref_lock.specs.RecordEdits.{line_in}
 use Rattle.gix_ref_repacking.specs.Modes.{objects_in}
 use Rattle.gix_ref_repacking.proofs.RecordLines.{said_none, said_more, all_said}
 use Rattle.gix_ref_repacking.proofs.records.record_edits.Goals as goal

@@ -1,6 +1,6 @@
 use Rattle.std.proofs.Common.{length, map, option_map}
 use Rattle.std.specs.Prelude.{IfSome}
-use Rattle.gix_ref_transaction.specs.RecordEdits.{line_in}
+use Rattle.gix_ref_lock.specs.RecordEdits.{line_in}
 use Rattle.gix_ref_repacking.specs.Modes.{objects_in}
 use Rattle.gix_ref_repacking.proofs.RecordLines.{SaidSoFar}
 use Rattle.gix_ref_repacking.proofs.Unresolved.{IsSplit}

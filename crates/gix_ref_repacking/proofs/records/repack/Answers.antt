@@ -1,14 +1,14 @@
 use Rattle.std.proofs.Common.{◌≡◌, ◌≢◌, ◌∙◌, [], ap, sym, subst, inl, inr, rules, map, option_map, List, ℕ}
 use Rattle.std.proofs.lemmas.Result.{err_from_is_err_and}
 use Rattle.gix_hash_id.specs.declared.kind.Kind.{Kind}
-use Rattle.gix_ref_transaction.specs.Locks.{HasLockPlace, lock_of}
-use Rattle.gix_ref_transaction.specs.PackedEdits.{IsReadAt}
+use Rattle.gix_ref_lock.specs.Locks.{HasLockPlace, lock_of}
+use Rattle.gix_ref_lock.specs.PackedEdits.{IsReadAt}
 use Rattle.std.specs.List.{list_any}
 use Rattle.gix_ref_store.specs.Finds.{records_in}
 use Rattle.gix_ref_store.specs.Places.{packed_place}
 use Rattle.gix_ref_store.specs.Stores.{base_of}
-use Rattle.gix_ref_transaction.specs.RecordEdits.{line_in}
-use Rattle.gix_ref_transaction.specs.declared.packed.RecordEdit.{RecordEdit}
+use Rattle.gix_ref_lock.specs.RecordEdits.{line_in}
+use Rattle.gix_ref_lock.specs.declared.packed.RecordEdit.{RecordEdit}
 use Rattle.gix_ref_repacking.specs.Modes.{objects_in}
 use Rattle.gix_ref_repacking.specs.Repacking.{changes_record}
 use Rattle.gix_ref_repacking.proofs.RecordLines.{any_line, changed_records, unchanged_records, some_change}

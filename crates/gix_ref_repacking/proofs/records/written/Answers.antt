@@ -5,9 +5,9 @@ use Rattle.gix_ref_file.specs.Tree.{bytes_of}
 use Rattle.gix_ref_file.specs.Changes.{is_file_at}
 use Rattle.gix_ref_way.proofs.FoldersMade.{risen_later}
 use Rattle.gix_ref_file.specs.History.{Adds}
-use Rattle.gix_ref_transaction.specs.Locks.{lock_of, OthersStay}
-use Rattle.gix_ref_transaction.specs.RecordEdits.{line_in}
-use Rattle.gix_ref_transaction.proofs.LockLemmas.{others_joined, folders_joined}
+use Rattle.gix_ref_lock.specs.Locks.{lock_of, OthersStay}
+use Rattle.gix_ref_lock.specs.RecordEdits.{line_in}
+use Rattle.gix_ref_lock.proofs.LockLemmas.{others_joined, folders_joined}
 use Rattle.gix_ref_repacking.proofs.RecordLines.{holds_records}
 use Rattle.gix_ref_repacking.proofs.records.written.Goals as goal
 

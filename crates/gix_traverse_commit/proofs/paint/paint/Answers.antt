@@ -3,18 +3,18 @@ use Rattle.std.proofs.lemmas.Option.{slice_get_within}
 use Rattle.std.proofs.Common.{refl, sym, suc, List, ◌∙◌, ◌≡◌, ◌<◌, ◌≤◌, ◌+◌, ℕ, length, arith, subst, take}
 use Rattle.gix_hash_id.specs.declared.object_id.ObjectId.{ObjectId}
 use Rattle.gix_traverse_commit_known.specs.Nodes.{is_hidden}
-use Rattle.gix_traverse_commit_graph.specs.Order.{At}
+use Rattle.gix_traverse_graph.specs.Order.{At}
 use Rattle.gix_traverse_commit_known.specs.Painting.{every, PaintsSome}
 use Rattle.gix_traverse_commit_known.specs.Keeping.{Kept}
-use Rattle.gix_traverse_commit_graph.specs.Rows.{AllHeld}
+use Rattle.gix_traverse_graph.specs.Rows.{AllHeld}
 use Rattle.gix_traverse_commit_known.specs.Meeting.{CountsAll}
 use Rattle.gix_traverse_commit_known.specs.Told.{rows_of}
 use Rattle.gix_traverse_commit_known.proofs.Chosen.{take_all}
 use Rattle.gix_traverse_commit.proofs.Counting.{counts_next, painted_list, paints_none, paints_some, unread_counts}
 use Rattle.gix_traverse_commit_known.proofs.Keeping.{kept_next}
-use Rattle.gix_traverse_commit_graph.proofs.Lists.{contains_from_at}
+use Rattle.gix_traverse_graph.proofs.Lists.{contains_from_at}
 use Rattle.gix_traverse_commit_known.proofs.Painting.{painted_all, painted_reached, known_longer, read_fit, paint_fault, shorter}
-use Rattle.gix_traverse_commit_graph.proofs.RowLemmas.{at_item}
+use Rattle.gix_traverse_graph.proofs.RowLemmas.{at_item}
 use Rattle.gix_traverse_commit.proofs.paint.paint.Goals as goal
 
 pub returns-in_err-commit-clause-refused : goal.returns-in_err-commit-clause-refused

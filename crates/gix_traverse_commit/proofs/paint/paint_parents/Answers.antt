@@ -5,7 +5,7 @@ use Rattle.gix_hash_id.specs.declared.object_id.ObjectId.TheVariants.{Sha1}
 use Rattle.gix_traverse_commit_known.specs.Nodes.{is_hidden}
 use Rattle.gix_traverse_commit_known.specs.Painting.{every}
 use Rattle.gix_traverse_commit_known.proofs.Keeping.{kept_parent, kept_row}
-use Rattle.gix_traverse_commit_graph.proofs.Lists.{contains_from_at}
+use Rattle.gix_traverse_graph.proofs.Lists.{contains_from_at}
 use Rattle.gix_traverse_commit_known.proofs.Painting.{painted_one, pushes_held, pushes_keep, pushes_queues}
 use Rattle.gix_traverse_commit.proofs.paint.paint_parents.Goals as goal
 

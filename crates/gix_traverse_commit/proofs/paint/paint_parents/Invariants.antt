@@ -3,11 +3,11 @@ use Rattle.gix_hash_id.specs.declared.object_id.ObjectId.{ObjectId}
 use Rattle.gix_traverse_commit_known.specs.Known.{turns_of}
 use Rattle.gix_traverse_commit_known.specs.Keeping.{Kept}
 use Rattle.gix_traverse_commit_known.specs.Nodes.{is_hidden, is_met}
-use Rattle.gix_traverse_commit_graph.specs.Order.{At}
+use Rattle.gix_traverse_graph.specs.Order.{At}
 use Rattle.gix_traverse_commit_known.specs.Painting.{IsPainted, every}
-use Rattle.gix_traverse_commit_graph.specs.Rows.{AllHeld}
-use Rattle.gix_traverse_commit_graph.specs.Standing.{Reads}
-use Rattle.gix_traverse_commit_graph.specs.declared.rows.Row.{Row}
+use Rattle.gix_traverse_graph.specs.Rows.{AllHeld}
+use Rattle.gix_traverse_graph.specs.Standing.{Reads}
+use Rattle.gix_traverse_graph.specs.declared.rows.Row.{Row}
 use Rattle.gix_traverse_commit.proofs.paint.paint_parents.Given as goal
 
 abbrev pub invariant-parents : goal.invariant-parents

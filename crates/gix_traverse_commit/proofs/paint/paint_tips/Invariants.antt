@@ -4,8 +4,8 @@ use Rattle.gix_traverse_commit_known.specs.Known.{turns_of}
 use Rattle.gix_traverse_commit_known.specs.Keeping.{Kept}
 use Rattle.gix_traverse_commit_known.specs.Nodes.{is_hidden, is_met}
 use Rattle.gix_traverse_commit_known.specs.Painting.{IsPainted, every}
-use Rattle.gix_traverse_commit_graph.specs.Rows.{AllHeld}
-use Rattle.gix_traverse_commit_graph.specs.declared.rows.Row.{Row}
+use Rattle.gix_traverse_graph.specs.Rows.{AllHeld}
+use Rattle.gix_traverse_graph.specs.declared.rows.Row.{Row}
 use Rattle.gix_traverse_commit.proofs.paint.paint_tips.Given as goal
 
 abbrev pub invariant-tips : goal.invariant-tips

@@ -5,7 +5,7 @@ use Rattle.gix_hash_id.specs.declared.object_id.ObjectId.{ObjectId}
 use Rattle.gix_hash_id.specs.declared.object_id.ObjectId.TheVariants.{Sha1}
 use Rattle.std.specs.Prelude.{Contains}
 use Rattle.gix_traverse_commit_known.specs.Nodes.{is_asked}
-use Rattle.gix_traverse_commit_graph.specs.Order.{IsListOf}
+use Rattle.gix_traverse_graph.specs.Order.{IsListOf}
 use Rattle.gix_traverse_commit_known.specs.Asked.{AreAsked}
 use Rattle.gix_traverse_commit_known.proofs.Chosen.{take_all}
 use Rattle.gix_traverse_commit_known.proofs.Simply.{take_push}

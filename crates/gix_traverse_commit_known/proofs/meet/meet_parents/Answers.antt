@@ -8,9 +8,9 @@ use Rattle.gix_traverse_commit_known.specs.Nodes.{is_hidden, is_met}
 use Rattle.gix_traverse_commit_known.specs.Ending.{times_in}
 use Rattle.gix_traverse_commit_known.proofs.Ending.{and_not, gains_more, gains_none, gains_queued}
 use Rattle.gix_traverse_commit_known.proofs.Keeping.{kept_row, kept_step, stays_met, unmet_before}
-use Rattle.gix_traverse_commit_graph.proofs.Lists.{contains_from_at}
+use Rattle.gix_traverse_graph.proofs.Lists.{contains_from_at}
 use Rattle.gix_traverse_commit_known.proofs.Painting.{queues_held}
-use Rattle.gix_traverse_commit_graph.specs.Order.{IsListOf}
+use Rattle.gix_traverse_graph.specs.Order.{IsListOf}
 use Rattle.gix_traverse_commit_known.specs.Meeting.{MarksMet}
 use Rattle.gix_traverse_commit_known.proofs.Chosen.{take_all}
 use Rattle.gix_traverse_commit_known.proofs.Meeting.{Fresh, asks_more, marks_none, marks_step, meets_none, meets_step, parent_met, parent_or_met}

@@ -7,9 +7,9 @@ use Rattle.gix_traverse_commit_known.specs.Ending.{NoneGains, times_in}
 use Rattle.gix_traverse_commit_known.specs.Keeping.{Kept}
 use Rattle.gix_traverse_commit_known.specs.Meeting.{Asks, MarksMet}
 use Rattle.gix_traverse_commit_known.specs.Nodes.{is_hidden, is_met}
-use Rattle.gix_traverse_commit_graph.specs.Standing.{Reads}
-use Rattle.gix_traverse_commit_graph.specs.Rows.{AllHeld}
-use Rattle.gix_traverse_commit_graph.specs.declared.rows.Row.{Row}
+use Rattle.gix_traverse_graph.specs.Standing.{Reads}
+use Rattle.gix_traverse_graph.specs.Rows.{AllHeld}
+use Rattle.gix_traverse_graph.specs.declared.rows.Row.{Row}
 use Rattle.gix_traverse_commit_known.proofs.Meeting.{MeetsOnce}
 use Rattle.gix_traverse_commit_known.proofs.meet.meet_parents.Given as goal
 

@@ -7,7 +7,7 @@ use Rattle.gix_traverse_commit_known.specs.Nodes.{is_hidden, is_met}
 use Rattle.gix_traverse_commit_known.specs.Ending.{times_in}
 use Rattle.gix_traverse_commit_known.proofs.Ending.{gains_more, gains_none, gains_queued}
 use Rattle.gix_traverse_commit_known.proofs.Keeping.{kept_meet, kept_start, met_itself, met_more, unmet_before}
-use Rattle.gix_traverse_commit_graph.proofs.Lists.{contains_from_at}
+use Rattle.gix_traverse_graph.proofs.Lists.{contains_from_at}
 use Rattle.gix_traverse_commit_known.specs.Meeting.{MarksAll}
 use Rattle.gix_traverse_commit_known.proofs.Chosen.{take_all}
 use Rattle.gix_traverse_commit_known.proofs.Meeting.{all_none, all_step}

@@ -6,8 +6,8 @@ use Rattle.gix_traverse_commit_known.specs.Ending.{NoneGains, times_in}
 use Rattle.gix_traverse_commit_known.specs.Keeping.{Kept}
 use Rattle.gix_traverse_commit_known.specs.Meeting.{MarksAll}
 use Rattle.gix_traverse_commit_known.specs.Nodes.{is_hidden, is_met}
-use Rattle.gix_traverse_commit_graph.specs.Rows.{AllHeld}
-use Rattle.gix_traverse_commit_graph.specs.declared.rows.Row.{Row}
+use Rattle.gix_traverse_graph.specs.Rows.{AllHeld}
+use Rattle.gix_traverse_graph.specs.declared.rows.Row.{Row}
 use Rattle.gix_traverse_commit_known.proofs.meet.queue_tips.Given as goal
 
 abbrev pub invariant-tips : goal.invariant-tips

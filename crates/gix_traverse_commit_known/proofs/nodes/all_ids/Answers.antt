@@ -1,5 +1,5 @@
 use Rattle.std.proofs.Common.{ℕ, sym, ap, subst, length}
-use Rattle.gix_traverse_commit_graph.specs.Order.{At}
+use Rattle.gix_traverse_graph.specs.Order.{At}
 use Rattle.gix_traverse_commit_known.proofs.NodeLemmas.{taken_more}
 use Rattle.gix_traverse_commit_known.proofs.nodes.all_ids.Goals as goal
 

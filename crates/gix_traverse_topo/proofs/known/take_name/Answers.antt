@@ -1,5 +1,5 @@
 use Rattle.std.proofs.Common.{◌≡◌, ℕ, ◌+◌, ◌-◌, ◌≤◌, refl, subst, arith}
-use Rattle.gix_traverse_commit_graph.specs.Order.{At}
+use Rattle.gix_traverse_graph.specs.Order.{At}
 use Rattle.gix_traverse_topo.specs.Nodes.{counts}
 use Rattle.gix_traverse_topo.proofs.Updates.{set_facts, set_counts, count_at, got, some_value}
 use Rattle.gix_traverse_topo.proofs.known.take_name.Goals as goal

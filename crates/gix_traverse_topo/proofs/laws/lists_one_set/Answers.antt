@@ -1,8 +1,8 @@
 use Rattle.std.specs.Prelude.{List}
 use Rattle.gix_hash_id.specs.declared.object_id.ObjectId.{ObjectId}
-use Rattle.gix_traverse_commit_graph.specs.Commits.{Commits, WalkRequest}
-use Rattle.gix_traverse_commit_graph.specs.Walks.{InSomeOrder, date, topological}
-use Rattle.gix_traverse_commit_graph.proofs.Listing.{one_set}
+use Rattle.gix_traverse_graph.specs.Commits.{Commits, WalkRequest}
+use Rattle.gix_traverse_graph.specs.Walks.{InSomeOrder, date, topological}
+use Rattle.gix_traverse_graph.proofs.Listing.{one_set}
 use Rattle.gix_traverse_topo.specs.Standing.{Answers}
 use Rattle.gix_traverse_topo.specs.declared.init.Sorting.{Sorting}
 use Rattle.gix_traverse_topo.specs.declared.init.Sorting.TheVariants.{DateOrder, TopoOrder}

@@ -1,6 +1,6 @@
 use Rattle.std.proofs.Common.{subst, Some}
 use Rattle.std.proofs.lemmas.Result.{err_from_is_err_and}
-use Rattle.gix_object_entries.specs.Reading.{place_of, Steps}
+use Rattle.gix_object_tree.specs.Reading.{place_of, Steps}
 use Rattle.gix_traverse_tree.proofs.Telling.{told_start, told_inside, told_more, told_all, told_unread}
 use Rattle.gix_traverse_tree.proofs.at_paths.tell_names.Goals as goal
 

@@ -1,5 +1,5 @@
 use Rattle.std.proofs.Common.{length}
-use Rattle.gix_object_entries.specs.Reading.{place_of}
+use Rattle.gix_object_tree.specs.Reading.{place_of}
 use Rattle.gix_traverse_tree.proofs.Telling.{Told}
 use Rattle.gix_traverse_tree.proofs.at_paths.tell_names.Given as goal
 

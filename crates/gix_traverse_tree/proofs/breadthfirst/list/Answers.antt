@@ -1,6 +1,6 @@
 use Rattle.std.proofs.Common.{◌∙◌, subst, refl, inl, inr, Some}
 use Rattle.std.proofs.lemmas.Result.{err_from_is_err_and}
-use Rattle.gix_object_entries.specs.Reading.{place_of, Steps}
+use Rattle.gix_object_tree.specs.Reading.{place_of, Steps}
 use Rattle.gix_traverse_tree.proofs.Listed.{listed_start, listed_done, step_entry, step_ended, step_unread}
 use Rattle.gix_traverse_tree.proofs.breadthfirst.list.Goals as goal
 

@@ -1,5 +1,5 @@
 use Rattle.std.proofs.Common.{◌≡◌}
-use Rattle.gix_object_entries.specs.Reading.{place_of}
+use Rattle.gix_object_tree.specs.Reading.{place_of}
 use Rattle.gix_traverse_tree.proofs.Listed.{Listed}
 use Rattle.gix_traverse_tree.proofs.breadthfirst.list.Given as goal
 

@@ -1,6 +1,6 @@
 use Rattle.std.proofs.Common.{◌⊎◌, inl, inr, ◌∙◌, refl, ap, Err, arith}
 use Rattle.history_names.proofs.NameFolders.{folders_now}
-use Rattle.history_steps.specs.TreeSteps.{MovesName}
+use Rattle.history_layout.specs.TreeSteps.{MovesName}
 use Rattle.history_texts.specs.Formats.{entry_of}
 use Rattle.history.proofs.MoveFaults.{met_fault}
 use Rattle.history.proofs.MovedNames.{fits_here, moved, names_pass}

@@ -3,7 +3,7 @@ use Rattle.history_names.proofs.Removals.{same_folders_now}
 use Rattle.gix_ref_file.specs.History.{Adds}
 use Rattle.history_names.specs.Packing.{IsPackedForm, IsTaken, MayTake}
 use Rattle.history.proofs.DeleteLemmas.{files_gone, goes_on_the_way, packed_formed, packed_room}
-use Rattle.history_steps.specs.TakeSteps.{TakesName}
+use Rattle.history_layout.specs.TakeSteps.{TakesName}
 use Rattle.history.proofs.MoveFaults.{met_fault}
 use Rattle.history.proofs.Told.{file_counts}
 use Rattle.history.proofs.deleting.delete_name.Goals as goal

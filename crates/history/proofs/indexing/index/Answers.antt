@@ -1,5 +1,5 @@
 use Rattle.std.proofs.Common.{◌∙◌, sym, subst, List}
-use Rattle.gix_traverse_commit_graph.specs.declared.rows.Row.{Row}
+use Rattle.gix_traverse_graph.specs.declared.rows.Row.{Row}
 use Rattle.history_model.specs.Answers.{rows_of}
 use Rattle.history_walks.specs.Rows.{AreTheRows}
 use Rattle.history.proofs.RowsKept.{index_answered, index_stopped, index_unmade, rows_agree, rows_serve}

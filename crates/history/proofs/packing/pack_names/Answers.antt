@@ -5,7 +5,7 @@ use Rattle.history_names.proofs.NamesPacked.{kinds_told, packs_moments, packs_na
 use Rattle.history_names.proofs.Removals.{same_folders_now}
 use Rattle.history.proofs.DeleteLemmas.{packed_room}
 use Rattle.history_plans.proofs.PackedLines.{all_records}
-use Rattle.history_steps.specs.PackSteps.{PacksNames}
+use Rattle.history_layout.specs.PackSteps.{PacksNames}
 use Rattle.history.proofs.MoveFaults.{met_fault}
 use Rattle.history.proofs.PackLemmas.{holds_names}
 use Rattle.history.proofs.Told.{file_counts}

@@ -2,8 +2,8 @@ use Rattle.std.proofs.Common.{◌∙◌, ap, Err}
 use Rattle.std.proofs.lemmas.Result.{err_from_is_err_and}
 use Rattle.history_model.specs.Commands.{Rename}
 use Rattle.history_model.specs.Meaning.{after}
-use Rattle.history_steps.specs.RenameSteps.{with_both}
-use Rattle.history_steps.specs.TreeSteps.{MovesName}
+use Rattle.history_layout.specs.RenameSteps.{with_both}
+use Rattle.history_layout.specs.TreeSteps.{MovesName}
 use Rattle.history_texts.specs.Formats.{entry_of}
 use Rattle.history.specs.Acts.{CountsFailure}
 use Rattle.history_plans.specs.Halves.{NamesStand, names_tree}

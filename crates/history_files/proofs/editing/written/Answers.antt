@@ -2,8 +2,8 @@ use Rattle.std.proofs.Common.{◌≡◌, ◌∙◌, ap, sym, subst, refl, [], �
 use Rattle.std.proofs.lemmas.Fn.{chained_keeps}
 use Rattle.gix_hash_id.specs.Id.{id_of}
 use Rattle.gix_hash_id.specs.declared.kind.Kind.{Kind}
-use Rattle.gix_object_entries.specs.Entry.{own_item}
-use Rattle.gix_object_entries.specs.declared.tree.owned.Tree.{Tree}
+use Rattle.gix_object_tree.specs.Entry.{own_item}
+use Rattle.gix_object_tree.specs.declared.tree.owned.Tree.{Tree}
 use Rattle.history_files.specs.Handing.{AreKept, IsTextOf}
 use Rattle.history_files.specs.declared.trees.EditedTree.{EditedTree}
 use Rattle.history_files.proofs.GivenTrees.{kept_more}

@@ -1,5 +1,5 @@
 use Rattle.std.proofs.Common.{◌≡◌, map, drop}
-use Rattle.gix_object_entries.specs.Entry.{item_of}
+use Rattle.gix_object_tree.specs.Entry.{item_of}
 use Rattle.gix_object_nodes.specs.Files.{named}
 use Rattle.history_files.proofs.found.named_among.Given as goal
 

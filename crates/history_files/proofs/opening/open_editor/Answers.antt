@@ -1,8 +1,8 @@
 use Rattle.std.proofs.Common.{◌≡◌, ◌∙◌, ap, sym, subst, refl, map}
 use Rattle.std.proofs.lemmas.Result.{err_from_is_err_and}
 use Rattle.gix_hash_id.specs.Id.{id_of}
-use Rattle.gix_object_entries.specs.Entry.{item_of, own_item}
-use Rattle.gix_object_entries.specs.WellFormed.{IsWellFormed}
+use Rattle.gix_object_tree.specs.Entry.{item_of, own_item}
+use Rattle.gix_object_tree.specs.WellFormed.{IsWellFormed}
 use Rattle.gix_object_editor.specs.Asked.{ids_from}
 use Rattle.gix_object_nodes.specs.Files.{files_of_tree, no_trees}
 use Rattle.gix_object_nodes.specs.Nodes.{slots_of}
@@ -11,7 +11,7 @@ use Rattle.history_files.proofs.Unopened.{same_into}
 use Rattle.gix_object_editor.specs.Editor.{files_of}
 use Rattle.gix_object_editor.specs.Entries.{ItemsHave}
 use Rattle.gix_object_lines.specs.declared.kind.Kind.TheVariants as objects
-use Rattle.gix_object_tree.specs.Object.{Tree}
+use Rattle.gix_object_any.specs.Object.{Tree}
 use Rattle.gix_object_find.specs.Values.{StandsAs}
 use Rattle.history_model.proofs.WholeLists.{clash}
 use Rattle.history_model.proofs.WholeRoots.{has_all}

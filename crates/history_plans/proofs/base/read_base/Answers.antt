@@ -16,7 +16,7 @@ use Rattle.history_repository.specs.declared.stored.PeeledCommit.{PeeledCommit}
 use Rattle.history_plans.specs.CommitCauses.{IsNamed, name_causes, name_form_causes, word_causes, held_causes, place_causes, parent_causes}
 use Rattle.history_model.specs.Commands.{Commit}
 use Rattle.history_model.specs.Repository.{HoldsCommit}
-use Rattle.history_steps.proofs.OfferedReads.{parents_are_commits}
+use Rattle.history_layout.proofs.OfferedReads.{parents_are_commits}
 use Rattle.history_repository.specs.Held.{IsHeld}
 use Rattle.history_repository.specs.declared.words.WordMeaning.{WordMeaning}
 use Rattle.history_repository.specs.declared.stopped.Stopped.TheVariants.{Refused, Fault}

@@ -2,7 +2,7 @@ use Rattle.std.proofs.Common.{sym, subst}
 use Rattle.gix_hash_id.specs.Id.{id_of}
 use Rattle.gix_object_lookup.specs.Table.{Table}
 use Rattle.gix_traverse_commit_known.specs.Told.{rows_of}
-use Rattle.gix_traverse_commit_graph.specs.Rows.{AllHeld}
+use Rattle.gix_traverse_graph.specs.Rows.{AllHeld}
 use Rattle.history_walks.specs.ReadCommits.{AreOf, kept_in}
 use Rattle.history_queries.specs.Walked.{AllHold, AreRead}
 use Rattle.history_queries.proofs.CommitsWalked.{commits_there, fails_so, none_read, rowed_there, stopped_there, told_there}

@@ -1,6 +1,6 @@
 use Rattle.std.proofs.Common.{◌≡◌, ◌⊎◌, ◌∙◌, subst, sym}
-use Rattle.history_names_survey.specs.Parts.{StandsNames}
-use Rattle.history_names_survey.specs.Stored.{AreFactsOf}
+use Rattle.history_check_names.specs.Parts.{StandsNames}
+use Rattle.history_check_names.specs.Stored.{AreFactsOf}
 use Rattle.history_objects.specs.Face.{ids_of_objects}
 use Rattle.history_names.specs.Packing.{KeepsRecords}
 use Rattle.history_repository.specs.Causes.{IsOpenCause, IsOpenFault}

@@ -1,7 +1,7 @@
 use Rattle.std.proofs.Common.{◌≡◌, map, max, take, unwrap_or}
 use Rattle.std.specs.Prelude.{fold}
 use Rattle.std.specs.HashMap.{get}
-use Rattle.gix_traverse_commit_graph.specs.Numbered.{same_id}
+use Rattle.gix_traverse_graph.specs.Numbered.{same_id}
 use Rattle.history_walks.proofs.rows.greatest.Given as goal
 
 -- the greatest of the parents so far

@@ -7,9 +7,9 @@ use Rattle.gix_traverse_commit_known.specs.Faults.{TipFault}
 use Rattle.gix_traverse_commit_known.specs.Asked.{Answers, Asked, IsSure}
 use Rattle.gix_traverse_commit.specs.Simply.{IsMade, graph_of, objects_of}
 use Rattle.gix_traverse_commit_known.specs.Told.{rows_of}
-use Rattle.gix_traverse_commit_graph.specs.declared.parents.Parents.TheVariants.{All as AllParents}
-use Rattle.gix_traverse_commit_graph.specs.declared.rows.Row.{Row}
-use Rattle.gix_traverse_commit_graph.specs.declared.sorting.Sorting.TheVariants.{BreadthFirst}
+use Rattle.gix_traverse_graph.specs.declared.parents.Parents.TheVariants.{All as AllParents}
+use Rattle.gix_traverse_graph.specs.declared.rows.Row.{Row}
+use Rattle.gix_traverse_graph.specs.declared.sorting.Sorting.TheVariants.{BreadthFirst}
 use Rattle.history_walks.specs.Faults.{WalkFault, as_walked}
 use Rattle.history_walks.specs.Simply.{asked}
 use Rattle.history_walks.proofs.Faulty.{tip_fault}

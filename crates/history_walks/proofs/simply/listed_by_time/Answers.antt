@@ -3,7 +3,7 @@ use Rattle.std.specs.declared.alloc.Global.{Global}
 use Rattle.gix_hash_id.specs.declared.object_id.ObjectId.{ObjectId}
 use Rattle.gix_traverse_commit_known.specs.Asked.{Answers}
 use Rattle.gix_traverse_commit_known.specs.Told.{rows_of}
-use Rattle.gix_traverse_commit_graph.specs.declared.parents.Parents.TheVariants.{All as AllParents}
+use Rattle.gix_traverse_graph.specs.declared.parents.Parents.TheVariants.{All as AllParents}
 use Rattle.history_walks.specs.Faults.{WalkFault}
 use Rattle.history_walks.specs.ReadCommits.{table_of}
 use Rattle.history_walks.specs.Simply.{asked}

@@ -1,5 +1,5 @@
 use Rattle.std.proofs.Common.{subst}
-use Rattle.gix_object_entries.specs.Entry.{TreeFault}
+use Rattle.gix_object_tree.specs.Entry.{TreeFault}
 use Rattle.gix_object_find.proofs.ext.FindExt.find_tree.Goals as goal
 
 pub returns-in-Err-clause-refused : goal.returns-in-Err-clause-refused

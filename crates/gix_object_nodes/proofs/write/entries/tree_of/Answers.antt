@@ -4,8 +4,8 @@ use Rattle.std.specs.Map.{keys_of, values_of}
 use Rattle.std.specs.List.{IsDistinct, cons_option}
 use Rattle.std.specs.Ordering.{eq_by_cmp}
 use Rattle.std.proofs.lemmas.Map.Keys.{IsDistinct-from_sorted}
-use Rattle.gix_object_entries.specs.Entry.{own_item}
-use Rattle.gix_object_entries.specs.declared.tree.entry.Entry.{Entry}
+use Rattle.gix_object_tree.specs.Entry.{own_item}
+use Rattle.gix_object_tree.specs.declared.tree.entry.Entry.{Entry}
 use Rattle.gix_object_nodes.specs.declared.node.Slot.{Slot}
 use Rattle.gix_object_nodes.specs.Files.{through}
 use Rattle.gix_object_nodes.specs.Nodes.{Key}

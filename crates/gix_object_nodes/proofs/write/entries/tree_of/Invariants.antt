@@ -1,6 +1,6 @@
 use Rattle.std.proofs.Common.{◌≡◌, ◌++◌, length, map}
 use Rattle.std.specs.Map.{values_of}
-use Rattle.gix_object_entries.specs.Entry.{own_item}
+use Rattle.gix_object_tree.specs.Entry.{own_item}
 use Rattle.gix_object_nodes.specs.Writing.{ids_of}
 use Rattle.gix_object_nodes.specs.Marks.{changed_in}
 use Rattle.gix_object_nodes.proofs.Due.{entry_if}

@@ -3,13 +3,13 @@ use Rattle.gix_hash_id.specs.declared.object_id.ObjectId.{ObjectId}
 use Rattle.gix_hash_id.specs.Id.{Id}
 use Rattle.gix_traverse_commit_known.specs.Ending.{times_in, times_waiting}
 use Rattle.gix_traverse_commit_known.specs.Painting.{CountsUnpainted, PaintFault, Paints, ReachedFrom, CountsUnread, PaintsSome}
-use Rattle.gix_traverse_commit_graph.specs.Order.{IsListOf}
-use Rattle.gix_traverse_commit_graph.specs.Rows.{AllHeld}
+use Rattle.gix_traverse_graph.specs.Order.{IsListOf}
+use Rattle.gix_traverse_graph.specs.Rows.{AllHeld}
 use Rattle.std.specs.Prelude.{Contains, IsSome}
 use Rattle.gix_traverse_commit_known.specs.Meeting.{CountsAll, CountsTimes, IsFresh}
 use Rattle.gix_traverse_commit_known.specs.Known.{turns_of}
 use Rattle.gix_traverse_commit_known.specs.Nodes.{is_hidden}
-use Rattle.gix_traverse_commit_graph.specs.Sorting.{timing_of}
+use Rattle.gix_traverse_graph.specs.Sorting.{timing_of}
 use Rattle.gix_traverse_commit.specs.Simply.{IsNew, times_queued}
 use Rattle.gix_traverse_commit_known.specs.Asked.{IsSure, timing}
 use Rattle.gix_traverse_commit.specs.Giving.{CountsHiddenFault, CountsUnbegun, IsAccepted, IsWanted}
@@ -19,10 +19,10 @@ use Rattle.gix_traverse_commit_known.specs.Told.{AreTold, rows_of}
 use Rattle.gix_object_lookup.specs.Table.{Table}
 use Rattle.gix_traverse_commit_known.specs.declared.fetch.FetchError.{FetchError}
 use Rattle.gix_traverse_commit_known.specs.declared.fetch.FetchError.TheVariants as fault
-use Rattle.gix_traverse_commit_graph.specs.declared.parents.Parents.{Parents}
-use Rattle.gix_traverse_commit_graph.specs.declared.rows.Row.{Row}
+use Rattle.gix_traverse_graph.specs.declared.parents.Parents.{Parents}
+use Rattle.gix_traverse_graph.specs.declared.rows.Row.{Row}
 use Rattle.gix_traverse_commit_known.specs.declared.waiting.Turn.{Turn}
-use Rattle.gix_traverse_commit_graph.specs.declared.sorting.Timing.{Timing}
+use Rattle.gix_traverse_graph.specs.declared.sorting.Timing.{Timing}
 use Rattle.gix_traverse_commit_known.specs.declared.faults.Error.{Error}
 use Rattle.gix_traverse_commit.proofs.ByTime.{timing_same, under_source}
 use Rattle.gix_traverse_commit_known.proofs.Ending.{gains_more, gains_same}

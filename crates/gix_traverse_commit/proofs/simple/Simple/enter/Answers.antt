@@ -3,27 +3,27 @@ use Rattle.gix_hash_id.specs.Id.{id_of}
 use Rattle.gix_hash_id.specs.declared.object_id.ObjectId.{ObjectId}
 use Rattle.gix_object_lookup.specs.Existing.{Stands}
 use Rattle.gix_object_lines.specs.declared.kind.Kind.TheVariants as kinds
-use Rattle.gix_traverse_commit_graph.specs.Commits.{asked_parents}
+use Rattle.gix_traverse_graph.specs.Commits.{asked_parents}
 use Rattle.gix_traverse_commit_known.specs.Meeting.{CountsTimes, IsFresh, MarksMet, accepted}
-use Rattle.gix_traverse_commit_graph.specs.Order.{IsListOf}
+use Rattle.gix_traverse_graph.specs.Order.{IsListOf}
 use Rattle.gix_traverse_commit_known.specs.Queueing.{QueuesSome}
-use Rattle.gix_traverse_commit_graph.specs.Rows.{AllHeld}
+use Rattle.gix_traverse_graph.specs.Rows.{AllHeld}
 use Rattle.gix_traverse_commit_known.specs.Asked.{IsKnown, IsSure}
-use Rattle.gix_traverse_commit_graph.specs.Sorting.{IsTime, timing_of}
+use Rattle.gix_traverse_graph.specs.Sorting.{IsTime, timing_of}
 use Rattle.gix_traverse_commit.specs.Giving.{IsMetWith}
 use Rattle.gix_traverse_commit_known.specs.Faults.{StopsFetch, error_of}
 use Rattle.gix_traverse_commit_known.specs.Timely.{AllRowed, LetsWaitIn}
 use Rattle.gix_traverse_commit_known.specs.Known.{turns_of}
 use Rattle.gix_traverse_commit_known.specs.Told.{AreTold, rows_of}
-use Rattle.gix_traverse_commit_graph.specs.declared.parents.Parents.{Parents}
-use Rattle.gix_traverse_commit_graph.specs.declared.rows.Row.{Row}
+use Rattle.gix_traverse_graph.specs.declared.parents.Parents.{Parents}
+use Rattle.gix_traverse_graph.specs.declared.rows.Row.{Row}
 use Rattle.gix_object_lookup.specs.Table.{Table}
 use Rattle.gix_traverse_commit_known.specs.Fetching.{ReadFault}
 use Rattle.gix_traverse_commit_known.specs.declared.fetch.FetchError.{FetchError}
 use Rattle.gix_traverse_commit_known.specs.declared.fetch.FetchError.TheVariants as fault
 use Rattle.std.proofs.lemmas.Result.{err_from_is_err_and}
 use Rattle.gix_traverse_commit.proofs.ByTime.{at_order, at_source, under_source}
-use Rattle.gix_traverse_commit_graph.specs.declared.sorting.Sorting.{Sorting}
+use Rattle.gix_traverse_graph.specs.declared.sorting.Sorting.{Sorting}
 use Rattle.gix_traverse_commit.proofs.simple.Simple.enter.Goals as goal
 
 pub returns-clause-told : goal.returns-clause-told

@@ -1,7 +1,7 @@
 use Rattle.std.proofs.Common.{arith, ◌+◌, ◌≡◌, ◌∙◌, ◌⊎◌, sym, ap, subst, refl, inl, inr, List, [], ◌++◌, Bool, true, false}
 use Rattle.std.specs.Prelude.{Contains}
 use Rattle.gix_hash_id.specs.declared.object_id.ObjectId.{ObjectId}
-use Rattle.gix_traverse_commit_graph.specs.Rows.{AllHeld}
+use Rattle.gix_traverse_graph.specs.Rows.{AllHeld}
 use Rattle.std.proofs.lemmas.List.Elements.{Contains-append_cases}
 use Rattle.gix_traverse_commit_known.specs.Ending.{times_in, times_waiting}
 use Rattle.gix_traverse_commit_known.specs.Known.{turns_of, waited_of}
@@ -11,7 +11,7 @@ use Rattle.gix_traverse_commit_known.specs.Timely.{AllRowed}
 use Rattle.gix_traverse_commit_known.specs.declared.waiting.Turn.{Turn}
 use Rattle.gix_traverse_commit_known.proofs.Ending.{gains_gathered, gains_none, times_some, waiting_some}
 use Rattle.gix_traverse_commit_known.specs.Told.{rows_of}
-use Rattle.gix_traverse_commit_graph.specs.declared.rows.Row.{Row}
+use Rattle.gix_traverse_graph.specs.declared.rows.Row.{Row}
 use Rattle.gix_traverse_commit_known.proofs.KnownLemmas.{waited_waits}
 use Rattle.gix_traverse_commit_known.proofs.Pending.{held_both, held_waited, none_held, none_rowed}
 use Rattle.gix_traverse_commit.proofs.simple.Simple.gather.Goals as goal

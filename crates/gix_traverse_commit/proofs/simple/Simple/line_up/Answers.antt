@@ -2,20 +2,20 @@ use Rattle.std.proofs.Common.{rules, ◌+◌, ◌≡◌, sym, ◌∙◌, refl, s
 use Rattle.std.specs.Prelude.{Contains, not, ◌&&◌, IsSome}
 use Rattle.gix_hash_id.specs.Id.{id_of}
 use Rattle.gix_hash_id.specs.declared.object_id.ObjectId.{ObjectId}
-use Rattle.gix_traverse_commit_graph.specs.Commits.{asked_parents}
+use Rattle.gix_traverse_graph.specs.Commits.{asked_parents}
 use Rattle.gix_traverse_commit_known.specs.Meeting.{CountsTimes, IsFresh, MarksAll}
-use Rattle.gix_traverse_commit_graph.specs.Order.{IsListOf}
+use Rattle.gix_traverse_graph.specs.Order.{IsListOf}
 use Rattle.gix_traverse_commit_known.specs.Known.{turns_of}
 use Rattle.gix_traverse_commit_known.specs.Nodes.{is_hidden, is_met}
-use Rattle.gix_traverse_commit_graph.specs.Rows.{AllHeld}
+use Rattle.gix_traverse_graph.specs.Rows.{AllHeld}
 use Rattle.gix_traverse_commit_known.specs.Asked.{keep_of, timing}
 use Rattle.gix_traverse_commit.specs.Simply.{times_queued}
-use Rattle.gix_traverse_commit_graph.specs.Sorting.{in_time, timing_of}
+use Rattle.gix_traverse_graph.specs.Sorting.{in_time, timing_of}
 use Rattle.gix_traverse_commit_known.specs.Timely.{AllRowed, IsMetSoFar, keep_since, LetsWaitIn}
 use Rattle.gix_traverse_commit_known.specs.Told.{rows_of}
-use Rattle.gix_traverse_commit_graph.specs.declared.rows.Row.{Row}
+use Rattle.gix_traverse_graph.specs.declared.rows.Row.{Row}
 use Rattle.gix_traverse_commit_known.specs.declared.waiting.Turn.{Turn}
-use Rattle.gix_traverse_commit_graph.specs.declared.sorting.Timing.{Timing}
+use Rattle.gix_traverse_graph.specs.declared.sorting.Timing.{Timing}
 use Rattle.gix_traverse_commit_known.specs.Ending.{NoneGains, times_in, times_waiting}
 use Rattle.gix_traverse_commit_known.proofs.Ending.{gains_before, gains_behind}
 use Rattle.gix_traverse_commit.proofs.ByTime.{is_sure, timing_same}

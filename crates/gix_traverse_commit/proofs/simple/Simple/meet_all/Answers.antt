@@ -2,24 +2,24 @@ use Rattle.std.proofs.Common.{refl, ◌+◌, rules, ◌≡◌, ◌⊎◌, sym, �
 use Rattle.std.specs.Prelude.{Contains, IsSome, not, ◌&&◌}
 use Rattle.gix_hash_id.specs.Id.{id_of}
 use Rattle.gix_hash_id.specs.declared.object_id.ObjectId.{ObjectId}
-use Rattle.gix_traverse_commit_graph.specs.Commits.{asked_parents}
+use Rattle.gix_traverse_graph.specs.Commits.{asked_parents}
 use Rattle.gix_traverse_commit_known.specs.Meeting.{CountsTimes, accepted}
 use Rattle.gix_traverse_commit_known.specs.Known.{turns_of}
 use Rattle.gix_traverse_commit_known.specs.Nodes.{is_hidden, is_met}
-use Rattle.gix_traverse_commit_graph.specs.Rows.{AllHeld}
+use Rattle.gix_traverse_graph.specs.Rows.{AllHeld}
 use Rattle.gix_traverse_commit_known.specs.Asked.{IsKnown, keep_of}
 use Rattle.gix_traverse_commit.specs.Simply.{times_queued}
 use Rattle.gix_traverse_commit.specs.Giving.{IsMetWith}
-use Rattle.gix_traverse_commit_graph.specs.Sorting.{in_time, timing_of}
+use Rattle.gix_traverse_graph.specs.Sorting.{in_time, timing_of}
 use Rattle.gix_traverse_commit_known.specs.Timely.{AllRowed, IsMetSoFar, keep_since, LetsWaitIn}
 use Rattle.gix_traverse_commit_known.specs.Told.{rows_of}
-use Rattle.gix_traverse_commit_graph.specs.declared.rows.Row.{Row}
+use Rattle.gix_traverse_graph.specs.declared.rows.Row.{Row}
 use Rattle.gix_traverse_commit_known.specs.declared.waiting.Turn.{Turn}
-use Rattle.gix_traverse_commit_graph.specs.declared.sorting.Timing.{Timing}
+use Rattle.gix_traverse_graph.specs.declared.sorting.Timing.{Timing}
 use Rattle.gix_traverse_commit_known.specs.Ending.{NoneGains, times_in, times_waiting}
 use Rattle.gix_traverse_commit_known.proofs.Ending.{gains_before, gains_behind}
 use Rattle.gix_traverse_commit.proofs.ByTime.{is_sure, none_some, one_timing, timing_same}
-use Rattle.gix_traverse_commit_graph.specs.Order.{IsOpen}
+use Rattle.gix_traverse_graph.specs.Order.{IsOpen}
 use Rattle.gix_traverse_commit_known.proofs.Chosen.{met_parents}
 use Rattle.gix_traverse_commit_known.proofs.Simply.{accepts_more, known_push}
 use Rattle.gix_traverse_commit_known.proofs.Timely.{met_kept}

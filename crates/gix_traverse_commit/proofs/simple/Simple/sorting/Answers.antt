@@ -4,9 +4,9 @@ use Rattle.std.specs.Prelude.{Contains}
 use Rattle.gix_hash_id.specs.declared.object_id.ObjectId.{ObjectId}
 use Rattle.gix_traverse_commit_known.specs.Fetching.{TimeIsTold}
 use Rattle.gix_traverse_commit_known.specs.Meeting.{CountsTimes, accepted, unmet}
-use Rattle.gix_traverse_commit_graph.specs.Rows.{AllHeld}
-use Rattle.gix_traverse_commit_graph.specs.Sorting.{timing_of}
-use Rattle.gix_traverse_commit_graph.specs.declared.parents.Parents.TheVariants.{All}
+use Rattle.gix_traverse_graph.specs.Rows.{AllHeld}
+use Rattle.gix_traverse_graph.specs.Sorting.{timing_of}
+use Rattle.gix_traverse_graph.specs.declared.parents.Parents.TheVariants.{All}
 use Rattle.gix_traverse_commit.specs.Simply.{IsNew, IsOver}
 use Rattle.gix_traverse_commit.specs.Giving.{IsAccepted, IsUnmet}
 use Rattle.gix_traverse_commit_known.specs.Faults.{TipFault}

@@ -1,18 +1,18 @@
 use Rattle.std.proofs.Common.{ap, arith, rules, ◌≡◌, sym, ◌∙◌, refl, subst, inl, inr, List, [], ◌∷◌, ◌++◌, length, Some, None, Option, true, false}
 use Rattle.gix_hash_id.specs.Id.{Id}
 use Rattle.gix_hash_id.specs.declared.object_id.ObjectId.{ObjectId}
-use Rattle.gix_traverse_commit_graph.specs.Commits.{Commits, asked_parents}
+use Rattle.gix_traverse_graph.specs.Commits.{Commits, asked_parents}
 use Rattle.gix_traverse_commit_known.specs.Nodes.{Node, is_hidden, is_met}
 use Rattle.gix_traverse_commit_known.specs.Asked.{AcceptsAs, Answers, Asked, keep_of}
 use Rattle.gix_traverse_commit.specs.Simply.{IsUnderWay}
-use Rattle.gix_traverse_commit_graph.specs.Sorting.{timing_of}
+use Rattle.gix_traverse_graph.specs.Sorting.{timing_of}
 use Rattle.gix_traverse_commit_known.specs.Timely.{AllRowed, IsMetSoFar, IsTaken, keep_since, TakesTurn}
 use Rattle.gix_traverse_commit_known.specs.Keeping.{Kept}
-use Rattle.gix_traverse_commit_graph.specs.Order.{IsOpen}
-use Rattle.gix_traverse_commit_graph.specs.Rows.{AllHeld}
+use Rattle.gix_traverse_graph.specs.Order.{IsOpen}
+use Rattle.gix_traverse_graph.specs.Rows.{AllHeld}
 use Rattle.gix_traverse_commit_known.specs.Known.{turns_of}
 use Rattle.gix_traverse_commit_known.specs.Told.{rows_of}
-use Rattle.gix_traverse_commit_graph.specs.declared.sorting.Timing.{Timing}
+use Rattle.gix_traverse_graph.specs.declared.sorting.Timing.{Timing}
 use Rattle.gix_traverse_commit_known.specs.Ending.{times_in, times_waiting}
 use Rattle.gix_traverse_commit_known.specs.declared.waiting.Turn.{Turn}
 use Rattle.gix_traverse_commit_known.proofs.Ending.{taken_less, times_first}

@@ -8,13 +8,13 @@ use Rattle.gix_traverse_commit_known.specs.Asked.{timing, IsKnown, IsSure, IsTur
 use Rattle.gix_traverse_commit.specs.Simply.{IsAtTurn, IsOver, IsUnderWay, is_over, left_of, times_queued}
 use Rattle.gix_traverse_commit.specs.Giving.{CountsBeginning, CountsUnbegun, IsWanted, CountsFault, CountsUpTo, IsContentOf, IsInfo, ComesInTurn, FailsInTurn, IsMetWith, KeepsOrder}
 use Rattle.gix_traverse_commit_known.specs.Faults.{StopsFetch}
-use Rattle.gix_traverse_commit_graph.specs.Rows.{Holds}
-use Rattle.gix_traverse_commit_graph.specs.Sorting.{timing_of}
+use Rattle.gix_traverse_graph.specs.Rows.{Holds}
+use Rattle.gix_traverse_graph.specs.Sorting.{timing_of}
 use Rattle.gix_traverse_commit_known.specs.Known.{turns_of}
 use Rattle.gix_traverse_commit_known.specs.Told.{AreTold, rows_of}
-use Rattle.gix_traverse_commit_graph.specs.declared.parents.Parents.{Parents}
-use Rattle.gix_traverse_commit_graph.specs.declared.rows.Row.{Row}
-use Rattle.gix_traverse_commit_graph.specs.declared.sorting.Sorting.{Sorting}
+use Rattle.gix_traverse_graph.specs.declared.parents.Parents.{Parents}
+use Rattle.gix_traverse_graph.specs.declared.rows.Row.{Row}
+use Rattle.gix_traverse_graph.specs.declared.sorting.Sorting.{Sorting}
 use Rattle.gix_traverse_commit.proofs.ByTime.{at_fewer, at_order, timing_same}
 use Rattle.gix_traverse_commit_known.proofs.Awaiting.{none_awaited}
 use Rattle.gix_traverse_commit.proofs.Counting.{meets_moved}
@@ -23,10 +23,10 @@ use Rattle.gix_traverse_commit.proofs.Over.{over_from, over_test}
 use Rattle.gix_traverse_commit.proofs.Rest.{made_order}
 use Rattle.gix_traverse_commit_known.proofs.Simply.{fault_more, fetch_fault}
 use Rattle.std.specs.Prelude.{IsSome}
-use Rattle.gix_traverse_commit_graph.specs.Commits.{Commits}
+use Rattle.gix_traverse_graph.specs.Commits.{Commits}
 use Rattle.gix_traverse_commit_known.specs.Nodes.{Node, is_hidden}
 use Rattle.gix_traverse_commit_known.specs.Timely.{LetsWaitIn, TakesTurn}
-use Rattle.gix_traverse_commit_graph.specs.declared.sorting.Timing.{Timing}
+use Rattle.gix_traverse_graph.specs.declared.sorting.Timing.{Timing}
 use Rattle.gix_traverse_commit.proofs.simple.SimpleIterator.next.Goals as goal
 
 no_way : false ≡ true → ⊥

@@ -3,7 +3,7 @@ use Rattle.std.specs.Prelude.{not, ◌&&◌, Contains}
 use Rattle.gix_hash_id.specs.Id.{id_of}
 use Rattle.gix_traverse_commit_known.specs.Known.{turns_of}
 use Rattle.gix_traverse_commit_known.specs.Nodes.{is_hidden, is_met}
-use Rattle.gix_traverse_commit_graph.specs.Sorting.{in_time}
+use Rattle.gix_traverse_graph.specs.Sorting.{in_time}
 use Rattle.gix_traverse_commit_known.specs.Timely.{keep_since, turn_of, LetsWait}
 use Rattle.gix_traverse_commit_known.specs.Ending.{times_waiting}
 use Rattle.gix_traverse_commit_known.specs.declared.waiting.Turn.{Turn}

@@ -6,21 +6,21 @@ use Rattle.gix_hash_id.specs.declared.object_id.ObjectId.{ObjectId}
 use Rattle.gix_hash_id.specs.declared.object_id.ObjectId.TheVariants.{Sha1}
 use Rattle.gix_traverse_commit_known.specs.Known.{turns_of}
 use Rattle.gix_traverse_commit_known.specs.Nodes.{is_hidden, is_met}
-use Rattle.gix_traverse_commit_graph.specs.Rows.{Holds}
-use Rattle.gix_traverse_commit_graph.specs.Sorting.{in_time}
+use Rattle.gix_traverse_graph.specs.Rows.{Holds}
+use Rattle.gix_traverse_graph.specs.Sorting.{in_time}
 use Rattle.gix_traverse_commit_known.specs.Timely.{AllRowed, IsMetSoFar, keep_since, turn_of, LetsWait}
 use Rattle.gix_traverse_commit_known.specs.Told.{AreTold, rows_of}
-use Rattle.gix_traverse_commit_graph.specs.declared.rows.Row.{Row}
+use Rattle.gix_traverse_graph.specs.declared.rows.Row.{Row}
 use Rattle.gix_traverse_commit_known.proofs.Chosen.{take_all}
 use Rattle.gix_traverse_commit_known.specs.Ending.{times_waiting}
 use Rattle.gix_traverse_commit_known.proofs.Ending.{gains_more, gains_none}
 use Rattle.gix_traverse_commit_known.proofs.Keeping.{stays_met, unmet_before}
-use Rattle.gix_traverse_commit_graph.proofs.Lists.{contains_from_at}
+use Rattle.gix_traverse_graph.proofs.Lists.{contains_from_at}
 use Rattle.gix_traverse_commit_known.proofs.Timely.{hides_out, in_nil, joins_same, met_renamed, parent_joins, step_parent}
-use Rattle.gix_traverse_commit_graph.specs.Order.{IsOpen, IsListOf}
+use Rattle.gix_traverse_graph.specs.Order.{IsOpen, IsListOf}
 use Rattle.gix_traverse_commit_known.specs.Meeting.{CountsAll, MarksMet, accepted, IsFresh}
 use Rattle.gix_traverse_commit_known.proofs.Meeting.{Fresh, asks_more, counts_accepted, marks_none, marks_step, meets_none, meets_step, parent_met, parent_or_met}
-use Rattle.gix_traverse_commit_graph.specs.Commits.{Commits}
+use Rattle.gix_traverse_graph.specs.Commits.{Commits}
 use Rattle.gix_traverse_commit_known.proofs.Awaiting.{accepted_more, of_accepted, to_accepted, waits_none, waits_same}
 use Rattle.gix_traverse_commit_known.specs.Queueing.{QueuesSome}
 use Rattle.gix_traverse_commit_known.proofs.Queueing.{queues_same, some_more, some_none}

@@ -2,14 +2,14 @@ use Rattle.std.proofs.Common.{◌≡◌, ◌⊎◌, ◌+◌, ◌≤◌, List, Bo
 use Rattle.std.specs.Prelude.{Contains}
 use Rattle.gix_hash_id.specs.Id.{Id, id_of}
 use Rattle.gix_hash_id.specs.declared.object_id.ObjectId.{ObjectId}
-use Rattle.gix_traverse_commit_graph.specs.Commits.{Commits}
+use Rattle.gix_traverse_graph.specs.Commits.{Commits}
 use Rattle.gix_traverse_commit_known.specs.Ending.{NoneGains, times_waiting}
 use Rattle.gix_traverse_commit_known.specs.Meeting.{Asks, CountsAll, MarksMet, accepted}
 use Rattle.gix_traverse_commit_known.specs.Known.{turns_of}
 use Rattle.gix_traverse_commit_known.specs.Nodes.{is_hidden, is_met}
-use Rattle.gix_traverse_commit_graph.specs.Order.{IsOpen}
+use Rattle.gix_traverse_graph.specs.Order.{IsOpen}
 use Rattle.gix_traverse_commit_known.specs.Queueing.{QueuesSome}
-use Rattle.gix_traverse_commit_graph.specs.Rows.{AllHeld}
+use Rattle.gix_traverse_graph.specs.Rows.{AllHeld}
 use Rattle.gix_traverse_commit_known.specs.Timely.{AllRowed, IsMetSoFar, LetsWait, keep_since}
 use Rattle.gix_traverse_commit_known.specs.Told.{AreTold, rows_of}
 use Rattle.gix_traverse_commit_known.proofs.Meeting.{MeetsOnce}

@@ -2,7 +2,7 @@ use Rattle.std.proofs.Common.{List, ap, arith, rules, ◌≡◌, refl, false, tr
 use Rattle.std.specs.Prelude.{not, ◌&&◌, Contains}
 use Rattle.gix_traverse_commit_known.specs.Known.{turns_of}
 use Rattle.gix_traverse_commit_known.specs.Nodes.{is_hidden, is_met}
-use Rattle.gix_traverse_commit_graph.specs.Sorting.{in_time}
+use Rattle.gix_traverse_graph.specs.Sorting.{in_time}
 use Rattle.gix_traverse_commit_known.specs.Timely.{turn_of, LetsWait}
 use Rattle.gix_traverse_commit_known.specs.Ending.{times_waiting}
 use Rattle.gix_traverse_commit_known.specs.declared.waiting.Turn.{Turn}

@@ -2,12 +2,12 @@ use Rattle.std.proofs.Common.{List, ◌≡◌, ◌≤◌, ◌+◌, [], Bool, tru
 use Rattle.std.specs.Prelude.{Contains}
 use Rattle.gix_hash_id.specs.Id.{Id, id_of}
 use Rattle.gix_hash_id.specs.declared.object_id.ObjectId.{ObjectId}
-use Rattle.gix_traverse_commit_graph.specs.Commits.{Commits}
+use Rattle.gix_traverse_graph.specs.Commits.{Commits}
 use Rattle.gix_traverse_commit_known.specs.Ending.{NoneGains, times_waiting}
 use Rattle.gix_traverse_commit_known.specs.Meeting.{CountsAll, MarksAll}
 use Rattle.gix_traverse_commit_known.specs.Known.{turns_of}
 use Rattle.gix_traverse_commit_known.specs.Nodes.{is_hidden, is_met}
-use Rattle.gix_traverse_commit_graph.specs.Rows.{AllHeld}
+use Rattle.gix_traverse_graph.specs.Rows.{AllHeld}
 use Rattle.gix_traverse_commit_known.specs.Timely.{AllRowed, IsMetSoFar, LetsWait, keep_since}
 use Rattle.gix_traverse_commit_known.specs.Told.{AreTold, rows_of}
 use Rattle.gix_traverse_commit_known.proofs.Meeting.{MeetsOnce}

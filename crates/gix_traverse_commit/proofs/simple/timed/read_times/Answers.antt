@@ -5,7 +5,7 @@ use Rattle.std.proofs.lemmas.Result.{err_from_is_err_and}
 use Rattle.gix_hash_id.specs.declared.object_id.ObjectId.{ObjectId}
 use Rattle.gix_hash_id.specs.declared.object_id.ObjectId.TheVariants.{Sha1}
 use Rattle.gix_traverse_commit_known.specs.Meeting.{CountsAll, unmet}
-use Rattle.gix_traverse_commit_graph.specs.Rows.{Holds}
+use Rattle.gix_traverse_graph.specs.Rows.{Holds}
 use Rattle.gix_traverse_commit.specs.Giving.{IsReadBefore, IsUnmet}
 use Rattle.gix_traverse_commit_known.specs.Faults.{TipFault}
 use Rattle.gix_traverse_commit_known.specs.Fetching.{TimeIsTold}
@@ -13,8 +13,8 @@ use Rattle.gix_traverse_commit_known.proofs.Chosen.{take_all}
 use Rattle.gix_traverse_commit_known.proofs.Simply.{in_push, take_push}
 use Rattle.gix_traverse_commit_known.proofs.Timely.{in_nil}
 use Rattle.gix_traverse_commit_known.specs.Told.{rows_of}
-use Rattle.gix_traverse_commit_graph.specs.declared.rows.Row.{Row}
-use Rattle.gix_traverse_commit_graph.proofs.Lists.{contains_from_at}
+use Rattle.gix_traverse_graph.specs.declared.rows.Row.{Row}
+use Rattle.gix_traverse_graph.proofs.Lists.{contains_from_at}
 use Rattle.gix_traverse_commit_known.proofs.Meeting.{unmet_more}
 use Rattle.gix_traverse_commit.proofs.simple.timed.read_times.Goals as goal
 

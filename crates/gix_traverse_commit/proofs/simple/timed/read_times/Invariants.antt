@@ -1,6 +1,6 @@
 use Rattle.std.proofs.Common.{◌≡◌, ◌+◌, ◌≤◌, take}
 use Rattle.gix_traverse_commit_known.specs.Meeting.{CountsAll, unmet}
-use Rattle.gix_traverse_commit_graph.specs.Rows.{AllHeld}
+use Rattle.gix_traverse_graph.specs.Rows.{AllHeld}
 use Rattle.gix_traverse_commit.specs.Giving.{IsReadBefore}
 use Rattle.gix_traverse_commit_known.specs.Told.{rows_of}
 use Rattle.gix_traverse_commit.proofs.simple.timed.read_times.Given as goal

@@ -4,9 +4,9 @@ use Rattle.gix_hash_id.specs.Id.{id_of}
 use Rattle.gix_hash_id.specs.declared.kind.Kind as hash
 use Rattle.gix_object_commit_tokens.specs.Tokens.{Place, place_of, start}
 use Rattle.std.specs.Result.{result_ok}
-use Rattle.gix_traverse_commit_graph.specs.Rows.{Holds}
+use Rattle.gix_traverse_graph.specs.Rows.{Holds}
 use Rattle.gix_traverse_commit_known.specs.Told.{TellsSeconds, rows_of}
-use Rattle.gix_traverse_commit_graph.specs.declared.rows.Row.{Row}
+use Rattle.gix_traverse_graph.specs.declared.rows.Row.{Row}
 use Rattle.gix_traverse_commit_known.proofs.Told.{object_time}
 use Rattle.gix_traverse_commit_known.proofs.Times.{counts_zero, time_fault, time_zero, zero_unread, time_read}
 use Rattle.gix_traverse_commit_known.proofs.fetch.Source.seconds.Goals as goal

@@ -3,7 +3,7 @@ use Rattle.gix_traverse_commit_known.specs.Known.{KnownCommits, ids_at, turn_at,
 use Rattle.gix_traverse_commit_known.specs.Waiting.{pendings}
 use Rattle.gix_traverse_commit_known.specs.declared.waiting.Pending.{Pending}
 use Rattle.gix_traverse_commit_known.proofs.KnownLemmas.{empty_turns}
-use Rattle.gix_traverse_commit_graph.proofs.Lists.{none_from_length}
+use Rattle.gix_traverse_graph.proofs.Lists.{none_from_length}
 use Rattle.gix_traverse_commit_known.proofs.known.Known.is_idle.Goals as goal
 
 pub returns-then-is_empty : goal.returns-then-is_empty

@@ -3,7 +3,7 @@ use Rattle.gix_traverse_commit_known.specs.Known.{HaveNodes, KnownCommits, ids_a
 use Rattle.gix_traverse_commit_known.specs.Queueing.{QueuesBehind}
 use Rattle.gix_traverse_commit_known.proofs.Queueing.{queues_one}
 use Rattle.gix_traverse_commit_known.specs.Nodes.{ids_of}
-use Rattle.gix_traverse_commit_graph.specs.Order.{At}
+use Rattle.gix_traverse_graph.specs.Order.{At}
 use Rattle.gix_traverse_commit_known.specs.Timely.{Joins}
 use Rattle.gix_traverse_commit_known.specs.Waiting.{numbers_of, pendings}
 use Rattle.gix_traverse_commit_known.specs.declared.nodes.Number.{Number}

@@ -3,12 +3,12 @@ use Rattle.std.specs.List.{list_any}
 use Rattle.std.proofs.lemmas.Option.{slice_get_within}
 use Rattle.gix_hash_id.specs.declared.object_id.ObjectId.{ObjectId}
 use Rattle.gix_traverse_commit_known.specs.Nodes.{AreNumbered, Node, ids_of, marks_of, nodes_in}
-use Rattle.gix_traverse_commit_graph.specs.Numbered.{same_id}
-use Rattle.gix_traverse_commit_graph.specs.Order.{At}
+use Rattle.gix_traverse_graph.specs.Numbered.{same_id}
+use Rattle.gix_traverse_graph.specs.Order.{At}
 use Rattle.gix_traverse_commit_known.specs.declared.nodes.Marks.{Marks}
 use Rattle.gix_traverse_commit_known.proofs.NodeLemmas.{ids_again, keys_push, marks_push, marks_set, numbered_push, numbered_set, stays}
-use Rattle.gix_traverse_commit_graph.proofs.Lists.{at_append}
-use Rattle.gix_traverse_commit_graph.proofs.RowLemmas.{at_item}
+use Rattle.gix_traverse_graph.proofs.Lists.{at_append}
+use Rattle.gix_traverse_graph.proofs.RowLemmas.{at_item}
 use Rattle.gix_traverse_commit_known.proofs.nodes.Nodes.mark.Goals as goal
 
 pub invariant_of-self : goal.invariant_of-self

@@ -4,8 +4,8 @@ use Rattle.gix_hash_id.specs.declared.object_id.ObjectId.{ObjectId}
 use Rattle.gix_traverse_commit_known.specs.Nodes.{Node, marks_of}
 use Rattle.gix_traverse_commit_known.specs.declared.nodes.Marks.{Marks}
 use Rattle.gix_traverse_commit_known.proofs.NodeLemmas.{marks_at, marks_none}
-use Rattle.gix_traverse_commit_graph.specs.Order.{At}
-use Rattle.gix_traverse_commit_graph.proofs.RowLemmas.{at_item}
+use Rattle.gix_traverse_graph.specs.Order.{At}
+use Rattle.gix_traverse_graph.proofs.RowLemmas.{at_item}
 use Rattle.gix_traverse_commit_known.proofs.nodes.Nodes.marks.Goals as goal
 
 pub returns-in-None : goal.returns-in-None

@@ -4,7 +4,7 @@ use Rattle.std.specs.Ordering.{eq_by_cmp}
 use Rattle.std.specs.Prelude.{filter}
 use Rattle.std.proofs.lemmas.Option.{slice_get-get_or}
 use Rattle.gix_traverse_commit_known.specs.declared.nodes.Number.{Number}
-use Rattle.gix_traverse_commit_graph.specs.Order.{At}
+use Rattle.gix_traverse_graph.specs.Order.{At}
 use Rattle.gix_traverse_commit_known.specs.Waiting.{pending_cmp, pendings}
 use Rattle.gix_traverse_commit_known.specs.declared.waiting.Pending.{Pending}
 use Rattle.gix_traverse_commit_known.proofs.Chosen.{take_all}

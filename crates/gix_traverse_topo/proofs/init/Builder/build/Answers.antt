@@ -2,9 +2,9 @@ use Rattle.std.proofs.Common.{◌≡◌, refl, sym, List, [], Option, None, subs
 use Rattle.gix_hash_id.specs.Id.{id_of}
 use Rattle.gix_hash_id.specs.declared.object_id.ObjectId.{ObjectId}
 use Rattle.gix_traverse_commit_known.specs.Told.{rows_of}
-use Rattle.gix_traverse_commit_graph.specs.Rows.{AllHeld, Holds}
-use Rattle.gix_traverse_commit_graph.specs.declared.rows.Row.{Row}
-use Rattle.gix_traverse_commit_graph.proofs.Lists.{at_from_contains, none_at_nil}
+use Rattle.gix_traverse_graph.specs.Rows.{AllHeld, Holds}
+use Rattle.gix_traverse_graph.specs.declared.rows.Row.{Row}
+use Rattle.gix_traverse_graph.proofs.Lists.{at_from_contains, none_at_nil}
 use Rattle.gix_traverse_topo.specs.Exploring.{IsExplored}
 use Rattle.gix_traverse_topo.proofs.Starting.{begins}
 use Rattle.gix_traverse_topo.proofs.init.Builder.build.Goals as goal

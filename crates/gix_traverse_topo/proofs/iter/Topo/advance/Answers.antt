@@ -1,9 +1,9 @@
 use Rattle.std.proofs.Common.{◌≡◌, List, [], ◌∷◌, ◌++◌, append-nil, append_assoc, refl, sym, ◌∙◌, ap, subst, Bool, true, false, arith}
 use Rattle.gix_hash_id.specs.declared.object_id.ObjectId.{ObjectId}
 use Rattle.gix_hash_id.specs.Id.{id_of}
-use Rattle.gix_traverse_commit_graph.specs.Commits.{Commits}
-use Rattle.gix_traverse_commit_graph.specs.declared.parents.Parents.{Parents}
-use Rattle.gix_traverse_commit_graph.specs.declared.rows.Row.{Row}
+use Rattle.gix_traverse_graph.specs.Commits.{Commits}
+use Rattle.gix_traverse_graph.specs.declared.parents.Parents.{Parents}
+use Rattle.gix_traverse_graph.specs.declared.rows.Row.{Row}
 use Rattle.gix_traverse_commit_known.proofs.Meeting.{asks_more}
 use Rattle.gix_traverse_topo.specs.Giving.{AsksEach}
 use Rattle.gix_traverse_topo.specs.Standing.{Standing, Stands, Steps, IsInfo, IsTurnOf}
@@ -11,7 +11,7 @@ use Rattle.gix_traverse_topo.specs.declared.init.Sorting.{Sorting}
 use Rattle.gix_traverse_topo.specs.declared.known.Known.{Known}
 use Rattle.gix_traverse_topo.specs.declared.ready.Ready.{Ready}
 use Rattle.gix_traverse_topo.proofs.Turning.{stands_yes, stands_no, answers, turn_fault}
-use Rattle.gix_traverse_commit_graph.specs.declared.info.Info.{Info}
+use Rattle.gix_traverse_graph.specs.declared.info.Info.{Info}
 use Rattle.gix_traverse_topo.proofs.iter.Topo.advance.Goals as goal
 
 -- one more commit is finished

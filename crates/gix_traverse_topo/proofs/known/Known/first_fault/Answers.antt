@@ -1,10 +1,10 @@
 use Rattle.std.proofs.Common.{◌≡◌, ℕ, inl, inr, List, sym, ◌∙◌, ap, subst, arith}
 use Rattle.std.proofs.lemmas.Option.{slice_get_within}
-use Rattle.gix_traverse_commit_graph.specs.Order.{At}
+use Rattle.gix_traverse_graph.specs.Order.{At}
 use Rattle.gix_traverse_topo.specs.Nodes.{all_facts}
 use Rattle.gix_traverse_topo.specs.declared.known.Node.{Node}
 use Rattle.gix_traverse_topo.specs.declared.known.Facts.{Facts}
-use Rattle.gix_traverse_commit_graph.proofs.Lists.{at_one, three}
+use Rattle.gix_traverse_graph.proofs.Lists.{at_one, three}
 use Rattle.gix_traverse_topo.proofs.Meeting.{length_map}
 use Rattle.gix_traverse_topo.proofs.Updates.{facts_at}
 use Rattle.gix_traverse_topo.proofs.known.Known.first_fault.Goals as goal

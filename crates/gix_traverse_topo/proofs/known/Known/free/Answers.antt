@@ -1,5 +1,5 @@
 use Rattle.std.proofs.Common.{ℕ, ◌+◌, ◌<◌, List, length, sym, ◌∙◌, ap, subst, arith}
-use Rattle.gix_traverse_commit_graph.specs.Order.{At}
+use Rattle.gix_traverse_graph.specs.Order.{At}
 use Rattle.gix_traverse_topo.specs.Nodes.{all_facts, counts}
 use Rattle.gix_traverse_topo.specs.declared.known.Node.{Node}
 use Rattle.gix_traverse_topo.specs.declared.known.Number.{Number}

@@ -1,6 +1,6 @@
 use Rattle.std.proofs.Common.{◌≡◌, ℕ, take}
 use Rattle.gix_hash_id.specs.declared.object_id.ObjectId.{ObjectId}
-use Rattle.gix_traverse_commit_graph.specs.Numbered.{same_id}
+use Rattle.gix_traverse_graph.specs.Numbered.{same_id}
 use Rattle.gix_traverse_topo.specs.Turns.{times}
 use Rattle.gix_traverse_topo.specs.Walking.{Names}
 use Rattle.gix_traverse_topo.proofs.Walking.{MeetsSo}

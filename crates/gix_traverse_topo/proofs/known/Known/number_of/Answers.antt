@@ -1,8 +1,8 @@
 use Rattle.std.proofs.Common.{◌≡◌, sym, subst, arith}
 use Rattle.gix_hash_id.specs.declared.object_id.ObjectId.{ObjectId}
-use Rattle.gix_traverse_commit_graph.specs.Numbered.{same_id}
-use Rattle.gix_traverse_commit_graph.specs.Order.{At}
-use Rattle.gix_traverse_commit_graph.proofs.Ids.{same_from_test}
+use Rattle.gix_traverse_graph.specs.Numbered.{same_id}
+use Rattle.gix_traverse_graph.specs.Order.{At}
+use Rattle.gix_traverse_graph.proofs.Ids.{same_from_test}
 use Rattle.gix_traverse_topo.proofs.Meeting.{not_among}
 use Rattle.gix_traverse_topo.proofs.known.Known.number_of.Goals as goal
 use Rattle.gix_traverse_commit_known.proofs.NodeLemmas.{find_passes}

@@ -1,7 +1,7 @@
 use Rattle.std.proofs.Common.{◌≡◌, ℕ, List, refl, sym, ◌∙◌, ap, arith, Some, slice_get}
 use Rattle.std.proofs.lemmas.Int.{ints}
 use Rattle.gix_traverse_topo.specs.declared.known.Node.{Node}
-use Rattle.gix_traverse_commit_graph.proofs.Lists.{at_one}
+use Rattle.gix_traverse_graph.proofs.Lists.{at_one}
 use Rattle.gix_traverse_topo.proofs.Updates.{same_counts, other_facts, facts_at, node_at, got, copied}
 use Rattle.gix_traverse_topo.proofs.known.Known.take.Goals as goal
 

@@ -1,11 +1,11 @@
 use Rattle.std.proofs.Common.{rules, ◌≡◌, ◌<◌, ◌≤◌, ◌∙◌, List, length, sym, ap, subst, arith}
 use Rattle.std.proofs.lemmas.Result.{err_from_is_err_and}
 use Rattle.gix_hash_id.specs.declared.object_id.ObjectId.{ObjectId}
-use Rattle.gix_traverse_commit_graph.specs.Commits.{asked}
-use Rattle.gix_traverse_commit_graph.specs.Rows.{AllHeld}
+use Rattle.gix_traverse_graph.specs.Commits.{asked}
+use Rattle.gix_traverse_graph.specs.Rows.{AllHeld}
 use Rattle.gix_traverse_commit_known.specs.Told.{rows_of}
-use Rattle.gix_traverse_commit_graph.specs.declared.rows.Row.{Row}
-use Rattle.gix_traverse_commit_graph.specs.Numbered.{same_id}
+use Rattle.gix_traverse_graph.specs.declared.rows.Row.{Row}
+use Rattle.gix_traverse_graph.specs.Numbered.{same_id}
 use Rattle.gix_traverse_topo.specs.Turns.{times}
 use Rattle.gix_traverse_topo.specs.Walking.{Meets, Names}
 use Rattle.gix_traverse_topo.specs.declared.known.Node.{Node}

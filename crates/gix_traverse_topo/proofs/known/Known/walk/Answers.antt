@@ -4,10 +4,10 @@ use Rattle.std.proofs.lemmas.List.{take_all}
 use Rattle.std.proofs.lemmas.Option.{slice_get_within}
 use Rattle.gix_hash_id.specs.declared.object_id.ObjectId.{ObjectId}
 use Rattle.gix_traverse_commit_known.specs.Meeting.{CountsAll, CountsOne}
-use Rattle.gix_traverse_commit_graph.specs.Rows.{AllHeld, Holds}
+use Rattle.gix_traverse_graph.specs.Rows.{AllHeld, Holds}
 use Rattle.gix_traverse_commit_known.specs.Told.{rows_of}
-use Rattle.gix_traverse_commit_graph.specs.declared.rows.Row.{Row}
-use Rattle.gix_traverse_commit_graph.proofs.Lists.{contains_from_at}
+use Rattle.gix_traverse_graph.specs.declared.rows.Row.{Row}
+use Rattle.gix_traverse_graph.proofs.Lists.{contains_from_at}
 use Rattle.gix_object_lines.specs.Counts.{one_more}
 use Rattle.gix_traverse_topo.specs.Walking.{Visits, Walking}
 use Rattle.gix_traverse_topo.proofs.Lookups.{IsCountedFrom, counted_all, counted_more, counted_none, counts_next, counts_start}

@@ -2,8 +2,8 @@ use Rattle.std.proofs.Common.{◌≡◌, ◌∙◌, refl, sym, subst, rules, tru
 use Rattle.std.specs.Prelude.{MatchBool, None}
 use Rattle.std.proofs.lemmas.Result.{err_from_is_err_and}
 use Rattle.gix_hash_id.specs.Id.{id_of}
-use Rattle.gix_object_entries.specs.Order.{is_tree}
-use Rattle.gix_object_entries.specs.Reading.{place_of, start}
+use Rattle.gix_object_tree.specs.Order.{is_tree}
+use Rattle.gix_object_tree.specs.Reading.{place_of, start}
 use Rattle.gix_object_lookup.specs.Path.{IsNamedBy}
 use Rattle.gix_traverse_tree.specs.AtPaths.{Answer}
 use Rattle.gix_traverse_tree.specs.Folders.{number_in}

@@ -4,7 +4,7 @@ use Rattle.std.proofs.lemmas.Option.{slice_get-get_or}
 use Rattle.std.proofs.lemmas.Result.{err_from_is_err_and}
 use Rattle.gix_hash_id.specs.Id.{Id, id_of}
 use Rattle.gix_object_lines.specs.declared.kind.Kind.TheVariants as kinds
-use Rattle.gix_object_entries.specs.Reading.{Place, place_of, start}
+use Rattle.gix_object_tree.specs.Reading.{Place, place_of, start}
 use Rattle.gix_object_lookup.specs.Existing.{Stands, KindFault}
 use Rattle.gix_traverse_tree.specs.Nodes.{node_under, IsLinked, IsWayUp, MemoryOr, ShowsListing, StopsListing, StopsLevel}
 use Rattle.gix_traverse_tree.specs.Trees.{is_among}

@@ -1,5 +1,5 @@
 use Rattle.std.proofs.Common.{◌≤◌, length}
-use Rattle.gix_object_entries.specs.Reading.{place_of}
+use Rattle.gix_object_tree.specs.Reading.{place_of}
 use Rattle.gix_traverse_tree.specs.Nodes.{IsLinked}
 use Rattle.gix_traverse_tree.proofs.Walked.{Walked, levels_left}
 use Rattle.gix_traverse_tree.proofs.breadthfirst.State.walk.Given as goal

@@ -1,5 +1,5 @@
 use Rattle.std.proofs.Common.{subst, sym}
-use Rattle.history_survey.specs.Surveyed.{IsWholePart}
+use Rattle.history_check_objects.specs.Surveyed.{IsWholePart}
 use Rattle.history_objects.proofs.objects.Objects.open.Goals as goal
 
 pub open_ids-requires : goal.open_ids-requires

@@ -2,9 +2,9 @@ use Rattle.std.proofs.Common.{◌∙◌, sym, subst, ◌<◌, length, map, refl,
 use Rattle.std.specs.List.{All}
 use Rattle.std.proofs.lemmas.Bool.{false≢true}
 use Rattle.std.proofs.lemmas.List.{take_all}
-use Rattle.gix_object_entries.specs.Entry.{item_of}
-use Rattle.gix_object_entries.proofs.Searched.{item_at, map_length}
-use Rattle.gix_object_entries.proofs.Twins.{all_more}
+use Rattle.gix_object_tree.specs.Entry.{item_of}
+use Rattle.gix_object_tree.proofs.Searched.{item_at, map_length}
+use Rattle.gix_object_tree.proofs.Twins.{all_more}
 use Rattle.history_texts.specs.Written.{IsWrittenEntry}
 use Rattle.history_texts.proofs.written.trees.are_entries_written.Goals as goal
 

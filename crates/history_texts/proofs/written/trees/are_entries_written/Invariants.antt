@@ -1,6 +1,6 @@
 use Rattle.std.proofs.Common.{map, take}
 use Rattle.std.specs.List.{All}
-use Rattle.gix_object_entries.specs.Entry.{item_of}
+use Rattle.gix_object_tree.specs.Entry.{item_of}
 use Rattle.history_texts.specs.Written.{IsWrittenEntry}
 use Rattle.history_texts.proofs.written.trees.are_entries_written.Given as goal
 

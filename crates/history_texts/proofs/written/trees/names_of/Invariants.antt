@@ -1,5 +1,5 @@
 use Rattle.std.proofs.Common.{◌≡◌, map, take}
-use Rattle.gix_object_entries.specs.Entry.{item_of}
+use Rattle.gix_object_tree.specs.Entry.{item_of}
 use Rattle.history_texts.specs.Written.{named_by_item, naming_of}
 use Rattle.history_texts.proofs.written.trees.names_of.Given as goal
 

@@ -1,6 +1,6 @@
 use Rattle.std.proofs.Common.{◌≡◌, ◌∙◌, ◌<◌, ◌+◌, suc, ap, sym, arith, length, drop, add-one, None, Some}
 use Rattle.std.specs.Option.{option_map}
-use Rattle.gix_object_entries.specs.Entry.{item_of}
+use Rattle.gix_object_tree.specs.Entry.{item_of}
 use Rattle.gix_object_nodes.specs.Nodes.{slots_of, entry_at}
 use Rattle.gix_object_editor.proofs.Walked.{names, entry_down, entry_last}
 use Rattle.gix_object_editor.proofs.tree.editor.entry.entry_from.Goals as goal

@@ -2,7 +2,7 @@ use Rattle.std.proofs.Common.{inl, inr, false, refl, ◌≡◌, ◌∙◌, ◌�
 use Rattle.std.specs.Prelude.{is_ok}
 use Rattle.std.proofs.lemmas.Result.{err_from_is_err_and}
 use Rattle.gix_hash_id.specs.Id.{id_of}
-use Rattle.gix_object_entries.specs.Mode.{is_tree_value}
+use Rattle.gix_object_tree.specs.Mode.{is_tree_value}
 use Rattle.gix_object_nodes.specs.declared.node.Slot.{Slot}
 use Rattle.gix_object_nodes.specs.Files.{Bytes, leads_on, named}
 use Rattle.gix_object_nodes.specs.Nodes.{slots_of, slot_in, leaf_in, child_of, StandsFor, IsUnopened}

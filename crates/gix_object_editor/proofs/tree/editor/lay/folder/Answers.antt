@@ -1,7 +1,7 @@
 use Rattle.std.proofs.Common.{ℕ, Bool, false, ◌∙◌, ap}
 use Rattle.gix_hash_id.specs.Id.{Id, id_of, null_id}
-use Rattle.gix_object_entries.specs.Mode.{kind_value}
-use Rattle.gix_object_entries.specs.declared.tree.mode.EntryKind.TheVariants as kinds
+use Rattle.gix_object_tree.specs.Mode.{kind_value}
+use Rattle.gix_object_tree.specs.declared.tree.mode.EntryKind.TheVariants as kinds
 use Rattle.gix_object_nodes.specs.Files.{Leaf}
 use Rattle.gix_object_editor.proofs.tree.editor.lay.folder.Goals as goal
 

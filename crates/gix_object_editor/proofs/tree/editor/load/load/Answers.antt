@@ -1,8 +1,8 @@
 use Rattle.std.proofs.Common.{List, sym, subst, map}
 use Rattle.gix_hash_id.specs.Id.{id_of}
-use Rattle.gix_object_entries.specs.Entry.{item_of, SpellsTree}
-use Rattle.gix_object_entries.specs.WellFormed.{IsWellFormed}
-use Rattle.gix_object_entries.specs.declared.tree.entry.EntryRef.{EntryRef}
+use Rattle.gix_object_tree.specs.Entry.{item_of, SpellsTree}
+use Rattle.gix_object_tree.specs.WellFormed.{IsWellFormed}
+use Rattle.gix_object_tree.specs.declared.tree.entry.EntryRef.{EntryRef}
 use Rattle.gix_object_nodes.specs.Files.{named}
 use Rattle.gix_object_nodes.specs.Nodes.{slot_in}
 use Rattle.gix_object_editor.proofs.Loaded.{fresh_of, entries_stand}

@@ -1,5 +1,5 @@
 use Rattle.std.proofs.Common.{map, take}
-use Rattle.gix_object_entries.specs.Entry.{item_of}
+use Rattle.gix_object_tree.specs.Entry.{item_of}
 use Rattle.gix_object_nodes.specs.Files.{Bytes, named}
 use Rattle.gix_object_nodes.specs.Nodes.{slot_in, StandsFor}
 use Rattle.gix_object_editor.proofs.tree.editor.load.node_of.Given as goal

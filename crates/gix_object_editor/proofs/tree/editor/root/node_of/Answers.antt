@@ -1,10 +1,10 @@
 use Rattle.std.proofs.Common.{◌∙◌, ◌<◌, ap, sym, refl, arith, length, None, subst}
-use Rattle.gix_object_entries.specs.Entry.{own_item}
-use Rattle.gix_object_entries.specs.declared.tree.entry.Entry.{Entry}
+use Rattle.gix_object_tree.specs.Entry.{own_item}
+use Rattle.gix_object_tree.specs.declared.tree.entry.Entry.{Entry}
 use Rattle.std.proofs.Common.{List, map}
 use Rattle.gix_object_nodes.specs.declared.node.Slot.{Slot}
 use Rattle.gix_object_nodes.specs.Nodes.{slot_in}
-use Rattle.gix_object_entries.specs.WellFormed.{IsWellFormed}
+use Rattle.gix_object_tree.specs.WellFormed.{IsWellFormed}
 use Rattle.gix_object_editor.proofs.Loaded.{absent_before, stands_more}
 use Rattle.gix_object_editor.proofs.tree.editor.root.node_of.Goals as goal
 

@@ -1,6 +1,6 @@
 use Rattle.std.proofs.Common.{◌≡◌, ◌∙◌, ◌≤◌, ◌++◌, ◌∷◌, [], ap, sym, subst, arith, length, rules, true, List, if◌then◌else◌, map}
 use Rattle.std.specs.Prelude.{is_ok}
-use Rattle.gix_object_entries.specs.Entry.{own_item}
+use Rattle.gix_object_tree.specs.Entry.{own_item}
 use Rattle.gix_object_nodes.specs.declared.node.Node.{Node}
 use Rattle.gix_object_nodes.specs.Files.{named}
 use Rattle.gix_object_nodes.specs.Nodes.{slots_of, slot_in, child_of, files_of_node, entry_from, StandsFor, IsForest}

@@ -1,8 +1,8 @@
 use Rattle.std.proofs.Common.{refl, Some, List, ◌⊎◌, inl, true, false, ℕ, Bool, ◌≡◌, ◌≢◌, ◌∙◌, ◌<◌, ◌+◌, ◌-◌, ap, sym, subst, arith, length, drop, take, None, get_or, [], ◌∷◌, ◌++◌}
 use Rattle.std.proofs.lemmas.List.{length-drop, get_or-map}
 use Rattle.gix_hash_id.specs.Id.{id_of}
-use Rattle.gix_object_entries.specs.Mode.{kind_value}
-use Rattle.gix_object_entries.specs.ModeText.{mode_of}
+use Rattle.gix_object_tree.specs.Mode.{kind_value}
+use Rattle.gix_object_tree.specs.ModeText.{mode_of}
 use Rattle.gix_object_nodes.specs.declared.node.Node.{Node}
 use Rattle.gix_object_editor.specs.Editor.{IsChanged, IsAbove, names_of, leaf_of_kind, LeadsThrough}
 use Rattle.gix_object_nodes.specs.Marks.{marks_of, AreMarked, AreMarkedBut, AreMarkedUp, AreAsRead, AreOnPath, IsMarkedFor, IsIdle, IsChangedIn}

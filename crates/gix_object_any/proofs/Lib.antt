@@ -1,0 +1,3 @@
+pub mod OneObject
+pub mod ReadBack
+pub mod OwnedValues

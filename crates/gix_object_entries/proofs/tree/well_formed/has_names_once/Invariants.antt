@@ -1,7 +1,0 @@
-use Rattle.std.proofs.Common.{map, take}
-use Rattle.gix_object_entries.specs.WellFormed.{IsInOrder}
-use Rattle.gix_object_entries.proofs.Twins.{HasNoTwins}
-use Rattle.gix_object_entries.proofs.tree.well_formed.has_names_once.Given as goal
-
-abbrev pub invariant-loop-entry : goal.invariant-loop-entry
-invariant-loop-entry g l = IsInOrder (map g.T.AsEntry.item l.entries) → HasNoTwins (map g.T.AsEntry.item l.entries) (take l.entry-index (map g.T.AsEntry.item l.entries))

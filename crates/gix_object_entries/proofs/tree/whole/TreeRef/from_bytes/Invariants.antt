@@ -1,9 +1,0 @@
-use Rattle.std.proofs.Common.{map, length}
-use Rattle.gix_object_entries.specs.Entry.{item_of, SpellsEntries}
-use Rattle.gix_object_entries.proofs.tree.whole.TreeRef.from_bytes.Given as goal
-
-abbrev pub invariant-entries : goal.invariant-entries
-invariant-entries l = SpellsEntries l.hash_kind l.content (map item_of l.entries.items) l.rest
-
-abbrev pub decreases-entries : goal.decreases-entries
-decreases-entries l = length l.rest

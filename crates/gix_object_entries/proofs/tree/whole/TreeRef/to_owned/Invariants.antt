@@ -1,6 +1,0 @@
-use Rattle.std.proofs.Common.{◌≡◌, map, take}
-use Rattle.gix_object_entries.specs.Entry.{item_of, own_item}
-use Rattle.gix_object_entries.proofs.tree.whole.TreeRef.to_owned.Given as goal
-
-abbrev pub invariant-loop-entry : goal.invariant-loop-entry
-invariant-loop-entry l = map own_item l.entries.items ≡ map item_of (take l.entry-index l.self.entries.items)

@@ -1,0 +1,5 @@
+pub mod Locks
+pub mod Records
+pub mod RecordEdits
+pub mod PackedErrors
+pub mod PackedEdits

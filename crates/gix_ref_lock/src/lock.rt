@@ -1,0 +1,136 @@
+//! A file's lock: a file beside it, which holds its new bytes and is then renamed to its place.
+
+ghost use Rattle.std.specs.Prelude.{◌≡◌, ◌≢◌, ◌≤◌, ◌⊎◌, false, None, Some, IfOk, IfSome, OnOk, IsErrOf, IsTrue};
+ghost use Rattle.gix_ref_file.specs.Changes.{is_file_at, may_hold_file};
+ghost use Rattle.gix_ref_file.specs.History.{HasRisen};
+ghost use Rattle.gix_ref_file.specs.declared.files.FileError.TheVariants.{Failed};
+ghost use Rattle.gix_ref_file.specs.Tree.{file, node_at, bytes_at};
+ghost use Rattle.gix_ref_file.specs.Calls.{Achieves, Passes};
+ghost use Rattle.gix_ref_way.specs.Ways.{SameFolders};
+ghost use Rattle.gix_ref_lock.specs.Locks.{lock_of, OthersStay, KeepsHeld, IsTaken, MayBePut, IsPut};
+
+use gix_ref_file::{FileError, Files};
+use std::alloc::{AllocError, Global};
+
+/// A lock that is held: a file is at its path.
+#[derive(Debug, Drop)]
+pub struct Lock {
+    /// The path of what is locked.
+    pub place: Vec<u8>,
+    /// The path of the lock itself.
+    pub path: Vec<u8>,
+    ghost beside: { path.items ≡ lock_of place.items },
+}
+
+/// Makes the lock of a place, an empty file; `None` if something is at the lock's path already.
+/// Returns `Failed` if the path may hold no file or a call of the files failed, and `Memory` if no
+/// memory is left.
+pub fn acquire<F: Files>(
+    alloc: Global,
+    files: &mut F,
+    place: &[u8],
+) -> Result<Option<Lock>, FileError>
+    ensures honest { F.is_honest files.old → F.is_honest files.new }
+    ensures place { IfOk result (λ found. IfSome found (λ lock. lock.place.items ≡ place.now)) }
+    ensures moments { Passes F.is_honest F.history files.old files.new
+        (OthersStay (lock_of place.now)) }
+    ensures folders { Passes F.is_honest F.history files.old files.new SameFolders }
+    ensures fresh { Passes F.is_honest F.history files.old files.new (KeepsHeld (lock_of place.now)) }
+    ensures taken { F.is_honest files.old → IfOk result (λ found. IfSome found (λ _.
+        IsTaken (lock_of place.now) (F.history files.old).tree (F.history files.new).tree)) }
+    ensures held { F.is_honest files.old → IfOk result (λ found. found ≡ None
+        → node_at (F.history files.old).tree (lock_of place.now) ≢ None) }
+    ensures kept { F.is_honest files.old → IfOk result (λ found. found ≡ None
+        → (F.history files.new).tree ≡ (F.history files.old).tree) }
+    ensures refused { F.is_honest files.old → IsErrOf result Failed
+        → HasRisen (F.failures files.old) (F.failures files.new)
+        ⊎ ((F.history files.new).tree ≡ (F.history files.old).tree) }
+    ensures failed { F.is_honest files.old
+        → IsTrue (may_hold_file (F.history files.old).tree (lock_of place.now))
+        → IsErrOf result Failed → HasRisen (F.failures files.old) (F.failures files.new) }
+    ensures later { F.failures files.old ≤ F.failures files.new }
+    ensures unfailed { OnOk result (F.failures files.new ≡ F.failures files.old) }
+{
+    let path = lock_path(alloc, place)?;
+    let place = place.to_vec(alloc)?;
+    if files.create_new(alloc, &path, &[])? {
+        Ok(Some(Lock { place, path }))
+    } else {
+        Ok(None)
+    }
+}
+
+fn lock_path(alloc: Global, place: &[u8]) -> Result<Vec<u8>, AllocError>
+    ensures { IfOk result (λ path. path.items ≡ lock_of place.now) }
+{
+    let mut path = place.to_vec(alloc)?;
+    path.extend_from_slice(b".lock")?;
+    Ok(path)
+}
+
+impl Lock {
+    /// Writes these bytes into the lock, in place of what it held. Returns `Failed` if a call of
+    /// the files failed.
+    pub fn fill<F: Files>(
+        &self,
+        alloc: Global,
+        files: &mut F,
+        bytes: &[u8],
+    ) -> Result<(), FileError>
+        ensures honest { F.is_honest files.old → F.is_honest files.new }
+        ensures unfailed { OnOk result (F.failures files.new ≡ F.failures files.old) }
+        ensures moments { Passes F.is_honest F.history files.old files.new
+            (OthersStay self.now.path.items) }
+        ensures folders { Passes F.is_honest F.history files.old files.new SameFolders }
+        ensures later { F.failures files.old ≤ F.failures files.new }
+        ensures failed { F.is_honest files.old
+            → IsTrue (is_file_at (F.history files.old).tree self.now.path.items)
+            → IsErrOf result Failed → HasRisen (F.failures files.old) (F.failures files.new) }
+        ensures filled { F.is_honest files.old → OnOk result
+            (node_at (F.history files.new).tree self.now.path.items ≡ Some (file bytes.now)) }
+    {
+        files.write(alloc, &self.path, bytes)
+    }
+
+    /// Removes the lock. Returns `Failed` if there is none or a call of the files failed.
+    pub fn give_back<F: Files>(&self, alloc: Global, files: &mut F) -> Result<(), FileError>
+        ensures honest { F.is_honest files.old → F.is_honest files.new }
+        ensures later { F.failures files.old ≤ F.failures files.new }
+        ensures unfailed { OnOk result (F.failures files.new ≡ F.failures files.old) }
+        ensures moments { Passes F.is_honest F.history files.old files.new
+            (OthersStay self.now.path.items) }
+        ensures folders { Passes F.is_honest F.history files.old files.new SameFolders }
+        ensures failed { F.is_honest files.old → IsErrOf result Failed
+            → HasRisen (F.failures files.old) (F.failures files.new)
+            ⊎ (is_file_at (F.history files.new).tree self.now.path.items ≡ false) }
+        ensures held { F.is_honest files.old
+            → IsTrue (is_file_at (F.history files.old).tree self.now.path.items)
+            → IsErrOf result Failed → HasRisen (F.failures files.old) (F.failures files.new) }
+        ensures gone { F.is_honest files.old → OnOk result
+            (node_at (F.history files.new).tree self.now.path.items ≡ None) }
+    {
+        files.remove_file(alloc, &self.path)
+    }
+
+    /// Puts the lock in its place, replacing a file there whole. Returns `Failed` if a folder is in
+    /// the place or a call of the files failed.
+    pub fn put<F: Files>(&self, alloc: Global, files: &mut F) -> Result<(), FileError>
+        ensures honest { F.is_honest files.old → F.is_honest files.new }
+        ensures later { F.failures files.old ≤ F.failures files.new }
+        ensures unfailed { OnOk result (F.failures files.new ≡ F.failures files.old) }
+        ensures moments { Passes F.is_honest F.history files.old files.new
+            (MayBePut self.now.place.items self.now.path.items
+            (bytes_at (F.history files.old).tree self.now.path.items)) }
+        ensures folders { Passes F.is_honest F.history files.old files.new SameFolders }
+        ensures failed { F.is_honest files.old
+            → IsTrue (is_file_at (F.history files.old).tree self.now.path.items)
+            → IsTrue (may_hold_file (F.history files.old).tree self.now.place.items)
+            → IsErrOf result Failed → HasRisen (F.failures files.old) (F.failures files.new) }
+        ensures put { F.is_honest files.old → OnOk result
+            (IsPut self.now.place.items self.now.path.items
+            (bytes_at (F.history files.old).tree self.now.path.items)
+            (F.history files.new).tree) }
+    {
+        files.rename(alloc, &self.path, &self.place)
+    }
+}

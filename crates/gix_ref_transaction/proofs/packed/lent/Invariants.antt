@@ -1,7 +1,0 @@
-use Rattle.std.proofs.Common.{◌≡◌, ◌++◌, map, drop}
-use Rattle.gix_ref_packed.specs.Edited.{lines_of}
-use Rattle.gix_ref_transaction.specs.RecordEdits.{line_in}
-use Rattle.gix_ref_transaction.proofs.packed.lent.Given as goal
-
-abbrev pub invariant-loop-edit : goal.invariant-loop-edit
-invariant-loop-edit l = lines_of l.lines.items ++ map line_in (drop l.edit-index l.edits) ≡ map line_in l.edits

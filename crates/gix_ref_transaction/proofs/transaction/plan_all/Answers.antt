@@ -1,0 +1,142 @@
+use Rattle.std.proofs.Common.{◌∙◌, inl, inr, refl, subst, arith}
+use Rattle.std.proofs.lemmas.Result.{err_from_is_err_and}
+use Rattle.gix_ref_file.proofs.Histories.{adds_nothing}
+use Rattle.gix_ref_store.specs.Finds.{records_in}
+use Rattle.gix_ref_store.specs.Lookups.{reads_with}
+use Rattle.gix_ref_store.specs.Places.{Base}
+use Rattle.gix_ref_store.specs.RefStates.{RefState, state_among}
+use Rattle.gix_ref_store.specs.Stores.{base_of}
+use Rattle.gix_ref_moves.specs.Moments.{SameButLocks}
+use Rattle.gix_ref_moves.proofs.FileMoves.{now_of}
+use Rattle.gix_ref_moves.proofs.LockPaths.{locks_joined}
+use Rattle.gix_ref_transaction.specs.LogLines.{line_in, logging}
+use Rattle.gix_ref_repacking.specs.Modes.{removes}
+use Rattle.gix_ref_transaction.specs.Plans.{IsTested, IsPlanOf}
+use Rattle.gix_ref_transaction.proofs.Plannings.{LinedIn, among_alike, keeps_joined, zipping_begins, testing_begins, one_zipped, one_tested, zipping_ends, testing_ends, holding_ends, is_among, lined_alike, fault_alike}
+use Rattle.gix_ref_transaction.specs.Rollback.{lock_paths}
+use Rattle.gix_ref_transaction.proofs.Rollbacks.{one_more, after_error}
+use Rattle.gix_ref_transaction.proofs.transaction.plan_all.Goals as goal
+
+pub edits-init : goal.edits-init
+edits-init g c = record {
+  honest = λ honest. honest;
+  base = refl;
+  moments = λ honest. adds_nothing (g.F.Files.history c.args.store.now.files);
+  options = refl;
+  later = omega arith;
+  unfailed = refl;
+  locked = λ honest path none there. there;
+  planned = zipping_begins (IsPlanOf (base_of c.args.store.now) (removes c.args.packed_refs.now)) c.args.edits.now c.args.moves.now.items;
+  keeps = λ honest path text stood. stood;
+  lined = λ honest. zipping_begins (LinedIn (logging c.args.store.now.options (reads_with c.args.store.now (g.F.Files.history c.args.store.now.files).tree c.args.packed) c.args.committer) (base_of c.args.store.now) (g.F.Files.history c.args.store.now.files).tree) c.args.edits.now c.args.moves.now.items;
+  tested = λ honest. testing_begins (reads_with c.args.store.now (g.F.Files.history c.args.store.now.files).tree c.args.packed) c.args.edits.now c.args.moves.now.items (g.F.Files.history c.args.store.now.files).tree;
+}
+
+pub returns-in_err-planned-clause-moments : goal.returns-in_err-planned-clause-moments
+returns-in_err-planned-clause-moments g c = λ honest.
+    locks_joined (g.F.Files.history c.args.store.now.files) (g.F.Files.history c.edits.store.files) (g.F.Files.history c.plan.new.store.files)
+    (c.edits.invariant.moments honest) (c.plan.ensures.moments (c.edits.invariant.honest honest))
+
+pub edits-preserved : goal.edits-preserved
+edits-preserved g c =
+    let so_far = c.edits.invariant in
+    let old = g.F.Files.history c.args.store.now.files in
+    let mid = g.F.Files.history c.edits.store.files in
+    let new = g.F.Files.history c.plan.new.store.files in
+    let b = base_of c.args.store.now in
+    let edit = c.in-Some.edit.now in
+    let others = c.in-Some.others.now in
+    let made = c.in_ok-planned.planned in
+    let records = records_in c.args.packed in
+    let gone = removes c.args.packed_refs.now in
+    record {
+      honest = λ honest. c.plan.ensures.honest (so_far.honest honest);
+      base = c.plan.ensures.base ∙ so_far.base;
+      moments = λ honest. locks_joined old mid new (so_far.moments honest) (c.plan.ensures.moments (so_far.honest honest));
+      options = c.plan.ensures.options ∙ so_far.options;
+      later = omega (arith, so_far.later, c.plan.ensures.later);
+      unfailed = c.in_ok-planned.ensures.unfailed ∙ so_far.unfailed;
+      locked = λ honest. one_more c.edits.moves.items c.push.new.self.items made old.tree mid.tree new.tree c.in_ok-push.ensures.items (so_far.locked honest) (c.in_ok-planned.ensures.locked (so_far.honest honest));
+      planned = one_zipped (IsPlanOf b gone) c.args.edits.now c.edits.rest.now others edit c.args.moves.now.items c.edits.moves.items c.push.new.self.items made c.in-Some.ensures.cases.0 c.in_ok-push.ensures.items so_far.planned
+          (subst (λ (base : Base). IsPlanOf base gone edit made) so_far.base c.in_ok-planned.ensures.planned);
+      keeps = λ honest. keeps_joined old.tree mid.tree new.tree (so_far.keeps honest) (c.in_ok-planned.ensures.keeps (so_far.honest honest));
+      lined = λ honest.
+          let still = so_far.honest honest in
+          let same = now_of (SameButLocks old.tree) old mid (λ path none. refl) (so_far.moments honest) in
+          one_zipped (LinedIn (logging c.args.store.now.options (reads_with c.args.store.now old.tree c.args.packed) c.args.committer) b old.tree) c.args.edits.now c.edits.rest.now others edit c.args.moves.now.items c.edits.moves.items c.push.new.self.items made c.in-Some.ensures.cases.0 c.in_ok-push.ensures.items (so_far.lined honest)
+          (lined_alike c.args.store.now.options c.edits.store.options b (base_of c.edits.store) old.tree mid.tree records c.args.committer edit (line_in made.act) same c.plan.ensures.full so_far.options so_far.base (c.in_ok-planned.ensures.line still));
+      tested = λ honest.
+          let still = so_far.honest honest in
+          let same = now_of (SameButLocks old.tree) old mid (λ path none. refl) (so_far.moments honest) in
+          one_tested (reads_with c.args.store.now old.tree c.args.packed) c.args.edits.now c.edits.rest.now others edit c.args.moves.now.items c.edits.moves.items c.push.new.self.items made mid.tree new.tree
+          c.in-Some.ensures.cases.0 c.in_ok-push.ensures.items (so_far.tested honest)
+          (subst (λ (state : RefState). IsTested edit state) (among_alike b old.tree mid.tree records same edit.name)
+          (subst (λ (base : Base). IsTested edit (state_among base mid.tree records edit.name)) so_far.base (c.in_ok-planned.ensures.tested still)))
+          (c.in_ok-planned.ensures.keeps still) (c.in_ok-planned.ensures.text still);
+    }
+
+pub returns-clause-tested : goal.returns-clause-tested
+returns-clause-tested g c = λ honest.
+    let old = (g.F.Files.history c.args.store.now.files).tree in
+    testing_ends (reads_with c.args.store.now old c.args.packed) c.args.edits.now c.edits.rest.now c.args.moves.now.items c.edits.moves.items (g.F.Files.history c.edits.store.files).tree c.in_default.ensures.cases (c.edits.invariant.tested honest)
+
+pub returns-clause-planned : goal.returns-clause-planned
+returns-clause-planned g c =
+    zipping_ends (IsPlanOf (base_of c.args.store.now) (removes c.args.packed_refs.now)) c.args.edits.now c.edits.rest.now c.args.moves.now.items c.edits.moves.items c.in_default.ensures.cases c.edits.invariant.planned
+
+pub returns-clause-texts : goal.returns-clause-texts
+returns-clause-texts g c = λ honest.
+    let old = (g.F.Files.history c.args.store.now.files).tree in
+    holding_ends (reads_with c.args.store.now old c.args.packed) c.args.edits.now c.edits.rest.now c.args.moves.now.items c.edits.moves.items (g.F.Files.history c.edits.store.files).tree c.in_default.ensures.cases (c.edits.invariant.tested honest)
+
+pub returns-in_err-push-clause-moments : goal.returns-in_err-push-clause-moments
+returns-in_err-push-clause-moments g c = λ honest.
+    locks_joined (g.F.Files.history c.args.store.now.files) (g.F.Files.history c.edits.store.files) (g.F.Files.history c.plan.new.store.files)
+    (c.edits.invariant.moments honest) (c.plan.ensures.moments (c.edits.invariant.honest honest))
+
+pub returns-clause-lines : goal.returns-clause-lines
+returns-clause-lines g c = λ honest.
+    let old = (g.F.Files.history c.args.store.now.files).tree in
+    let b = base_of c.args.store.now in
+    zipping_ends (LinedIn (logging c.args.store.now.options (reads_with c.args.store.now old c.args.packed) c.args.committer) b old) c.args.edits.now c.edits.rest.now c.args.moves.now.items c.edits.moves.items c.in_default.ensures.cases (c.edits.invariant.lined honest)
+
+pub returns-in_err-planned-clause-failed : goal.returns-in_err-planned-clause-failed
+returns-in_err-planned-clause-failed g c = λ honest.
+    let so_far = c.edits.invariant in
+    let old = g.F.Files.history c.args.store.now.files in
+    let mid = g.F.Files.history c.edits.store.files in
+    let b = base_of c.args.store.now in
+    let edit = c.in-Some.edit.now in
+    let same = now_of (SameButLocks old.tree) old mid (λ path none. refl) (so_far.moments honest) in
+    let among = is_among (IsPlanOf b (removes c.args.packed_refs.now)) c.args.edits.now c.edits.rest.now c.in-Some.others.now edit c.args.moves.now.items c.edits.moves.items c.in-Some.ensures.cases.0 so_far.planned in
+    let fault = fault_alike c.args.store.now.options c.edits.store.options b (base_of c.edits.store) old.tree mid.tree (records_in c.args.packed) c.args.committer edit g.F.Files.reading_may_fail c.in_err-planned.field-0.0 same c.plan.ensures.full so_far.options so_far.base (c.in_err-planned.ensures.failed (so_far.honest honest)) in
+    let p = err_from_is_err_and c.from_residual.result c.from_residual.ensures.1 in
+    rw (p.1, p.2) (edit, among, c.plan.ensures.full, fault)
+
+pub returns-in_err-push-clause-failed : goal.returns-in_err-push-clause-failed
+returns-in_err-push-clause-failed g c = λ honest.
+    let so_far = c.edits.invariant in
+    let b = base_of c.args.store.now in
+    let edit = c.in-Some.edit.now in
+    let among = is_among (IsPlanOf b (removes c.args.packed_refs.now)) c.args.edits.now c.edits.rest.now c.in-Some.others.now edit c.args.moves.now.items c.edits.moves.items c.in-Some.ensures.cases.0 so_far.planned in
+    let p = err_from_is_err_and c.from_residual-in_err-push.result c.from_residual-in_err-push.ensures.1 in
+    rw (p.1, p.2) (edit, among, c.plan.ensures.full, tt)
+
+pub returns-in_err-planned-clause-rolled_back : goal.returns-in_err-planned-clause-rolled_back
+returns-in_err-planned-clause-rolled_back g c = λ honest.
+    let so_far = c.edits.invariant in
+    let f = g.F.Files.failures in
+    let old = g.F.Files.history c.args.store.now.files in
+    let mid = g.F.Files.history c.edits.store.files in
+    let new = g.F.Files.history c.plan.new.store.files in
+    let p = err_from_is_err_and c.from_residual.result c.from_residual.ensures.1 in
+    rw (p.1, p.2) (after_error (f c.args.store.now.files) (f c.edits.store.files) (f c.plan.new.store.files) (lock_paths c.edits.moves.items) old.tree mid.tree new.tree c.in_err-planned.field-0.0 so_far.later (so_far.locked honest)
+    (c.in_err-planned.ensures.rolled_back (so_far.honest honest)))
+
+pub returns-in_err-push-clause-rolled_back : goal.returns-in_err-push-clause-rolled_back
+returns-in_err-push-clause-rolled_back g c = λ honest.
+    let p = err_from_is_err_and c.from_residual-in_err-push.result c.from_residual-in_err-push.ensures.1 in
+    rw (p.1, p.2) (inr (inr tt))
+
+pub returns-clause-rolled_back : goal.returns-clause-rolled_back
+returns-clause-rolled_back g c = λ honest. inl (c.edits.invariant.locked honest)

@@ -1,0 +1,32 @@
+use Rattle.std.proofs.Common.{◌≡◌, ◌≤◌, length}
+use Rattle.gix_ref_file.specs.History.{Adds}
+use Rattle.gix_ref_store.specs.Lookups.{reads_with}
+use Rattle.gix_ref_store.specs.Stores.{base_of}
+use Rattle.gix_ref_moves.specs.Moments.{SameButLocks}
+use Rattle.gix_ref_transaction.specs.LogLines.{logging}
+use Rattle.gix_ref_repacking.specs.Modes.{removes}
+use Rattle.gix_ref_transaction.specs.Plans.{IsPlanOf, KeepsFiles}
+use Rattle.gix_ref_transaction.specs.Rollback.{MoreFilesAt, lock_paths}
+use Rattle.gix_ref_transaction.proofs.Plannings.{ZippedSoFar, TestedSoFar, LinedIn}
+use Rattle.gix_ref_transaction.proofs.transaction.plan_all.Given as goal
+
+-- only locks were made, of the edits that are planned
+abbrev pub invariant-edits : goal.invariant-edits
+invariant-edits g l =
+    let history = g.F.Files.history in
+    record {
+      honest : g.F.Files.is_honest l.fn.store.files → g.F.Files.is_honest l.store.files;
+      base : base_of l.store ≡ base_of l.fn.store;
+      moments : g.F.Files.is_honest l.fn.store.files → Adds (SameButLocks (history l.fn.store.files).tree) (history l.fn.store.files) (history l.store.files);
+      options : l.store.options ≡ l.fn.store.options;
+      later : g.F.Files.failures l.fn.store.files ≤ g.F.Files.failures l.store.files;
+      unfailed : g.F.Files.failures l.store.files ≡ g.F.Files.failures l.fn.store.files;
+      locked : g.F.Files.is_honest l.fn.store.files → MoreFilesAt (lock_paths l.moves.items) (history l.fn.store.files).tree (history l.store.files).tree;
+      planned : ZippedSoFar (IsPlanOf (base_of l.fn.store) (removes l.packed_refs)) l.edits l.rest l.fn.moves.items l.moves.items;
+      keeps : g.F.Files.is_honest l.fn.store.files → KeepsFiles (history l.fn.store.files).tree (history l.store.files).tree;
+      lined : g.F.Files.is_honest l.fn.store.files → ZippedSoFar (LinedIn (logging l.fn.store.options (reads_with l.fn.store (history l.fn.store.files).tree l.packed) l.committer) (base_of l.fn.store) (history l.fn.store.files).tree) l.edits l.rest l.fn.moves.items l.moves.items;
+      tested : g.F.Files.is_honest l.fn.store.files → TestedSoFar (reads_with l.fn.store (history l.fn.store.files).tree l.packed) l.edits l.rest l.fn.moves.items l.moves.items (history l.store.files).tree;
+    }
+
+abbrev pub decreases-edits : goal.decreases-edits
+decreases-edits g l = length l.rest

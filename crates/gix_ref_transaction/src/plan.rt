@@ -1,0 +1,299 @@
+//! What becomes of one reference: its lock is made, what it is is tested, and its new text is written into the lock.
+
+ghost use Rattle.std.specs.Prelude.{◌≡◌, ◌≤◌, ◌⊎◌, [], ◌∷◌, false, None, Some, Ok, Err, IfErr, IfOk, IsTrue, OnOk};
+ghost use Rattle.gix_object_lines.specs.NameTest.{is_full_name};
+ghost use Rattle.gix_ref_file.specs.Calls.{Achieves, Passes};
+ghost use Rattle.gix_ref_file.specs.Changes.{is_file_at};
+ghost use Rattle.gix_ref_file.specs.History.{HasRisen};
+ghost use Rattle.gix_ref_file.specs.Tree.{file, node_at};
+ghost use Rattle.gix_ref_file.specs.declared.files.FileError.TheVariants as file_case;
+ghost use Rattle.gix_ref_name.specs.Targets.{target_view};
+ghost use Rattle.gix_ref_format.specs.Loose.{loose_text};
+ghost use Rattle.gix_ref_store.specs.Lookups.{reads_with};
+ghost use Rattle.gix_ref_store.specs.Stores.{base_of};
+ghost use Rattle.gix_ref_lock.specs.Locks.{lock_of, OthersStay};
+ghost use Rattle.gix_ref_way.specs.Ways.{file_at};
+ghost use Rattle.gix_ref_moves.specs.Contents.{lock_path_of};
+ghost use Rattle.gix_ref_moves.specs.Moments.{SameButLocks};
+ghost use Rattle.gix_ref_transaction.specs.Causes.{EditFault, TestFault};
+ghost use Rattle.gix_ref_transaction.specs.LogLines.{IsLineOf, has_log, line_in, logging};
+ghost use Rattle.gix_ref_repacking.specs.Modes.{removes};
+ghost use Rattle.gix_ref_transaction.specs.Plans as spec;
+ghost use Rattle.gix_ref_transaction.specs.Plans.{HoldsText, IsActOf, IsFoundSo, IsPlanOf, IsPut, IsTested, IsUpdateBy, KeepsFiles};
+ghost use Rattle.gix_ref_transaction.specs.Rollback.{IsRolledBack, MoreFilesAt};
+ghost use Rattle.gix_ref_transaction.specs.declared.error.PrepareError.TheVariants.{Io, LockAcquire, Memory};
+
+use crate::asked::test;
+use crate::error::PrepareError;
+use crate::lines::line_of;
+use gix_object_lines::lines::ActorRef;
+use gix_ref_edit::{Change, RefEdit, RefLog};
+use gix_ref_file::{FileError, Files};
+use gix_ref_format::lookup::key_of;
+use gix_ref_format::loose;
+use gix_ref_format::packed::Buffer;
+use gix_ref_lock::lock::{Lock, acquire};
+use gix_ref_moves::{Act, Move};
+use gix_ref_name::Target;
+use gix_ref_repacking::PackedRefs;
+use gix_ref_store::Reference;
+use gix_ref_store::store::file::Store;
+use gix_ref_way::make_way;
+use std::alloc::Global;
+
+// Locks a reference, tests it, and returns what becomes of its files. After an error its lock is
+// gone, unless its removal fails.
+pub(crate) fn plan<F: Files, O>(
+    alloc: Global,
+    store: &mut Store<F>,
+    edit: &RefEdit,
+    packed: Option<&Buffer>,
+    committer: Option<ActorRef<'_>>,
+    packed_refs: &PackedRefs<'_, O>,
+) -> Result<Move, PrepareError>
+    ensures honest { F.is_honest store.old.files → F.is_honest store.new.files }
+    ensures base { base_of store.new ≡ base_of store.old }
+    ensures options { store.new.options ≡ store.old.options }
+    ensures full { IsTrue (is_full_name edit.now.name) }
+    ensures moments { Passes F.is_honest F.history store.old.files store.new.files SameButLocks }
+    ensures tested { F.is_honest store.old.files → IfOk result (λ _. IsTested edit.now
+        (reads_with store.old (F.history store.old.files).tree packed.entry edit.now.name)) }
+    ensures planned { IfOk result (IsPlanOf (base_of store.old) (removes packed_refs.now) edit.now) }
+    ensures text { F.is_honest store.old.files → IfOk result (λ made. HoldsText edit.now.change
+        made.act (lock_path_of made) (F.history store.new.files).tree) }
+    ensures line { F.is_honest store.old.files → let tree = (F.history store.old.files).tree in
+        let l = logging store.old.options (reads_with store.old tree packed.entry) committer.entry in
+        let name = edit.now.name in IfOk result (λ made.
+        IsLineOf l (has_log (base_of store.old) tree name) name edit.now.change (line_in made.act)) }
+    ensures failed { F.is_honest store.old.files → let tree = (F.history store.old.files).tree in
+        let l = logging store.old.options (reads_with store.old tree packed.entry) committer.entry in
+        IfErr result (EditFault l (has_log (base_of store.old) tree edit.now.name)
+        F.reading_may_fail edit.now) }
+    ensures later { F.failures store.old.files ≤ F.failures store.new.files }
+    ensures unfailed { IfOk result (λ _. F.failures store.new.files ≡ F.failures store.old.files) }
+    ensures rolled_back { F.is_honest store.old.files → IfErr result (λ error.
+        IsRolledBack (F.failures store.old.files) (F.failures store.new.files)
+        (F.history store.old.files).tree (F.history store.new.files).tree error) }
+    ensures locked { F.is_honest store.old.files → IfOk result (λ made. MoreFilesAt
+        (lock_path_of made ∷ []) (F.history store.old.files).tree (F.history store.new.files).tree) }
+    ensures keeps { Achieves F.is_honest F.history store.old.files store.new.files result
+        KeepsFiles }
+{
+    let place = store.reference_path(alloc, edit.name.as_ref())?;
+    let log = store.reflog_path(alloc, edit.name.as_ref())?;
+    let lock = take(alloc, &mut store.files, &place)?;
+    match act_of(alloc, store, edit, packed, committer, packed_refs, &lock) {
+        Ok(act) => Ok(Move { lock, log, act }),
+        Err(error) => Err(unplanned(alloc, &mut store.files, &lock, error)),
+    }
+}
+
+// Gives the lock of an edit back that isn't planned, and returns the error, or `Memory`.
+fn unplanned<F: Files>(
+    alloc: Global,
+    files: &mut F,
+    lock: &Lock,
+    error: PrepareError,
+) -> PrepareError
+    ensures honest { F.is_honest files.old → F.is_honest files.new }
+    ensures later { F.failures files.old ≤ F.failures files.new }
+    ensures moments { Passes F.is_honest F.history files.old files.new
+        (OthersStay lock.now.path.items) }
+    ensures told { (result ≡ error) ⊎ (result ≡ Memory) }
+    ensures rolled_back { F.is_honest files.old
+        → (is_file_at (F.history files.new).tree lock.now.path.items ≡ false)
+        ⊎ (HasRisen (F.failures files.old) (F.failures files.new) ⊎ (result ≡ Memory)) }
+{
+    match lock.give_back(alloc, files) {
+        Ok(()) => error,
+        Err(FileError::Failed) => error,
+        Err(FileError::Memory) => PrepareError::Memory,
+    }
+}
+
+// Makes room for a file, and its lock.
+fn take<F: Files>(alloc: Global, files: &mut F, place: &[u8]) -> Result<Lock, PrepareError>
+    ensures honest { F.is_honest files.old → F.is_honest files.new }
+    ensures moments { Passes F.is_honest F.history files.old files.new SameButLocks }
+    ensures place { IfOk result (λ lock. lock.place.items ≡ place.now) }
+    ensures free { F.is_honest files.old → OnOk result
+        (file_at (F.history files.old).tree (lock_of place.now) ≡ None) }
+    ensures keeps { Achieves F.is_honest F.history files.old files.new result KeepsFiles }
+    ensures later { F.failures files.old ≤ F.failures files.new }
+    ensures unfailed { IfOk result (λ _. F.failures files.new ≡ F.failures files.old) }
+    ensures rolled_back { F.is_honest files.old → IfErr result (λ error. IsRolledBack
+        (F.failures files.old) (F.failures files.new) (F.history files.old).tree
+        (F.history files.new).tree error) }
+    ensures locked { F.is_honest files.old → IfOk result (λ _. MoreFilesAt
+        (lock_of place.now ∷ []) (F.history files.old).tree (F.history files.new).tree) }
+    ensures failed { IfErr result (λ error. (error ≡ LockAcquire) ⊎ (error ≡ Memory)) }
+{
+    told(make_way(alloc, files, place), PrepareError::LockAcquire)?;
+    held(acquire(alloc, files, place))
+}
+
+// Returns this error if a call of the files failed.
+fn told(outcome: Result<(), FileError>, why: PrepareError) -> Result<(), PrepareError>
+    ensures ok { OnOk result (outcome ≡ Ok tt) }
+    ensures failed { IfErr result (λ error. (error ≡ why) ⊎ (error ≡ Memory)) }
+{
+    match outcome {
+        Ok(()) => Ok(()),
+        Err(FileError::Failed) => Err(why),
+        Err(FileError::Memory) => Err(PrepareError::Memory),
+    }
+}
+
+// Returns the lock that was made, or `LockAcquire` if none was.
+fn held(made: Result<Option<Lock>, FileError>) -> Result<Lock, PrepareError>
+    ensures ok { IfOk result (λ lock. made ≡ Ok (Some lock)) }
+    ensures none { IfErr result (λ error. (error ≡ Memory)
+        ⊎ ((made ≡ Ok None) ⊎ (made ≡ Err file_case.Failed))) }
+    ensures failed { IfErr result (λ error. (error ≡ LockAcquire) ⊎ (error ≡ Memory)) }
+{
+    match made {
+        Ok(Some(lock)) => Ok(lock),
+        Ok(None) => Err(PrepareError::LockAcquire),
+        Err(FileError::Failed) => Err(PrepareError::LockAcquire),
+        Err(FileError::Memory) => Err(PrepareError::Memory),
+    }
+}
+
+// Tests a reference whose lock is held, and writes its new text into the lock.
+fn act_of<F: Files, O>(
+    alloc: Global,
+    store: &mut Store<F>,
+    edit: &RefEdit,
+    packed: Option<&Buffer>,
+    committer: Option<ActorRef<'_>>,
+    packed_refs: &PackedRefs<'_, O>,
+    lock: &Lock,
+) -> Result<Act, PrepareError>
+    ensures honest { F.is_honest store.old.files → F.is_honest store.new.files }
+    ensures base { base_of store.new ≡ base_of store.old }
+    ensures later { F.failures store.old.files ≤ F.failures store.new.files }
+    ensures unfailed { IfOk result (λ _. F.failures store.new.files ≡ F.failures store.old.files) }
+    ensures moments { Passes F.is_honest F.history store.old.files store.new.files
+        (OthersStay lock.now.path.items) }
+    ensures tested { F.is_honest store.old.files → IfOk result (λ _. IsTested edit.now
+        (reads_with store.old (F.history store.old.files).tree packed.entry edit.now.name)) }
+    ensures act { IfOk result (IsActOf (removes packed_refs.now) edit.now.name edit.now.change) }
+    ensures text { F.is_honest store.old.files → IfOk result (λ act. HoldsText edit.now.change act
+        lock.now.path.items (F.history store.new.files).tree) }
+    ensures options { store.new.options ≡ store.old.options }
+    ensures line { F.is_honest store.old.files → let tree = (F.history store.old.files).tree in
+        let l = logging store.old.options (reads_with store.old tree packed.entry) committer.entry in
+        let name = edit.now.name in IfOk result (λ act.
+        IsLineOf l (has_log (base_of store.old) tree name) name edit.now.change (line_in act)) }
+    ensures failed { F.is_honest store.old.files → let tree = (F.history store.old.files).tree in
+        let l = logging store.old.options (reads_with store.old tree packed.entry) committer.entry in
+        IfErr result (EditFault l (has_log (base_of store.old) tree edit.now.name)
+        F.reading_may_fail edit.now) }
+{
+    let found = tested(alloc, &*store, edit, packed)?;
+    let line = line_of(alloc, &*store, edit, &found, packed, committer)?;
+    match &edit.change {
+        Change::Update { log, new, .. } => {
+            let is_packed_alone = is_packed_alone(packed_refs.removes(), edit.name.to_path(), new);
+            update_by(
+                alloc,
+                &mut store.files,
+                log.mode,
+                is_packed_alone,
+                new,
+                lock,
+                line,
+            )
+        }
+        Change::Delete { log, .. } => match log {
+            RefLog::AndReference => Ok(Act::Remove),
+            RefLog::Only => Ok(Act::Forget),
+        },
+    }
+}
+
+// Returns whether only a record says what the name points to.
+fn is_packed_alone(removes: bool, name: &[u8], new: &Target) -> bool
+    ensures { result ≡ spec.is_packed_alone removes name.now (target_view new.now) }
+{
+    match new {
+        Target::Object(_) => removes && key_of(name).is_some(),
+        Target::Symbolic(_) => false,
+    }
+}
+
+// Returns the update that is made so. Its text is written into the lock, if the lock is put in the
+// file's place.
+fn update_by<F: Files>(
+    alloc: Global,
+    files: &mut F,
+    log: RefLog,
+    is_packed_alone: bool,
+    new: &Target,
+    lock: &Lock,
+    line: Option<Vec<u8>>,
+) -> Result<Act, PrepareError>
+    ensures honest { F.is_honest files.old → F.is_honest files.new }
+    ensures later { F.failures files.old ≤ F.failures files.new }
+    ensures unfailed { IfOk result (λ _. F.failures files.new ≡ F.failures files.old) }
+    ensures moments { Passes F.is_honest F.history files.old files.new
+        (OthersStay lock.now.path.items) }
+    ensures act { IfOk result (IsUpdateBy log is_packed_alone) }
+    ensures line { IfOk result (λ act. line_in act ≡ line) }
+    ensures text { F.is_honest files.old → IfOk result (λ act. IsPut act
+        → node_at (F.history files.new).tree lock.now.path.items
+        ≡ Some (file (loose_text (target_view new.now)))) }
+    ensures failed { IfErr result (λ error. (error ≡ Io) ⊎ (error ≡ Memory)) }
+{
+    match log {
+        RefLog::AndReference => {
+            if is_packed_alone {
+                return Ok(Act::Pack(line));
+            }
+            fill(alloc, files, lock, new)?;
+            Ok(Act::Put(line))
+        }
+        RefLog::Only => Ok(Act::Note(line)),
+    }
+}
+
+// The reference of the edit, which passes its test.
+fn tested<F: Files>(
+    alloc: Global,
+    store: &Store<F>,
+    edit: &RefEdit,
+    packed: Option<&Buffer>,
+) -> Result<Option<Reference>, PrepareError>
+    ensures found { F.is_honest store.now.files → let tree = (F.history store.now.files).tree in
+        IfOk result (IsFoundSo edit.now (reads_with store.now tree packed.entry edit.now.name)) }
+    ensures failed { F.is_honest store.now.files → let tree = (F.history store.now.files).tree in
+        IfErr result (TestFault F.reading_may_fail edit.now
+        (reads_with store.now tree packed.entry edit.now.name)) }
+{
+    let name = edit.name.try_clone()?;
+    let found = store.try_read(alloc, name, packed)?;
+    test(&edit.change, &found)?;
+    Ok(found)
+}
+
+// Writes the text of a target into the lock.
+fn fill<F: Files>(
+    alloc: Global,
+    files: &mut F,
+    lock: &Lock,
+    target: &Target,
+) -> Result<(), PrepareError>
+    ensures honest { F.is_honest files.old → F.is_honest files.new }
+    ensures later { F.failures files.old ≤ F.failures files.new }
+    ensures unfailed { IfOk result (λ _. F.failures files.new ≡ F.failures files.old) }
+    ensures moments { Passes F.is_honest F.history files.old files.new
+        (OthersStay lock.now.path.items) }
+    ensures filled { F.is_honest files.old → OnOk result
+        (node_at (F.history files.new).tree lock.now.path.items
+        ≡ Some (file (loose_text (target_view target.now)))) }
+    ensures failed { IfErr result (λ error. (error ≡ Io) ⊎ (error ≡ Memory)) }
+{
+    let mut text = Vec::new(alloc);
+    loose::write(target.to_ref(), &mut text)?;
+    told(lock.fill(alloc, files, &text), PrepareError::Io)
+}

@@ -1,5 +1,0 @@
-use Rattle.gix_traverse_commit_graph.proofs.Listing.{one_set}
-use Rattle.gix_traverse_commit_graph.proofs.laws.orders_list_one_set.Goals as goal
-
-pub returns : goal.returns
-returns g c = one_set

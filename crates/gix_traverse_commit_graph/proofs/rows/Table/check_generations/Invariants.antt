@@ -1,8 +1,0 @@
-use Rattle.std.proofs.Common.{◌<◌, ℕ}
-use Rattle.gix_traverse_commit_graph.specs.declared.rows.Row.{Row}
-use Rattle.gix_traverse_commit_graph.specs.Order.{At}
-use Rattle.gix_traverse_commit_graph.specs.Rows.{HasGeneration}
-use Rattle.gix_traverse_commit_graph.proofs.rows.Table.check_generations.Given as goal
-
-abbrev pub invariant-rows : goal.invariant-rows
-invariant-rows l = (k : ℕ) (row : Row) → k < l.row-index → At l.self.rows.items k row → HasGeneration l.self.rows.items row

@@ -1,0 +1,9 @@
+//! Laws of the two parts of a repository, over the definitions alone.
+
+ghost use Rattle.history_check_names.specs.Joined.{PartsJoin};
+
+/// If the objects part holds whole values, and the names part is a repository's over their facts,
+/// the two represent one whole repository.
+pub fn parts_join()
+    ensures { PartsJoin }
+{}

@@ -1,0 +1,148 @@
+//! Everything that is in the names part.
+
+ghost use Rattle.std.specs.Prelude.{◌≡◌, ◌⊎◌, IfErr, IfOk, IsTrue, OnOk};
+ghost use Rattle.gix_ref_file.specs.Tree.{bytes_at};
+ghost use Rattle.history_model.specs.Places.{packed_place};
+ghost use Rattle.history_check_names.specs.Packed.{is_packed_text};
+ghost use Rattle.gix_ref_file.specs.Calls.{Finds};
+ghost use Rattle.history_model.specs.Forms.{is_branch};
+ghost use Rattle.history_model.specs.Repository.{Repository};
+ghost use Rattle.history_names.specs.Face.{files_of_names, kind_of_names};
+ghost use Rattle.history_check_names.specs.Causes.{HasCause, IsFault};
+ghost use Rattle.history_check_names.specs.PackedRead.{ReadsPacked};
+ghost use Rattle.history_check_names.specs.Parts.{IsNamesPart, NamesBranch, StandsNames};
+ghost use Rattle.history_check_names.specs.Sound.{IsSound, IsSoundBelow};
+ghost use Rattle.history_check_names.specs.Stored.{AreFactsOf, Facts, facts_in};
+
+use crate::error::NamesError;
+use crate::file::{file_len, test_file, text_at};
+use crate::loose::MAX_LOOSE;
+use crate::packed::Packed;
+use crate::records::{PACKED_REFS, test_records};
+use gix_hash::Kind;
+use gix_object_lookup::{FindHeader, FindInto};
+use gix_ref_file::paths::{is_deeper, joined};
+use gix_ref_file::{Files, Place};
+use history_model::names::{HEAD, HEADS};
+use history_names::Names;
+use history_texts::{Part, is_name};
+use std::alloc::Global;
+
+/// Returns HEAD's branch, if the names part is a repository's over this store of objects: HEAD
+/// names a branch; each name, in a file of its own or in `packed-refs`, holds a stored commit or
+/// tag and is no folder of another; a record's peeled id is its tag's commit; each log is of a name
+/// and has only moves; and there is nothing else but folders of names and logs. A name's own file
+/// takes precedence over its record. No file is changed; each is read once, a long log in pieces,
+/// and each folder is listed once.
+///
+/// Otherwise the error names a cause that holds. It is `File` if a call of the files failed, and
+/// `Memory` if no memory is left.
+pub fn survey_names<F: Files, S: FindInto + FindHeader>(
+    alloc: Global,
+    names: &Names<F>,
+    stored: &S,
+) -> Result<Vec<u8>, NamesError>
+    ensures stands { S.is_honest stored.now
+        → Finds F.is_honest F.history (files_of_names names.now) (λ tree. IfOk result (λ branch.
+        IsNamesPart (kind_of_names names.now)
+        (facts_in (kind_of_names names.now) (S.table stored.now)) tree branch.items)) }
+    ensures wrong { S.is_honest stored.now
+        → Finds F.is_honest F.history (files_of_names names.now) (λ tree. IfErr result
+        (HasCause (F.reading_may_fail ⊎ S.may_fail stored.now) (kind_of_names names.now)
+        (facts_in (kind_of_names names.now) (S.table stored.now)) tree)) }
+    // The file of packed names is in its form.
+    ensures packed { S.is_honest stored.now
+        → Finds F.is_honest F.history (files_of_names names.now) (λ tree. OnOk result (IsTrue
+        (is_packed_text (kind_of_names names.now) (bytes_at tree packed_place)))) }
+    // A repository's names part is refused only for a fault.
+    ensures accepted { (r : Repository) → S.is_honest stored.now
+        → r.kind ≡ kind_of_names names.now
+        → AreFactsOf (facts_in (kind_of_names names.now) (S.table stored.now)) r.objects
+        → Finds F.is_honest F.history (files_of_names names.now)
+        (λ tree. StandsNames tree r → IfErr result IsFault) }
+{
+    let branch = head_branch(alloc, names)?;
+    test_all(alloc, names.files(), names.kind(), stored)?;
+    Ok(branch)
+}
+
+// Returns the branch that HEAD names.
+fn head_branch<F: Files>(alloc: Global, names: &Names<F>) -> Result<Vec<u8>, NamesError>
+    ensures found { Finds F.is_honest F.history (files_of_names names.now)
+        (λ tree. IfOk result (λ branch. NamesBranch tree branch.items)) }
+    ensures wrong { (facts : Facts) → Finds F.is_honest F.history (files_of_names names.now)
+        (λ tree. IfErr result
+        (HasCause F.reading_may_fail (kind_of_names names.now) facts tree)) }
+{
+    let Some(len) = file_len(names.files(), HEAD)? else {
+        return Err(NamesError::NoHead);
+    };
+    if len > MAX_LOOSE {
+        return Err(NamesError::BadHead);
+    }
+    let Some(branch) = names.head(alloc)? else {
+        return Err(NamesError::BadHead);
+    };
+    if is_branch(&branch) {
+        return Ok(branch);
+    }
+    Err(NamesError::BadHead)
+}
+
+// Returns whether it is a branch's name.
+fn is_branch(name: &[u8]) -> bool
+    ensures { result ≡ is_branch name.now }
+{
+    is_name(name) && name.starts_with(HEADS)
+}
+
+// Tests everything in the part.
+fn test_all<F: Files, S: FindInto + FindHeader>(
+    alloc: Global,
+    files: &F,
+    kind: Kind,
+    stored: &S,
+) -> Result<(), NamesError>
+    ensures sound { S.is_honest stored.now → Finds F.is_honest F.history files.now
+        (λ tree. OnOk result (IsSound kind (facts_in kind (S.table stored.now)) tree)) }
+    ensures wrong { S.is_honest stored.now → Finds F.is_honest F.history files.now
+        (λ tree. IfErr result (HasCause (F.reading_may_fail ⊎ S.may_fail stored.now) kind
+        (facts_in kind (S.table stored.now)) tree)) }
+{
+    let text = text_at(alloc, files, PACKED_REFS)?;
+    let packed = Packed::read(alloc, kind, &text)?;
+    test_folder(alloc, files, kind, stored, &packed, b"")?;
+    test_records(alloc, files, kind, stored, &packed)
+}
+
+// Tests everything below a folder.
+fn test_folder<F: Files, S: FindHeader>(
+    alloc: Global,
+    files: &F,
+    kind: Kind,
+    stored: &S,
+    packed: &Packed<'_>,
+    folder: &[u8],
+) -> Result<(), NamesError>
+    requires { Finds F.is_honest F.history files.now (ReadsPacked kind packed.now) }
+    ensures sound { S.is_honest stored.now → Finds F.is_honest F.history files.now
+        (λ tree. OnOk result
+        (IsSoundBelow kind (facts_in kind (S.table stored.now)) folder.now tree)) }
+    ensures wrong { S.is_honest stored.now → Finds F.is_honest F.history files.now
+        (λ tree. IfErr result (HasCause (F.reading_may_fail ⊎ S.may_fail stored.now) kind
+        (facts_in kind (S.table stored.now)) tree)) }
+{
+    for name in &files.list(alloc, folder)? {
+        let path = joined(alloc, folder, name)?;
+        match files.kind_of(&path)? {
+            Place::Folder if Part::Names.may_hold_folder(&path) && is_deeper(&path, folder) => {
+                test_folder(alloc, files, kind, stored, packed, &path)?;
+            }
+            Place::Folder => return Err(NamesError::Stray(path)),
+            Place::File(len) => test_file(alloc, files, kind, stored, packed, path, len)?,
+            // A name of nothing: the folder changed while it was read.
+            Place::Absent => return Err(NamesError::Stray(path)),
+        }
+    }
+    Ok(())
+}

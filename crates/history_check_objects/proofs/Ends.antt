@@ -1,0 +1,90 @@
+-- Where a survey has come to its end, the tree holds the values of the listed objects.
+use Rattle.std.proofs.Common.{◌≡◌, Bool, true, false, List, [], refl, sym, ◌∙◌, ap, inl, inr, Option, Some, None, is_some, option_map}
+use Rattle.std.specs.Prelude.{Contains}
+use Rattle.std.specs.BTreeMap as maps
+use Rattle.std.specs.List.{list_any}
+use Rattle.std.specs.FinMap.{contains_key, get}
+use Rattle.gix_hash_id.specs.Id.{Id, id_of}
+use Rattle.gix_hash_id.specs.Order.{id_eq}
+use Rattle.gix_hash_id.specs.declared.kind.Kind.{Kind}
+use Rattle.gix_hash_id.specs.declared.object_id.ObjectId.{ObjectId}
+use Rattle.gix_ref_file.specs.Tree.{Tree}
+use Rattle.history_model.specs.Bytes.{Bytes}
+use Rattle.history_model.specs.Objects.{Value, value_text}
+use Rattle.history_model.specs.Places.{file_at}
+use Rattle.history_model.specs.Repository.{HaveOwnIds, Values}
+use Rattle.history_model.specs.StandsFor.{value_files}
+use Rattle.history_model.proofs.IdLemmas.{id_itself, one_id}
+use Rattle.history_model.proofs.PlaceLemmas.{file_at_id, file_has_id}
+use Rattle.history_model.proofs.WholeLists.{clash, none_is_some, one_passes, passes_one}
+use Rattle.history_model.proofs.WholeSteps.{contains_in, in_contains}
+use Rattle.history_texts.specs.IdLists.{is_one_of}
+use Rattle.history_check_objects.specs.Surveyed.{IsWholePart}
+use Rattle.history_check_objects.specs.Surveying.{Dones, Stands, Unmet, by_id}
+use Rattle.history_check_objects.specs.declared.order.Done.{Done}
+
+module _ (kind : Kind) (tree : Tree) (ids : List ObjectId) (unmet : Unmet) (done : Dones) (s : Stands kind tree ids unmet done [] None) (ended : unmet.keys ≡ []) where
+  values : Values
+  values = s.values
+
+  own : HaveOwnIds kind s.values
+  own = ((s.in_tree).sound).whole.own_ids
+
+  value_at : (id : ObjectId) → Contains ids id → (v : Value) × (get s.values (id_of id) ≡ Some v)
+  value_at id has = elim (s.each id has) [
+    | inl a ↦ clash a (ap (λ (ks : List ObjectId). list_any (maps.is_at (by_id id)) ks) ended)
+    | inr (inl (x, e, f)) ↦ none_is_some x e
+    | inr (inr (inl a)) ↦ absurd a
+    | inr (inr (inr a)) ↦ noted (maps.get by_id done id) refl a
+  ]
+    where
+      noted : (o : Option Done) → maps.get by_id done id ≡ o → is_some o ≡ true → (v : Value) × (get s.values (id_of id) ≡ Some v)
+      noted None e h = cc
+      noted (Some d) e h = let is = s.dones id d e in (is.value, is.stored)
+
+  file_is : (path : Bytes) → file_at tree path ≡ get (value_files kind s.values) path
+  file_is path = go (file_at tree path) refl
+    where
+      value_there : (id : Id) (o : Option Value) → get s.values id ≡ o → (t : Bytes) → option_map (value_text kind) o ≡ Some t → (v : Value) × (get s.values id ≡ Some v)
+      value_there id None e t h = cc
+      value_there id (Some v) e t h = (v, e)
+
+      no_file : (o : Option Bytes) → get (value_files kind s.values) path ≡ o → file_at tree path ≡ None → o ≡ None
+      no_file None e none = refl
+      no_file (Some t) e none =
+          let at = file_has_id kind s.values own path t e in
+          let there = value_there at.0 (get s.values at.0) refl t (sym (file_at_id kind s.values own at.0 at.1) ∙ ap (get (value_files kind s.values)) (sym at.2) ∙ e) in
+          none_is_some (value_text kind there.0) (sym none ∙ ap (file_at tree) at.2 ∙ (s.in_tree).texts at.0 there.0 there.1)
+
+      go : (o : Option Bytes) → file_at tree path ≡ o → file_at tree path ≡ get (value_files kind s.values) path
+      go None e = e ∙ sym (no_file (get (value_files kind s.values) path) refl e)
+      go (Some text) e =
+          let listed = (s.listed).files path text e in
+          let there = value_at listed.0 listed.1 in
+          ap (file_at tree) listed.2 ∙ (s.in_tree).texts (id_of listed.0) there.0 there.1
+          ∙ sym (ap (get (value_files kind s.values)) listed.2 ∙ file_at_id kind s.values own (id_of listed.0) ((s.listed).formed listed.0 listed.1) ∙ ap (option_map (value_text kind)) there.1)
+
+  same_test : (a b : Bool) → (a ≡ true → b ≡ true) → (b ≡ true → a ≡ true) → a ≡ b
+  same_test true b f g = sym (f refl)
+  same_test false true f g = g refl
+  same_test false false f g = refl
+
+  known_is : (id : Id) → contains_key s.values id ≡ is_one_of ids id
+  known_is id = same_test (contains_key s.values id) (is_one_of ids id) (λ h. there (get s.values id) refl h) (λ h.
+      let one = one_passes (λ (other : ObjectId). id_eq id (id_of other)) ids h in
+      let at = value_at one.0 (in_contains ids one.0 one.1) in
+      ap is_some (ap (get s.values) (one_id id (id_of one.0) one.2) ∙ at.1))
+    where
+      there : (o : Option Value) → get s.values id ≡ o → is_some o ≡ true → is_one_of ids id ≡ true
+      there None e h = cc
+      there (Some v) e h =
+          let own = s.known id v e in
+          passes_one (λ (other : ObjectId). id_eq id (id_of other)) ids own.0 (contains_in ids own.0 own.1) (ap (λ q. id_eq q (id_of own.0)) own.2 ∙ id_itself (id_of own.0))
+
+  pub whole_part : IsWholePart kind tree ids
+  whole_part = record {
+    values = s.values;
+    holds = record { files = file_is; folders = (s.listed).folders };
+    sound = (s.in_tree).sound;
+    known = known_is;
+  }

@@ -1,0 +1,103 @@
+//! The objects of a part, by the places of its files.
+ghost use Rattle.std.specs.Prelude.{◌≡◌, ◌≢◌, IfErr, IfOk, IsTrue, MatchOption, OnOk};
+ghost use Rattle.gix_hash_id.specs.Id.{Id, id_of};
+ghost use Rattle.history_model.specs.Forms.{is_id};
+ghost use Rattle.history_model.specs.Places.{object_place};
+ghost use Rattle.history_check_objects.specs.Flaws.{IsObjectsFlaw};
+ghost use Rattle.history_check_objects.specs.Listing.{Gathers, IsNoPlace};
+ghost use Rattle.history_check_objects.specs.Surveying.{AreListed};
+
+use gix_hash::{Kind, ObjectId};
+use gix_ref_file::paths::{is_deeper, joined};
+use gix_ref_file::{Files, Place};
+use history_texts::{OpenError, Part, UNFINISHED, object_place, parse_lower_hex};
+use std::alloc::{AllocError, Global};
+
+/// Returns the ids whose places have files. Otherwise the error is `Stray` for another file or a
+/// folder that isn't one of objects, `Unfinished` for the unfinished file, `File` if a call of the
+/// files failed, or `Memory` if no memory is left.
+pub(crate) fn list_objects<F: Files>(
+    alloc: Global,
+    files: &F,
+    kind: Kind,
+) -> Result<Vec<ObjectId>, OpenError>
+    ensures listed { F.is_honest files.now
+        → IfOk result (λ ids. AreListed kind (F.history files.now).tree ids.items) }
+    ensures flaw { F.is_honest files.now
+        → IfErr result (IsObjectsFlaw F.reading_may_fail kind (F.history files.now).tree) }
+{
+    let mut ids = Vec::new(alloc);
+    gather(alloc, files, kind, b"", &mut ids)?;
+    Ok(ids)
+}
+
+// Adds the ids whose places have files below a folder. The errors are those of `list_objects`.
+fn gather<F: Files>(
+    alloc: Global,
+    files: &F,
+    kind: Kind,
+    folder: &[u8],
+    ids: &mut Vec<ObjectId>,
+) -> Result<(), OpenError>
+    ensures gathered { F.is_honest files.now
+        → OnOk result (Gathers kind (F.history files.now).tree folder.now ids.old.items
+        ids.new.items) }
+    ensures flaw { F.is_honest files.now
+        → IfErr result (IsObjectsFlaw F.reading_may_fail kind (F.history files.now).tree) }
+{
+    for name in &files.list(alloc, folder)? {
+        let path = joined(alloc, folder, name)?;
+        match files.kind_of(&path)? {
+            Place::Folder if Part::Objects.may_hold_folder(&path) && is_deeper(&path, folder) => {
+                gather(alloc, files, kind, &path, ids)?;
+            }
+            Place::Folder => return Err(OpenError::Stray(path)),
+            // A name that is gone: the folder changed while it was read.
+            Place::Absent => return Err(OpenError::Stray(path)),
+            Place::File(_) => {
+                let id = id_of_file(alloc, kind, path)?;
+                ids.push(id)?;
+            }
+        }
+    }
+    Ok(())
+}
+
+// Returns the id whose place the path is. Otherwise the error is `Unfinished` or `Stray`, with the
+// path, or no memory is left.
+fn id_of_file(alloc: Global, kind: Kind, path: Vec<u8>) -> Result<ObjectId, OpenError>
+    ensures placed { IfOk result (λ id. IsTrue (is_id kind (id_of id))
+        × (path.items ≡ object_place (id_of id))) }
+    ensures flaw { IfErr result (IsNoPlace kind path.items) }
+{
+    if let Some(id) = placed_id(alloc, kind, &path)? {
+        return Ok(id);
+    }
+    if path.as_slice() == UNFINISHED {
+        return Err(OpenError::Unfinished(path));
+    }
+    Err(OpenError::Stray(path))
+}
+
+// Returns the id of this kind whose place the path is; `None` if there is no such id.
+fn placed_id(alloc: Global, kind: Kind, path: &[u8]) -> Result<Option<ObjectId>, AllocError>
+    ensures { IfOk result (λ found. MatchOption found
+        ((id : Id) → IsTrue (is_id kind id) → path.now ≢ object_place id)
+        (λ id. IsTrue (is_id kind (id_of id)) × (path.now ≡ object_place (id_of id)))) }
+{
+    // `objects/`, two digits, a slash and the others
+    if path.len() < 11 {
+        return Ok(None);
+    }
+    let mut digits = Vec::from_slice(alloc, &path[8..10])?;
+    digits.extend_from_slice(&path[11..])?;
+    let Some(id) = parse_lower_hex(kind, &digits) else {
+        return Ok(None);
+    };
+    let place = object_place(alloc, &id)?;
+    if place.as_slice() == path {
+        Ok(Some(id))
+    } else {
+        Ok(None)
+    }
+}

@@ -1,0 +1,5 @@
+use Rattle.history_layout.proofs.OneNameStands.{tags_move_one_name as lemma}
+use Rattle.history_layout.proofs.trees.tags_move_one_name.Goals as goal
+
+pub returns : goal.returns
+returns c = lemma

@@ -1,0 +1,191 @@
+//! Laws on what the two parts pass through while a command is acted on, over the definitions alone.
+
+ghost use Rattle.history_layout.specs.Passing.{PutsPass, CommitsStoreWhole, TagsStoreWhole, StoringStops, FilesPass, MovingStops, ActsLater, ActsThen, SomeStops, FirstAreSome, NamesPass, NamesBegin};
+ghost use Rattle.history_layout.specs.MoveSteps.{NextLinesFit, NextLinesMove, NextLinesPass};
+ghost use Rattle.history_layout.specs.RenameSteps.{RenamesFit, RenamesBring, BringingPasses, RenamesEnd, TakingPasses};
+ghost use Rattle.history_layout.specs.TakeSteps.{TakingsStand, TakingsPass};
+ghost use Rattle.history_layout.specs.PackSteps.{PacksReadAlike, PacksPass, PacksStand};
+ghost use Rattle.history_layout.specs.SwitchSteps.{SwitchesStand, SwitchesPass};
+ghost use Rattle.history_layout.specs.EditSteps.{EditsPass, EditsStand};
+ghost use Rattle.history_layout.specs.CommandEdits.{CommitsEdit, TagsEdit, MovesEdit, RenamesEdit, DeletesEdit};
+
+/// While a value is put that takes no id, the tree, once recovered, holds the values of before, and
+/// the new value whole or not at all.
+pub fn puts_pass()
+    ensures { PutsPass }
+{}
+
+/// A commit stores the bytes of its `put`s, its new folders, children first, and the commit in an
+/// order in which each beginning leaves a whole store.
+pub fn commits_store_whole()
+    ensures { CommitsStoreWhole }
+{}
+
+/// A tag leaves a whole store, and so does each beginning of what it stores.
+pub fn tags_store_whole()
+    ensures { TagsStoreWhole }
+{}
+
+/// A stop while a command's values are stored leaves a repository in which no name has moved.
+pub fn storing_stops()
+    ensures { StoringStops }
+{}
+
+/// A stop while a command's names move leaves each name as before the command or as after it.
+pub fn moving_stops()
+    ensures { MovingStops }
+{}
+
+/// What commands did to the files remains true when the files go on.
+pub fn acts_later()
+    ensures { ActsLater (Unit {0}) }
+{}
+
+/// Commands after others, none of which failed, are one sequence of commands.
+pub fn acts_then()
+    ensures { ActsThen (Unit {0}) }
+{}
+
+/// A stop while a command's values are stored, in any order that leaves whole stores, leaves a
+/// repository in which no name has moved.
+pub fn some_stops()
+    ensures { SomeStops }
+{}
+
+/// A tree that holds the first of some values, of which each beginning leaves a whole store, holds
+/// some of them.
+pub fn first_are_some()
+    ensures { FirstAreSome }
+{}
+
+/// If each name's state is as before the command or as after it, recovery leaves each name and HEAD
+/// as before or as after.
+pub fn names_pass()
+    ensures { NamesPass }
+{}
+
+/// Files that represent a repository are at the beginning of each command's way.
+pub fn names_begin()
+    ensures { NamesBegin }
+{}
+
+/// If no cause holds of a rename, the new name may exist beside the others.
+pub fn renames_fit()
+    ensures { RenamesFit }
+{}
+
+/// If only HEAD was written anew, the tree holds the names and the branch after a switch.
+pub fn switches_stand()
+    ensures { SwitchesStand }
+{}
+
+/// Meanwhile HEAD's branch, once recovered, is as before the switch or as after it, and each name
+/// is as before.
+pub fn switches_pass()
+    ensures { SwitchesPass }
+{}
+
+/// While the name of a command that moves one moves, it is as before or moved, whatever is packed.
+pub fn files_pass()
+    ensures { FilesPass }
+{}
+
+/// When the names of a move's first lines have moved, the name of the next may exist beside the
+/// others, whatever is packed.
+pub fn next_lines_fit()
+    ensures { NextLinesFit }
+{}
+
+/// A move of its files moves that name.
+pub fn next_lines_move()
+    ensures { NextLinesMove }
+{}
+
+/// Meanwhile each name, once recovered, is as before the command or as after it.
+pub fn next_lines_pass()
+    ensures { NextLinesPass }
+{}
+
+/// When the files of a deleted name and its record are gone, the pair represents the repository
+/// after the deletion.
+pub fn takings_stand()
+    ensures { TakingsStand }
+{}
+
+/// While they go, each name is as before the command or as after it.
+pub fn takings_pass()
+    ensures { TakingsPass }
+{}
+
+/// If no cause holds of a rename, the move of the new name's files makes it beside the old name,
+/// whatever is packed.
+pub fn renames_bring()
+    ensures { RenamesBring }
+{}
+
+/// Meanwhile each name is as before the rename or as after it, and the old one holds its id.
+pub fn bringing_passes()
+    ensures { BringingPasses }
+{}
+
+/// When the old name's files and its record are gone too, the pair represents the repository after
+/// the rename.
+pub fn renames_end()
+    ensures { RenamesEnd }
+{}
+
+/// While they go, each name is as before the rename or as after it, and the new one holds the id.
+pub fn taking_passes()
+    ensures { TakingPasses }
+{}
+
+/// While names are packed, each name reads as before at each moment, and its log is as before.
+pub fn packs_read_alike()
+    ensures { PacksReadAlike }
+{}
+
+/// Stopped then and recovered, the tree holds the names of before.
+pub fn packs_pass()
+    ensures { PacksPass }
+{}
+
+/// When all names are packed, the pair represents the repository as before.
+pub fn packs_stand()
+    ensures { PacksStand }
+{}
+
+/// While names move, in any order between them, and one goes after them, each name is as before the
+/// command or as after it.
+pub fn edits_pass()
+    ensures { EditsPass }
+{}
+
+/// After all edits the tree holds the names of the repository after the command.
+pub fn edits_stand()
+    ensures { EditsStand }
+{}
+
+/// A commit moves its name to the commit, and changes no other.
+pub fn commits_edit()
+    ensures { CommitsEdit }
+{}
+
+/// A tag moves its name to the tag.
+pub fn tags_edit()
+    ensures { TagsEdit }
+{}
+
+/// A move moves the names of its lines.
+pub fn moves_edit()
+    ensures { MovesEdit }
+{}
+
+/// A rename moves the new name to the id that the old one holds, and removes the old one.
+pub fn renames_edit()
+    ensures { RenamesEdit }
+{}
+
+/// A deletion removes its name.
+pub fn deletes_edit()
+    ensures { DeletesEdit }
+{}

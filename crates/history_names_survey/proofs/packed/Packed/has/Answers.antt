@@ -1,6 +1,0 @@
-use Rattle.std.proofs.Common.{◌∙◌}
-use Rattle.history_names_survey.proofs.KeptNames.{found_by_bytes}
-use Rattle.history_names_survey.proofs.packed.Packed.has.Goals as goal
-
-pub returns : goal.returns
-returns c = c.contains.ensures ∙ found_by_bytes c.args.self.now.names.keys c.args.name.now

@@ -1,9 +1,0 @@
-//! Laws of the two parts of a repository, over the definitions alone.
-
-ghost use Rattle.history_names_survey.specs.Joined.{PartsJoin};
-
-/// If the objects part holds whole values, and the names part is a repository's over their facts,
-/// the two represent one whole repository.
-pub fn parts_join()
-    ensures { PartsJoin }
-{}

@@ -1,5 +1,0 @@
-use Rattle.history_steps.proofs.OfferedReads.{names_stand_for_commits as lemma}
-use Rattle.history_steps.proofs.offered.names_stand_for_commits.Goals as goal
-
-pub returns : goal.returns
-returns c = lemma

@@ -1,5 +1,0 @@
-use Rattle.history_steps.proofs.OfferedReads.{parents_are_commits as lemma}
-use Rattle.history_steps.proofs.offered.parents_are_commits.Goals as goal
-
-pub returns : goal.returns
-returns c = lemma

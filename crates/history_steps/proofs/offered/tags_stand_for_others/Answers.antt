@@ -1,5 +1,0 @@
-use Rattle.history_steps.proofs.OfferedReads.{tags_stand_for_others as lemma}
-use Rattle.history_steps.proofs.offered.tags_stand_for_others.Goals as goal
-
-pub returns : goal.returns
-returns c = lemma

@@ -1,5 +1,0 @@
-use Rattle.history_steps.proofs.PassedMoments.{acts_later as lemma}
-use Rattle.history_steps.proofs.passing.acts_later.Goals as goal
-
-pub returns : goal.returns
-returns c = lemma (Unit {0})

@@ -1,5 +1,0 @@
-use Rattle.history_steps.proofs.PassedMoments.{acts_then as lemma}
-use Rattle.history_steps.proofs.passing.acts_then.Goals as goal
-
-pub returns : goal.returns
-returns c = lemma (Unit {0})

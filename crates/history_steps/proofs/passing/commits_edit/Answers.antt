@@ -1,5 +1,0 @@
-use Rattle.history_steps.proofs.EditsOfCommands.{commits_edit as lemma}
-use Rattle.history_steps.proofs.passing.commits_edit.Goals as goal
-
-pub returns : goal.returns
-returns c = lemma

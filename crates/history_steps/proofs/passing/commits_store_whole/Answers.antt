@@ -1,5 +1,0 @@
-use Rattle.history_steps.proofs.PassedStops.{commits_store_whole as lemma}
-use Rattle.history_steps.proofs.passing.commits_store_whole.Goals as goal
-
-pub returns : goal.returns
-returns c = lemma

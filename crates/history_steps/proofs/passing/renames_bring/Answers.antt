@@ -1,5 +1,0 @@
-use Rattle.history_steps.proofs.Renames.{renames_bring as lemma}
-use Rattle.history_steps.proofs.passing.renames_bring.Goals as goal
-
-pub returns : goal.returns
-returns c = lemma

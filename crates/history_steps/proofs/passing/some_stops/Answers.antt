@@ -1,5 +1,0 @@
-use Rattle.history_steps.proofs.PassedStops.{some_stops as lemma}
-use Rattle.history_steps.proofs.passing.some_stops.Goals as goal
-
-pub returns : goal.returns
-returns c = lemma

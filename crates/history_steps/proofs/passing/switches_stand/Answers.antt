@@ -1,5 +1,0 @@
-use Rattle.history_steps.proofs.HeadSwitched.{switches_stand as lemma}
-use Rattle.history_steps.proofs.passing.switches_stand.Goals as goal
-
-pub returns : goal.returns
-returns c = lemma

@@ -1,5 +1,0 @@
-use Rattle.history_steps.proofs.TreeTexts.{bytes_are_read as lemma}
-use Rattle.history_steps.proofs.trees.bytes_are_read.Goals as goal
-
-pub returns : goal.returns
-returns c = lemma

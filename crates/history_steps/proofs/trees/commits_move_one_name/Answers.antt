@@ -1,5 +1,0 @@
-use Rattle.history_steps.proofs.OneNameStands.{commits_move_one_name as lemma}
-use Rattle.history_steps.proofs.trees.commits_move_one_name.Goals as goal
-
-pub returns : goal.returns
-returns c = lemma

@@ -1,5 +1,0 @@
-use Rattle.history_steps.proofs.TreeTexts.{folders_are_read as lemma}
-use Rattle.history_steps.proofs.trees.folders_are_read.Goals as goal
-
-pub returns : goal.returns
-returns c = lemma

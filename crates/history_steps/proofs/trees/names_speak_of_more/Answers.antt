@@ -1,5 +1,0 @@
-use Rattle.history_steps.proofs.PassedStops.{names_speak_of_more as lemma}
-use Rattle.history_steps.proofs.trees.names_speak_of_more.Goals as goal
-
-pub returns : goal.returns
-returns c = lemma

@@ -1,5 +1,0 @@
-use Rattle.history_steps.proofs.TreeTexts.{objects_tell_values as lemma}
-use Rattle.history_steps.proofs.trees.objects_tell_values.Goals as goal
-
-pub returns : goal.returns
-returns c = lemma

@@ -1,5 +1,0 @@
-use Rattle.history_steps.proofs.TreePuts.{own_ids_stay as lemma}
-use Rattle.history_steps.proofs.trees.own_ids_stay.Goals as goal
-
-pub returns : goal.returns
-returns c = lemma

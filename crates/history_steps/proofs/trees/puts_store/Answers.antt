@@ -1,5 +1,0 @@
-use Rattle.history_steps.proofs.TreePuts.{puts_store as lemma}
-use Rattle.history_steps.proofs.trees.puts_store.Goals as goal
-
-pub returns : goal.returns
-returns c = lemma

@@ -1,5 +1,0 @@
-use Rattle.history_steps.proofs.TreePuts.{stored_stands as lemma}
-use Rattle.history_steps.proofs.trees.stored_stands.Goals as goal
-
-pub returns : goal.returns
-returns c = lemma

@@ -1,5 +1,0 @@
-use Rattle.history_steps.proofs.AnyOrder.{stores_in_any_order as lemma}
-use Rattle.history_steps.proofs.trees.stores_in_any_order.Goals as goal
-
-pub returns : goal.returns
-returns c = lemma

@@ -1,5 +1,0 @@
-use Rattle.history_steps.proofs.TreePuts.{trees_tell_taken as lemma}
-use Rattle.history_steps.proofs.trees.trees_tell_taken.Goals as goal
-
-pub returns : goal.returns
-returns c = lemma

@@ -1,5 +1,0 @@
-use Rattle.history_model.proofs.PlaceLemmas.{values_have_ids as lemma}
-use Rattle.history_steps.proofs.trees.values_have_ids.Goals as goal
-
-pub returns : goal.returns
-returns c = lemma
