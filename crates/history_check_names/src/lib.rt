@@ -1,4 +1,4 @@
-//! The names part of a folder: whether it has HEAD, names and logs of a repository, nothing else.
+//! The check of a names part: whether HEAD, names and logs are a repository's, and nothing else.
 #![tactic(auto)]
 
 mod error;

@@ -1,4 +1,4 @@
-//! The survey of an objects part: whether it is whole, and if not, why.
+//! The check of an objects part: whether it is whole, and if not, why.
 #![tactic(auto)]
 
 pub mod laws;
