@@ -1,11 +1,11 @@
 -- What a look at a folder's two parts finds.
-use Rattle.std.proofs.Common.{◌≡◌, ◌≢◌, ◌∙◌, ℕ, ◌<◌, Bool, true, false, List, [], ◌∷◌, ◌++◌, length, Option, Some, None, IsTrue, refl, sym, ap, subst, codes, append_assoc}
-use Rattle.std.specs.Prelude.{is_some, option_map, unwrap_or}
+use Rattle.std.proofs.Common.{◌≡◌, ◌≢◌, ◌∙◌, ℕ, ◌<◌, Bool, true, false, List, [], ◌∷◌, ◌++◌, length, Option, Some, None, IsTrue, sym, ap, codes, append_assoc}
+use Rattle.std.specs.Prelude.{option_map, unwrap_or}
 use Rattle.std.specs.FinMap.{get}
 use Rattle.std.proofs.Math.ListN.{get_or}
 use Rattle.std.proofs.lemmas.List.{append_cancel_left, append_cancel_right}
 use Rattle.gix_hash_id.specs.declared.kind.Kind.{Kind}
-use Rattle.gix_ref_file.specs.Tree.{Tree, Node, file, folder, is_path, node_at, place_of, names_at, under, IsRooted}
+use Rattle.gix_ref_file.specs.Tree.{Tree, Node, bytes_at, bytes_of, file, folder, is_path, node_at, place_of, names_at, under, IsRooted}
 use Rattle.gix_ref_file.specs.declared.files.Place.TheVariants as places
 use Rattle.gix_ref_file.proofs.Listings.{node_is}
 use Rattle.history_texts.specs.declared.parts.Part.{Part}
@@ -80,16 +80,26 @@ by_name text line name false is ends told = λ branch formed same.
     let e : name ≡ branch = append_cancel_right name branch (10 ∷ []) (sym ends ∙ line_is text line branch is same) in
     absurd (cc (told ∙ ap is_branch e ∙ formed))
 
-pub no_file : (o : Option Bytes) (count : Option ℕ) → count ≡ option_map length o
-    → is_some count ≡ false → o ≡ None
-no_file None count is none = refl
-no_file (Some text) count is none = absurd (cc (sym none ∙ ap is_some is))
+-- what is there, by its kind and size
+module _ (tree : Tree) (path : Bytes) where
+  pub size_of : (size : ℕ) → place_of (node_at tree path) ≡ places.File size
+      → Some size ≡ option_map length (file_at tree path)
+  size_of size is = go (node_at tree path) is
+    where
+      go : (o : Option Node) → place_of o ≡ places.File size → Some size ≡ option_map length (bytes_of o)
+      go None e = cc
+      go (Some folder) e = cc
+      go (Some (file text)) e = cc
 
--- what was read is the file's text
-pub text_of : (o : Option Bytes) (text : Bytes) (count : Option ℕ) → count ≡ option_map length o
-    → is_some count ≡ true → text ≡ unwrap_or o [] → o ≡ Some text
-text_of None text count is some read = absurd (cc (sym some ∙ ap is_some is))
-text_of (Some t) text count is some read = ap Some (sym read)
+  -- and what is read of it
+  pub text_of : (size : ℕ) (text : Bytes) → place_of (node_at tree path) ≡ places.File size → text ≡ bytes_at tree path
+      → file_at tree path ≡ Some text
+  text_of size text is read = go (node_at tree path) is read
+    where
+      go : (o : Option Node) → place_of o ≡ places.File size → text ≡ unwrap_or (bytes_of o) [] → bytes_of o ≡ Some text
+      go None e read = cc
+      go (Some folder) e read = cc
+      go (Some (file bytes)) e read = ap Some (sym read)
 
 pub head_names : (tree : Tree) (text : Bytes) → file_at tree head_place ≡ Some text → TellsHead text true
     → (branch : Bytes) × NamesBranch tree branch

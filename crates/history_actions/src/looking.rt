@@ -14,14 +14,14 @@ use gix_hash::Kind;
 use gix_object_lines::cut::{strip_prefix, strip_suffix};
 use gix_ref_file::paths::{is_deeper, joined};
 use gix_ref_file::{Files, Place};
-use history_check_names::NamesError;
+use history_check_names::{MAX_LOOSE, NamesError};
 use history_model::names::{HEAD, HEADS};
 use history_texts::{Part, is_name};
 use std::alloc::Global;
 
 /// Tests that a folder's two parts are a repository's of this kind, as a stopped run leaves it:
 /// HEAD names a branch, and each file is at a place of a repository, or is one that was to be
-/// renamed to such a place. Of the files' contents only HEAD's is read.
+/// renamed to such a place. Of the files' contents only HEAD's is read, if it isn't too long.
 ///
 /// Otherwise returns why not: `NoHead` if there is no file HEAD, `BadHead` if it names no branch,
 /// `Stray` with the path of another file; or `File` if a call of the files failed, and `Memory` if
@@ -51,10 +51,14 @@ fn look_at_head<F: Files>(alloc: Global, names: &F) -> Result<(), NamesError>
     ensures wrong { Finds F.is_honest F.history names.now
         (λ tree. IfErr result (IsHeadless F.reading_may_fail tree)) }
 {
-    let mut text = Vec::new(alloc);
-    if names.read(HEAD, &mut text)?.is_none() {
+    let Place::File(len) = names.kind_of(HEAD)? else {
         return Err(NamesError::NoHead);
+    };
+    if len > MAX_LOOSE {
+        return Err(NamesError::BadHead);
     }
+    let mut text = Vec::new(alloc);
+    names.read(HEAD, &mut text)?;
     if !names_branch(&text) {
         return Err(NamesError::BadHead);
     }

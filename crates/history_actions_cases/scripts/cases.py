@@ -234,7 +234,10 @@ def looks(kind, first, log):
     stays([b"Stray", b"logs/x.log"], b"logs/x.log", head=branch)
     stays([b"Stray", b"Cargo.lock"], b"Cargo.lock", head=branch)
     stays([b"Stray", b"refs/heads/a..b.lock"], b"refs/heads/a..b.lock", head=branch)
-    for head in (b"", b"hello", branch[:-1], branch + b"\n", b"ref: refs/tags/v\n", b"ref: HEAD\n", kind.commit + b"\n"):
+    # The longest name of a branch makes the longest HEAD.
+    longest = b"ref: refs/heads/" + b"w" * 1013
+    row(k, CREATE, files("names", "write", b"HEAD", longest + b"\n"), CHECK, RECOVER, CHECK)
+    for head in (b"", b"hello", branch[:-1], branch + b"\n", b"ref: refs/tags/v\n", b"ref: HEAD\n", kind.commit + b"\n", longest + b"w\n", longest * 4):
         stays([b"BadHead"], b"logs/x.log", b"refs/heads/main.lock", head=head)
     for path in (b"objects/pack/x", b"objects/info", b"objects/" + b"0" * 40, b"objects/0a/" + kind.blob[3:], b"objects/0g/" + kind.blob[2:], b"objects/0A/" + kind.blob[2:]):
         row(k, CREATE, first, *put(path, part="objects", made=made), refused("recover", b"Stray", path), there(path, "objects"))

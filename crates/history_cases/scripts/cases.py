@@ -21,7 +21,7 @@ from logs import indexes, logs, one_time, path_logs
 from names import deletions, moves, of_names, switches
 from openings import opening, reopened_between, reopening
 from packs import pack_stops, packed_delete_stops, packed_rename_stops, packs, reopened_packs
-from pieces import pieces
+from pieces import cuts, pieces
 from printed import printed
 from readings import readers, readings
 from recoveries import recoveries
@@ -58,4 +58,5 @@ if __name__ == "__main__":
     for number in range(80):
         grafts_by_chance(chance, list(KINDS)[number % 2])
     pieces()
+    cuts()
     write(Path(__file__), ROWS + kept(__file__, "files", "sizes"))

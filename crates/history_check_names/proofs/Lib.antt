@@ -15,7 +15,7 @@ mod PackedTexts
 mod ReadSoFar
 mod RecordCauses
 mod Returns
-mod Sizes
+pub mod Sizes
 mod Standing
 mod Surveyed
 mod Told

@@ -11,4 +11,5 @@ mod records;
 mod survey;
 
 pub use error::NamesError;
+pub use loose::MAX_LOOSE;
 pub use survey::survey_names;

@@ -9,7 +9,7 @@ use gix_ref_format::ids::parse_hex;
 use history_texts::is_name;
 
 /// The most bytes of a name's file, and of HEAD: `ref: `, a name and a line feed.
-pub(crate) const MAX_LOOSE: u64 = 1_030;
+pub const MAX_LOOSE: u64 = 1_030;
 
 /// What the text of a name's file says.
 #[derive(Clone, Copy)]

@@ -56,8 +56,8 @@ fn act_on_folder(rt: &HostRuntime, asked: &Asked) -> Result<u8, AllocError> {
     let mut errors = Stream::new(rt.stderr());
     let mut performed = perform(rt.alloc(), asked, objects, names, &mut reader, &mut writer);
     let status = report(asked.kind, &performed.answer, &mut errors);
-    note_failure(rt, &mut performed.objects);
-    note_failure(rt, &mut performed.names);
+    note_failure(rt, asked.folder.as_bytes(), &mut performed.objects);
+    note_failure(rt, asked.folder.as_bytes(), &mut performed.names);
     Ok(status)
 }
 

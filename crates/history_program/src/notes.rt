@@ -1,7 +1,7 @@
 //! What is noted after a fault: which file, and why.
 
 use crate::turn::Refusal;
-use gix_ref_folder::{Disk, Folder};
+use gix_ref_folder::{Disk, Failure, Folder};
 use history::Stream;
 use history_word::write_all;
 use std::alloc::{AllocError, Global};
@@ -13,9 +13,9 @@ pub fn note_refusal(rt: &HostRuntime, folder: &[u8], refusal: &Refusal) {
 }
 
 /// Notes the last call that failed in a part of a folder, if one did.
-pub fn note_failure(rt: &HostRuntime, part: &mut Folder<Disk<&HostRuntime>>) {
+pub fn note_failure(rt: &HostRuntime, folder: &[u8], part: &mut Folder<Disk<&HostRuntime>>) {
     if let Some(failure) = part.last_failure() {
-        note(rt, failure.text(rt.alloc()));
+        note(rt, text_of_failure(rt.alloc(), folder, failure));
     }
 }
 
@@ -35,6 +35,21 @@ fn line_of(alloc: Global, text: &[u8]) -> Result<Vec<u8>, AllocError> {
     line.extend_from_slice(text)?;
     line.push(b'\n')?;
     Ok(line)
+}
+
+// Returns the path and the reason of a failure; of the root's, whose path is empty, the folder's.
+fn text_of_failure(
+    alloc: Global,
+    folder: &[u8],
+    failure: &Failure,
+) -> Result<Vec<u8>, AllocError> {
+    let text = failure.text(alloc)?;
+    if !failure.path().is_empty() {
+        return Ok(text);
+    }
+    let mut named = Vec::from_slice(alloc, folder)?;
+    named.extend_from_slice(&text)?;
+    Ok(named)
 }
 
 // Returns the folder, and why it isn't acted on.

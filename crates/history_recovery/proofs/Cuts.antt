@@ -1,5 +1,5 @@
 -- Logs are cut, one after another, and what is cut stays so.
-use Rattle.std.proofs.Common.{◌≡◌, ◌≢◌, ◌⊎◌, inl, inr, refl, sym, ◌∙◌, ap, subst, ℕ, ◌<◌, Bool, true, false, cond, not, ◌&&◌, ◌||◌, List, [], ◌∷◌, ◌++◌, length, drop, Option, Some, None, option_map, is_some, unwrap_or, codes, append_assoc}
+use Rattle.std.proofs.Common.{◌≡◌, ◌≢◌, ◌⊎◌, inl, inr, refl, sym, ◌∙◌, ap, subst, ℕ, ◌<◌, Bool, true, false, cond, not, ◌&&◌, ◌||◌, List, [], ◌∷◌, ◌++◌, length, take, drop, Option, Some, None, option_map, is_some, unwrap_or, codes, append_assoc}
 use Rattle.std.specs.Prelude.{IsTrue}
 use Rattle.std.proofs.Math.ListN.{get_or}
 use Rattle.std.specs.FinMap.{get, insert, remove}
@@ -175,9 +175,15 @@ file_is tree (b ∷ path) text log stands = go (get tree (b ∷ path)) stands
     go (Some (file bytes)) e = cc
     go (Some folder) e = cc
 
-module _ (kind : Kind) (tree : Tree) (log whole : Bytes) (may : MayCut kind log whole tree) where
-  lock : Bytes
-  lock = lock_place log
+module _ (kind : Kind) (tree : Tree) (log : Bytes) (end : ℕ) (may : MayCut kind log end tree) where
+  abbrev whole : Bytes
+  whole = take end (bytes_at tree log)
+
+  text_is : bytes_at tree log ≡ may.text
+  text_is = ap (λ o. unwrap_or o []) may.stands
+
+  lines_are : whole ≡ whole_lines may.text
+  lines_are = ap (take end) text_is ∙ may.lines
 
   while_locked : IsTrue (may_hold_file tree (lock_place log)) → (x : Tree) → ChangesOneFile (lock_place log) tree x → NamesAlike kind tree x
   while_locked allowed x one =
@@ -208,28 +214,29 @@ module _ (kind : Kind) (tree : Tree) (log whole : Bytes) (may : MayCut kind log 
     while_renamed : (x : Tree) → MayLeave (to_rename (lock_place log) log) locked x → NamesAlike kind locked x
     while_renamed x (inl same) = ap (recovered_names kind) same
     while_renamed x (inr (n, may_move, at)) =
-        ap (recovered_names kind) at ∙ with_renamed kind locked log may.text may.is_log log_stands lock_there (lock_holds ∙ may.lines)
+        ap (recovered_names kind) at ∙ with_renamed kind locked log may.text may.is_log log_stands lock_there (lock_holds ∙ lines_are)
 
     pub replaced : (new : Tree) → new ≡ after (to_rename (lock_place log) log) locked → Replaces log tree new
     replaced new at =
         at
-        ∙ ap (λ bs. insert (remove locked (lock_place log)) log (file bs)) (lock_holds ∙ may.lines ∙ ap whole_lines (sym (ap (λ o. unwrap_or o []) may.stands)))
+        ∙ ap (λ bs. insert (remove locked (lock_place log)) log (file bs)) (lock_holds ∙ lines_are ∙ ap whole_lines (sym text_is))
         ∙ ap (λ t. insert t log (file (whole_lines (bytes_at tree log))))
         (ap (λ t. remove t (lock_place log)) is ∙ remove-insert tree (lock_place log) (file whole)
         ∙ without_none tree (lock_place log) (lock_none kind tree (lock_place log) may.kept (lock_is_lock log) (plain_get tree (lock_place log) allowed)))
 
-pub locked_alike : (kind : Kind) (log whole : Bytes) (old new : History) → MayCut kind log whole old.tree → IsTrue (may_hold_file old.tree (lock_place log)) → Adds (ChangesOneFile (lock_place log) old.tree) old new → Adds (NamesAlike kind old.tree) old new
-locked_alike kind log whole old new may allowed adds = adds_weaker old new adds (while_locked kind old.tree log whole may allowed)
+pub locked_alike : (kind : Kind) (log : Bytes) (end : ℕ) (old new : History) → MayCut kind log end old.tree → IsTrue (may_hold_file old.tree (lock_place log)) → Adds (ChangesOneFile (lock_place log) old.tree) old new → Adds (NamesAlike kind old.tree) old new
+locked_alike kind log end old new may allowed adds = adds_weaker old new adds (while_locked kind old.tree log end may allowed)
 
-pub renamed_alike : (kind : Kind) (log whole : Bytes) (old locked new : History) → MayCut kind log whole old.tree → IsTrue (may_hold_file old.tree (lock_place log)) → locked.tree ≡ insert old.tree (lock_place log) (file whole)
+pub renamed_alike : (kind : Kind) (log : Bytes) (end : ℕ) (old locked new : History) → MayCut kind log end old.tree → IsTrue (may_hold_file old.tree (lock_place log)) → locked.tree ≡ insert old.tree (lock_place log) (file (take end (bytes_at old.tree log)))
     → Adds (ChangesOneFile (lock_place log) old.tree) old locked → Adds (MayLeave (to_rename (lock_place log) log) locked.tree) locked new → Adds (NamesAlike kind old.tree) old new
-renamed_alike kind log whole old locked new may allowed is first second =
-    then_alike kind old locked new (locked_alike kind log whole old locked may allowed first) (adds_weaker locked new second (while_renamed kind old.tree log whole may locked.tree allowed is))
+renamed_alike kind log end old locked new may allowed is first second =
+    then_alike kind old locked new (locked_alike kind log end old locked may allowed first) (adds_weaker locked new second (while_renamed kind old.tree log end may locked.tree allowed is))
 
 -- ---- one log
 
-pub may_cut : (kind : Kind) (tree : Tree) (log text whole : Bytes) → AreAllKept kind tree → is_log_place log ≡ true → file_at tree log ≡ Some text → whole ≡ whole_lines text → MayCut kind log whole tree
-may_cut kind tree log text whole kept is stands lines = record { kept = kept; is_log = is; text = text; stands = stands; lines = lines }
+pub may_cut : (kind : Kind) (tree : Tree) (log : Bytes) (end : ℕ) → AreAllKept kind tree → is_log_place log ≡ true → file_at tree log ≡ Some (bytes_at tree log)
+    → take end (bytes_at tree log) ≡ whole_lines (bytes_at tree log) → MayCut kind log end tree
+may_cut kind tree log end kept is stands lines = record { kept = kept; is_log = is; text = bytes_at tree log; stands = stands; lines = lines }
 
 module _ (log text : Bytes) (old new : Tree) (is_log : is_log_place log ≡ true) (stands : file_at old log ≡ Some text) (replaces : Replaces log old new) where
   new_at : (q : Bytes) → get new q ≡ cond (same_path q log) (Some (file (whole_lines text))) (get old q)

@@ -1,5 +1,5 @@
 -- What recovery leaves at each path, and which changes of the names part it doesn't see.
-use Rattle.std.proofs.Common.{◌≡◌, refl, sym, ◌∙◌, ap, subst, Bool, true, false, cond, not, ◌&&◌, ◌||◌, ◌==◌, [], ◌∷◌, length, Option, Some, None, option_map, is_some, unwrap_or, length-append, arith, codes}
+use Rattle.std.proofs.Common.{◌≡◌, ◌≢◌, refl, sym, ◌∙◌, ap, subst, Bool, true, false, cond, not, ◌&&◌, ◌||◌, ◌==◌, [], ◌∷◌, length, Option, Some, None, option_map, is_some, unwrap_or, length-append, arith, codes}
 use Rattle.std.specs.Prelude.{IsTrue, IsFalse}
 use Rattle.std.specs.FinMap.{get, insert, remove, retain_keys}
 use Rattle.std.proofs.lemmas.Bool.{or_from}
@@ -185,6 +185,9 @@ lock_apart path = by_test (same_path (lock_place path) path) refl
     by_test : (same : Bool) → same_path (lock_place path) path ≡ same → same ≡ false
     by_test false is = refl
     by_test true is = absurd (omega (arith, ap length (one_path (lock_place path) path is), length-append path (codes ".lock")))
+
+pub not_its_lock : (path : Bytes) → path ≢ lock_place path
+not_its_lock path same = absurd (omega (arith, ap length same, length-append path (codes ".lock")))
 
 pub apart_turned : (p q : Bytes) → same_path p q ≡ false → same_path q p ≡ false
 apart_turned p q apart = by_test (same_path q p) refl

@@ -1,12 +1,13 @@
 mod Absences
 mod Below
+mod Copies
 mod Cuts
 mod Ends
 mod Folders
 mod Left
+mod Lengths
 mod Lines
 mod Locks
 mod Recoveries
 mod Rooms
 mod Stood
-mod TornEnds

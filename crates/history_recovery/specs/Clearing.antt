@@ -1,10 +1,10 @@
 -- The words of private contracts: what clearing and cutting make of the names part.
-use Rattle.std.specs.Prelude.{◌≡◌, ◌⊎◌, ℕ, suc, Bool, true, false, not, ◌&&◌, ◌||◌, ◌∷◌, ◌++◌, [], Some, None, option_map, unwrap_or, is_none, IsSome, IsTrue, bytes_eq, codes}
+use Rattle.std.specs.Prelude.{◌≡◌, ◌⊎◌, ℕ, suc, Bool, true, false, ◌&&◌, ◌||◌, ◌∷◌, ◌++◌, [], take, Some, None, option_map, unwrap_or, is_none, IsSome, IsTrue, codes}
 use Rattle.std.specs.FinMap.{get, insert}
 use Rattle.gix_ref_file.specs.Tree.{Tree, file, bytes_at}
 use Rattle.gix_ref_format.specs.Lookup.{packed_hit}
 use Rattle.gix_ref_format.specs.PackedKept.{kept}
-use Rattle.history_model.specs.Bytes.{Bytes, begins, ends}
+use Rattle.history_model.specs.Bytes.{Bytes, begins}
 use Rattle.history_model.specs.Forms.{is_name}
 use Rattle.history_model.specs.Logs.{whole_lines}
 use Rattle.history_model.specs.Places.{file_at, packed_place, is_log_place, log_name, is_lock_file}
@@ -64,11 +64,6 @@ pub record Clears (kind : Kind) (old tree : Tree) : Type 0 where
 abbrev pub IsLogFolder : Bytes → Type 0
 IsLogFolder place = IsTrue (begins (codes "logs/") (place ++ 47 ∷ []))
 
--- whether there is a file at the path whose last line has no line feed
-abbrev pub has_torn_end : Tree → Bytes → Bool
-has_torn_end tree path =
-    let text = bytes_at tree path in not (bytes_eq text []) && not (ends (10 ∷ []) text)
-
 -- a log at the path has only whole lines
 abbrev pub IsCut : Tree → Bytes → Type 0
 IsCut tree path = option_map (recovered_node path) (get tree path) ≡ get tree path
@@ -86,14 +81,18 @@ Cuts old new =
 abbrev pub lock_place : Bytes → Bytes
 lock_place path = path ++ codes ".lock"
 
--- In a tree without leftovers these are the whole lines of a log.
-pub record MayCut (kind : Kind) (log whole : Bytes) (tree : Tree) : Type 0 where
+-- In a tree without leftovers the whole lines of a log end here.
+pub record MayCut (kind : Kind) (log : Bytes) (end : ℕ) (tree : Tree) : Type 0 where
   pub kept : AreAllKept kind tree
   pub is_log : IsTrue (is_log_place log)
   pub text : Bytes
   pub stands : file_at tree log ≡ Some text
-  pub lines : whole ≡ whole_lines text
+  pub lines : take end text ≡ whole_lines text
 
 -- the log has only its whole lines, and everything else is as before
 abbrev pub Replaces : Bytes → Tree → Tree → Type 0
 Replaces log old new = new ≡ insert old log (file (whole_lines (bytes_at old log)))
+
+-- the most bytes of a file that are read at once
+abbrev pub max_piece : ℕ
+max_piece = 65_536

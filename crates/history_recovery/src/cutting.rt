@@ -1,16 +1,17 @@
 //! Cuts logs after their last line feeds.
-ghost use Rattle.std.specs.Prelude.{◌≡◌, ◌≤◌, OnOk, IfOk, IsErrOf, IsTrue};
+ghost use Rattle.std.specs.Prelude.{◌≡◌, ◌≤◌, length, take, OnOk, IfOk, IsErrOf, IsTrue};
 ghost use Rattle.gix_ref_file.specs.Calls.{Achieves, Finds, HasFault, Passes};
+ghost use Rattle.gix_ref_file.specs.Tree.{bytes_at};
 ghost use Rattle.gix_ref_file.specs.declared.files.FileError.TheVariants.{Failed, Memory};
 ghost use Rattle.history_model.specs.Places.{is_log_place};
 ghost use Rattle.history_model.specs.Logs as logs;
 ghost use Rattle.gix_hash_id.specs.declared.kind.Kind.{Kind};
-ghost use Rattle.history_recovery.specs.Clearing.{AreAllKept, AreCutBelow, Cuts, IsCut, IsLogFolder, MayCut, Replaces, has_torn_end, lock_place};
+ghost use Rattle.history_recovery.specs.Clearing.{AreAllKept, AreCutBelow, Cuts, IsCut, IsLogFolder, MayCut, Replaces, lock_place};
 ghost use Rattle.history_recovery.specs.Recovering.{NamesAlike};
 
+use crate::pieces::{MAX_PIECE, copy_front, piece_at};
 use gix_ref_file::paths::{is_deeper, joined};
 use gix_ref_file::{FileError, Files, Place};
-use gix_ref_way::write_anew;
 use std::alloc::{AllocError, Global};
 
 /// Cuts the logs below a folder of logs, in a tree without leftovers.
@@ -47,7 +48,7 @@ pub(crate) fn cut_below<F: Files>(
     Ok(())
 }
 
-// Cuts the log at a path, if there is a file. Only a log whose last line is torn is read whole.
+// Cuts the log at a path, if there is a file.
 fn cut_log<F: Files>(alloc: Global, files: &mut F, log: &[u8]) -> Result<(), FileError>
     ensures honest { F.is_honest files.old → F.is_honest files.new }
     ensures alike { (kind : Kind) → AreAllKept kind (F.history files.old).tree
@@ -68,54 +69,61 @@ fn cut_log<F: Files>(alloc: Global, files: &mut F, log: &[u8]) -> Result<(), Fil
         → F.is_honest files.old → IsErrOf result Failed
         → HasFault F.failures F.reading_may_fail files.old files.new }
 {
-    if !is_torn(files, log)? {
+    let Place::File(len) = files.kind_of(log)? else {
+        return Ok(());
+    };
+    let end = end_of_lines(alloc, &*files, log, len)?;
+    if end == len {
         return Ok(());
     }
-    let mut text = Vec::new(alloc);
-    files.read(log, &mut text)?;
-    let whole = whole_lines(&text);
-    replace_log(alloc, files, log, whole)
+    replace_log(alloc, files, log, end)
 }
 
-// Returns whether the file at a path ends within a line, by its last byte alone.
-fn is_torn<F: Files>(files: &F, path: &[u8]) -> Result<bool, FileError>
-    ensures torn { Finds F.is_honest F.history files.now
-        (λ tree. IfOk result (λ torn. torn ≡ has_torn_end tree path.now)) }
+// Returns where the last line feed of a file of so many bytes ends, 0 if it has none. The file is
+// read in pieces, the last one first.
+fn end_of_lines<F: Files>(alloc: Global, files: &F, path: &[u8], len: u64) -> Result<u64, FileError>
+    requires size { Finds F.is_honest F.history files.now
+        (λ tree. len ≡ length (bytes_at tree path.now)) }
+    ensures found { Finds F.is_honest F.history files.now
+        (λ tree. IfOk result (λ end. take end (bytes_at tree path.now)
+        ≡ logs.whole_lines (bytes_at tree path.now))) }
     ensures failed { IsErrOf result Failed → F.reading_may_fail }
 {
-    let Place::File(len) = files.kind_of(path)? else {
-        return Ok(false);
-    };
-    if len == 0 {
-        return Ok(false);
+    let mut end = len;
+    'pieces: while end > 0 {
+        let start = end.saturating_sub(MAX_PIECE);
+        let piece = piece_at(alloc, files, path, start, end - start)?;
+        let whole = whole_lines(&piece);
+        if !whole.is_empty() {
+            return Ok(start + whole.len() as u64);
+        }
+        end = start;
     }
-    let mut last = [0; 1];
-    files.read_at(path, len - 1, &mut last)?;
-    Ok(last[0] != b'\n')
+    Ok(0)
 }
 
-// Replaces a log by its whole lines: writes them to its lock file, which is made anew, and renames
-// that.
+// Replaces a log by its first bytes, which are its whole lines: copies them to its lock file, which
+// is made anew, and renames that.
 fn replace_log<F: Files>(
     alloc: Global,
     files: &mut F,
     log: &[u8],
-    whole: &[u8],
+    end: u64,
 ) -> Result<(), FileError>
     ensures honest { F.is_honest files.old → F.is_honest files.new }
-    ensures alike { (kind : Kind) → MayCut kind log.now whole.now (F.history files.old).tree
+    ensures alike { (kind : Kind) → MayCut kind log.now end (F.history files.old).tree
         → Passes F.is_honest F.history files.old files.new (NamesAlike kind) }
-    ensures replaced { (kind : Kind) → MayCut kind log.now whole.now (F.history files.old).tree
+    ensures replaced { (kind : Kind) → MayCut kind log.now end (F.history files.old).tree
         → Achieves F.is_honest F.history files.old files.new result (Replaces log.now) }
     ensures later { F.failures files.old ≤ F.failures files.new }
     ensures unfailed { OnOk result (F.failures files.new ≡ F.failures files.old) }
     ensures memory { IsErrOf result Memory → F.failures files.new ≡ F.failures files.old }
-    ensures failed { (kind : Kind) → MayCut kind log.now whole.now (F.history files.old).tree
+    ensures failed { (kind : Kind) → MayCut kind log.now end (F.history files.old).tree
         → F.is_honest files.old → IsErrOf result Failed
         → HasFault F.failures F.reading_may_fail files.old files.new }
 {
     let lock = lock_path(alloc, log)?;
-    write_anew(alloc, files, &lock, whole)?;
+    copy_front(alloc, files, log, &lock, end)?;
     files.rename(alloc, &lock, log)
 }
 

@@ -4,6 +4,7 @@
 mod clearing;
 mod cutting;
 mod packed;
+mod pieces;
 mod recovering;
 
 pub use recovering::{RecoverError, recover};
