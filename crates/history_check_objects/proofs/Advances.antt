@@ -17,11 +17,12 @@ use Rattle.history_check_objects.specs.Flaws.{IsObjectsFlaw, Names, deep}
 use Rattle.history_check_objects.specs.Links.{reach_of}
 use Rattle.history_check_objects.specs.Passing.{IsPassed, IsRefusedLink, IsSame}
 use Rattle.history_check_objects.specs.Surveyed.{IsLacking}
-use Rattle.history_check_objects.specs.Surveying.{Dones, IsAmong, IsDone, IsOpen, Reaches, Stands, Unmet, by_id, link_of, links_of}
+use Rattle.history_check_objects.specs.Surveying.{IsAmong, IsDone, IsOpen, Reaches, Stands, Unmet, by_id, link_of, links_of}
 use Rattle.history_texts.specs.declared.open_error.OpenError.{OpenError}
 use Rattle.history_texts.specs.declared.open_error.NamedBy.TheVariants.{Object}
 use Rattle.history_texts.specs.declared.open_error.OpenError.TheVariants.{BadTree, Missing, WrongKind, Cycle}
-use Rattle.history_check_objects.specs.declared.order.Done.{Done}
+use Rattle.history_check_objects.specs.declared.stored.Done.{Done}
+use Rattle.history_check_objects.specs.declared.stored.Stored.{Stored}
 use Rattle.history_check_objects.specs.declared.order.Frame.{Frame}
 use Rattle.history_check_objects.specs.declared.reading.Link as own
 use Rattle.history_check_objects.proofs.Begins.{told_apart, told_open}
@@ -60,7 +61,7 @@ either_max a b = go (nat_lt a b) refl
 pub same_then_same : (old mid new : Frame) → IsSame old mid → IsSame mid new → IsSame old new
 same_then_same old mid new first second = record { id = second.id ∙ first.id; kind = second.kind ∙ first.kind; links = second.links ∙ first.links }
 
-module _ (kind : Kind) (tree : Tree) (ids : List ObjectId) (unmet : Unmet) (done : Dones) (frame : Frame) (frames : List Frame) (s : Stands kind tree ids unmet done (frame ∷ frames) None)
+module _ (kind : Kind) (tree : Tree) (ids : List ObjectId) (unmet : Unmet) (done : Stored) (frame : Frame) (frames : List Frame) (s : Stands kind tree ids unmet done (frame ∷ frames) None)
     (link : own.Link) (at : link ≡ get_or frame.links.items frame.next link) (less : frame.next < length frame.links.items) where
   abbrev values : Values
   values = s.values
@@ -84,7 +85,7 @@ module _ (kind : Kind) (tree : Tree) (ids : List ObjectId) (unmet : Unmet) (done
   to_due has new removed = taken kind tree ids unmet done (frame ∷ frames) s link.id has (link.kind, named) new removed
 
   -- it is to none
-  pub to_none : maps.get by_id done link.id ≡ None → sets.contains by_id unmet link.id ≡ false → (items : List Frame) → frames ≡ reverse items → (flaw : OpenError) → IsLacking items frame.id link.id flaw → IsObjectsFlaw ⊥ kind tree flaw
+  pub to_none : maps.get by_id done.done link.id ≡ None → sets.contains by_id unmet link.id ≡ false → (items : List Frame) → frames ≡ reverse items → (flaw : OpenError) → IsLacking items frame.id link.id flaw → IsObjectsFlaw ⊥ kind tree flaw
   to_none absent gone items are (Cycle id) (same, inl e) = subst (λ (x : ObjectId). IsObjectsFlaw ⊥ kind tree (Cycle x)) (sym same) (cycle kind tree ids unmet done frame frames s (id_of link.id) link.kind named (inl e))
   to_none absent gone items are (Cycle id) (same, inr e) =
       subst (λ (x : ObjectId). IsObjectsFlaw ⊥ kind tree (Cycle x)) (sym same) (cycle kind tree ids unmet done frame frames s (id_of link.id) link.kind named (inr (subst (IsAmong (id_of link.id)) (sym are) (told_open (id_of link.id) items e))))
@@ -96,7 +97,7 @@ module _ (kind : Kind) (tree : Tree) (ids : List ObjectId) (unmet : Unmet) (done
       (λ among. elim among [ inl e ↦ apart e | inr a ↦ told_apart (id_of link.id) items none (subst (IsAmong (id_of link.id)) are a) ])))
   to_none absent gone items are _ is = absurd is
 
-  module _ (d : Done) (noted_at : maps.get by_id done link.id ≡ Some d) where
+  module _ (d : Done) (noted_at : maps.get by_id done.done link.id ≡ Some d) where
     noted : IsDone kind tree s.values (id_of link.id) d
     noted = s.dones link.id d noted_at
 

@@ -1,6 +1,6 @@
 -- Where a survey begins, and how its calls go on.
-use Rattle.std.proofs.Common.{◌≡◌, ℕ, ◌+◌, ◌<◌, ◌≤◌, ◌⊎◌, Bool, true, false, cond, ◌||◌, List, [], ◌∷◌, ◌++◌, length, reverse, refl, sym, ◌∙◌, ap, subst, arith, inl, inr, Some, None, get_or, take}
-use Rattle.std.specs.Prelude.{Contains, ◌/◌, ◌%◌}
+use Rattle.std.proofs.Common.{◌≡◌, ℕ, ◌+◌, ◌<◌, ◌≤◌, ◌⊎◌, Bool, true, false, cond, ◌||◌, List, [], ◌∷◌, ◌++◌, length, reverse, refl, sym, ◌∙◌, ap, subst, arith, inl, inr, Some, None, get_or, option_map, take}
+use Rattle.std.specs.Prelude.{Contains, option_and_then, ◌/◌, ◌%◌}
 use Rattle.std.specs.BTreeMap as maps
 use Rattle.std.specs.BTreeSet as sets
 use Rattle.std.specs.FinMap.{empty, get, get-empty}
@@ -24,10 +24,12 @@ use Rattle.history_model.proofs.WholeLists.{In, clash, none_is_some, one_passes,
 use Rattle.history_model.proofs.WholeSteps.{contains_in, in_contains}
 use Rattle.history_texts.specs.IdLists.{is_one_of}
 use Rattle.history_check_objects.specs.Opened.{AreInTree}
+use Rattle.history_check_objects.specs.Stored.{target_of}
 use Rattle.history_check_objects.specs.Surveyed.{is_open}
-use Rattle.history_check_objects.specs.Surveying.{AreListed, Dones, IsAmong, Stands, Unmet, by_id}
+use Rattle.history_check_objects.specs.Surveying.{AreListed, IsAmong, Stands, Unmet, by_id}
 use Rattle.history_check_objects.proofs.Steps.{take_more, take_whole}
-use Rattle.history_check_objects.specs.declared.order.Done.{Done}
+use Rattle.history_check_objects.specs.declared.stored.Done.{Done}
+use Rattle.history_check_objects.specs.declared.stored.Stored.{Stored}
 use Rattle.history_check_objects.specs.declared.order.Frame.{Frame}
 
 -- ---- ids and what they are of
@@ -69,14 +71,15 @@ empty_in_tree kind tree = record {
 }
 
 -- all listed objects are to come
-pub begun : (kind : Kind) (tree : Tree) (ids : List ObjectId) (unmet : Unmet) (done : Dones) → AreListed kind tree ids → ((id : ObjectId) → sets.contains by_id unmet id ≡ is_one_of ids (id_of id)) → done.entries ≡ []
-    → Stands kind tree ids unmet done [] None
-begun kind tree ids unmet done listed all none = record {
+pub begun : (kind : Kind) (tree : Tree) (ids : List ObjectId) (unmet : Unmet) (done : Stored) → AreListed kind tree ids → ((id : ObjectId) → sets.contains by_id unmet id ≡ is_one_of ids (id_of id)) → done.done.entries ≡ []
+    → done.tags.entries ≡ [] → Stands kind tree ids unmet done [] None
+begun kind tree ids unmet done listed all none untagged = record {
   values = empty;
   in_tree = empty_in_tree kind tree;
   listed = listed;
   known = λ id v at. nothing id v at;
   dones = λ id d at. none_is_some d (sym (ap (λ (es : List (ObjectId × Done)). lookup (maps.is_at (by_id id)) es) none) ∙ at);
+  tags = λ id. ap (λ (es : List (ObjectId × ObjectId)). option_map id_of (lookup (maps.is_at (by_id id)) es)) untagged ∙ sym (ap (option_and_then target_of) (get-empty model_order (id_of id)));
   open_ones = tt;
   read = λ id among. absurd among;
   to_come = λ id h. (is_listed id (sym (all id) ∙ h), get-empty model_order (id_of id), tt);

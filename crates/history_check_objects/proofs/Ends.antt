@@ -1,16 +1,19 @@
 -- Where a survey has come to its end, the tree holds the values of the listed objects.
-use Rattle.std.proofs.Common.{◌≡◌, Bool, true, false, List, [], refl, sym, ◌∙◌, ap, inl, inr, Option, Some, None, is_some, option_map}
-use Rattle.std.specs.Prelude.{Contains}
+use Rattle.std.proofs.Common.{◌≡◌, Bool, true, false, cond, List, [], ◌∷◌, refl, sym, ◌∙◌, ap, inl, inr, Option, Some, None, is_some, option_map}
+use Rattle.std.specs.Prelude.{Contains, option_and_then}
 use Rattle.std.specs.BTreeMap as maps
+use Rattle.std.specs.Map.{lookup}
+use Rattle.std.specs.Ordering.{is_eq}
 use Rattle.std.specs.List.{list_any}
 use Rattle.std.specs.FinMap.{contains_key, get}
 use Rattle.gix_hash_id.specs.Id.{Id, id_of}
-use Rattle.gix_hash_id.specs.Order.{id_eq}
+use Rattle.gix_hash_id.specs.Order.{id_cmp, id_eq}
+use Rattle.gix_hash_id.specs.OrderLaws.{id_tied}
 use Rattle.gix_hash_id.specs.declared.kind.Kind.{Kind}
 use Rattle.gix_hash_id.specs.declared.object_id.ObjectId.{ObjectId}
 use Rattle.gix_ref_file.specs.Tree.{Tree}
 use Rattle.history_model.specs.Bytes.{Bytes}
-use Rattle.history_model.specs.Objects.{Value, value_text}
+use Rattle.history_model.specs.Objects.{Value, object_kind, value_text}
 use Rattle.history_model.specs.Places.{file_at}
 use Rattle.history_model.specs.Repository.{HaveOwnIds, Values}
 use Rattle.history_model.specs.StandsFor.{value_files}
@@ -19,26 +22,32 @@ use Rattle.history_model.proofs.PlaceLemmas.{file_at_id, file_has_id}
 use Rattle.history_model.proofs.WholeLists.{clash, none_is_some, one_passes, passes_one}
 use Rattle.history_model.proofs.WholeSteps.{contains_in, in_contains}
 use Rattle.history_texts.specs.IdLists.{is_one_of}
+use Rattle.std.proofs.lemmas.Option.{same_Some}
+use Rattle.history_check_objects.specs.Stored.{at_id, fact_noted, fact_of, facts_in, target_of}
 use Rattle.history_check_objects.specs.Surveyed.{IsWholePart}
-use Rattle.history_check_objects.specs.Surveying.{Dones, Stands, Unmet, by_id}
-use Rattle.history_check_objects.specs.declared.order.Done.{Done}
+use Rattle.history_check_objects.specs.Surveying.{Stands, Unmet, by_id}
+use Rattle.history_check_objects.specs.declared.stored.Done.{Done}
+use Rattle.history_check_objects.specs.declared.stored.Stored.{Stored}
 
-module _ (kind : Kind) (tree : Tree) (ids : List ObjectId) (unmet : Unmet) (done : Dones) (s : Stands kind tree ids unmet done [] None) (ended : unmet.keys ≡ []) where
+module _ (kind : Kind) (tree : Tree) (ids : List ObjectId) (unmet : Unmet) (done : Stored) (s : Stands kind tree ids unmet done [] None) (ended : unmet.keys ≡ []) where
   values : Values
   values = s.values
 
   own : HaveOwnIds kind s.values
   own = ((s.in_tree).sound).whole.own_ids
 
-  value_at : (id : ObjectId) → Contains ids id → (v : Value) × (get s.values (id_of id) ≡ Some v)
-  value_at id has = elim (s.each id has) [
+  is_noted : (id : ObjectId) → Contains ids id → is_some (maps.get by_id done.done id) ≡ true
+  is_noted id has = elim (s.each id has) [
     | inl a ↦ clash a (ap (λ (ks : List ObjectId). list_any (maps.is_at (by_id id)) ks) ended)
     | inr (inl (x, e, f)) ↦ none_is_some x e
     | inr (inr (inl a)) ↦ absurd a
-    | inr (inr (inr a)) ↦ noted (maps.get by_id done id) refl a
+    | inr (inr (inr a)) ↦ a
   ]
+
+  value_at : (id : ObjectId) → Contains ids id → (v : Value) × (get s.values (id_of id) ≡ Some v)
+  value_at id has = noted (maps.get by_id done.done id) refl (is_noted id has)
     where
-      noted : (o : Option Done) → maps.get by_id done id ≡ o → is_some o ≡ true → (v : Value) × (get s.values (id_of id) ≡ Some v)
+      noted : (o : Option Done) → maps.get by_id done.done id ≡ o → is_some o ≡ true → (v : Value) × (get s.values (id_of id) ≡ Some v)
       noted None e h = cc
       noted (Some d) e h = let is = s.dones id d e in (is.value, is.stored)
 
@@ -81,10 +90,44 @@ module _ (kind : Kind) (tree : Tree) (ids : List ObjectId) (unmet : Unmet) (done
           let own = s.known id v e in
           passes_one (λ (other : ObjectId). id_eq id (id_of other)) ids own.0 (contains_in ids own.0 own.1) (ap (λ q. id_eq q (id_of own.0)) own.2 ∙ id_itself (id_of own.0))
 
-  pub whole_part : IsWholePart kind tree ids
+  -- an id with something in a map is a key of it
+  some_key : {X : Type 0} (es : List (ObjectId × X)) (id : Id) (x : X) → lookup (λ (own : ObjectId). is_eq (id_cmp id (id_of own))) es ≡ Some x → (own : ObjectId) × (id ≡ id_of own)
+  some_key [] id x h = none_is_some x h
+  some_key (e ∷ es) id x h = go (is_eq (id_cmp id (id_of e.0))) refl h
+    where
+      go : (b : Bool) → is_eq (id_cmp id (id_of e.0)) ≡ b → cond b (Some e.1) (lookup (λ (own : ObjectId). is_eq (id_cmp id (id_of own))) es) ≡ Some x → (own : ObjectId) × (id ≡ id_of own)
+      go true same h = (e.0, one_id id (id_of e.0) (id_tied id (id_of e.0) ∙ same))
+      go false other h = some_key es id x h
+
+  told_at : (own : ObjectId) (v : Value) → get s.values (id_of own) ≡ Some v → (o : Option Done) → maps.get by_id done.done own ≡ o → is_some o ≡ true → option_map (fact_noted (maps.get by_id done.tags own)) o ≡ Some (fact_of v)
+  told_at own v at None e h = cc
+  told_at own v at (Some d) e h =
+      let is = s.dones own d e in
+      let same = same_Some is.value v (sym is.stored ∙ at) in
+      ap Some (λ i. record { kind = (sym is.of_kind ∙ ap object_kind same) i; target = (s.tags own ∙ ap (option_and_then target_of) at) i })
+
+  told : (id : Id) → facts_in done id ≡ option_map fact_of (get s.values id)
+  told id = go (get s.values id) refl
+    where
+      none : (o : Option Done) → at_id done.done id ≡ o → get s.values id ≡ None → o ≡ None
+      none None e absent = refl
+      none (Some d) e absent =
+          let own = some_key done.done.entries id d e in
+          none_is_some ((s.dones own.0 d (ap (at_id done.done) (sym own.1) ∙ e)).value) (sym absent ∙ ap (get s.values) own.1 ∙ (s.dones own.0 d (ap (at_id done.done) (sym own.1) ∙ e)).stored)
+
+      go : (o : Option Value) → get s.values id ≡ o → facts_in done id ≡ option_map fact_of (get s.values id)
+      go None e = ap (option_map (fact_noted (at_id done.tags id))) (none (at_id done.done id) refl e) ∙ sym (ap (option_map fact_of) e)
+      go (Some v) e =
+          let own = s.known id v e in
+          ap (facts_in done) own.2
+          ∙ told_at own.0 v (ap (get s.values) (sym own.2) ∙ e) (maps.get by_id done.done own.0) refl (is_noted own.0 own.1)
+          ∙ sym (ap (option_map fact_of) e)
+
+  pub whole_part : IsWholePart kind tree ids (facts_in done)
   whole_part = record {
     values = s.values;
     holds = record { files = file_is; folders = (s.listed).folders };
     sound = (s.in_tree).sound;
     known = known_is;
+    told = told;
   }

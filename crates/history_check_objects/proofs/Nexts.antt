@@ -30,8 +30,9 @@ use Rattle.history_texts.specs.ObjectTexts.{is_empty_tree, object_id}
 use Rattle.history_texts.specs.Written.{AreCommitParts, IsWrittenTree, NamesByCommit, NamesByParts, NamesByTag, Naming, named_by_commit}
 use Rattle.history_texts.proofs.CommitTexts.{content_of_parts}
 use Rattle.history_check_objects.specs.Links.{AreReady, IsReady, Link, PathsWithin, link_by_item, plain_link}
-use Rattle.history_check_objects.specs.Nexts.{IsObject, IsStoredNext, NextsAreStored}
+use Rattle.history_check_objects.specs.Nexts.{IsObject, IsStoredNext, NextsAreStored, target_linked}
 use Rattle.history_check_objects.specs.Opened.{AreInTree, store_of}
+use Rattle.history_check_objects.specs.Stored.{target_of}
 use Rattle.history_check_objects.proofs.Folders.{folder_made}
 use Rattle.std.proofs.lemmas.Bool.{or_from}
 use Rattle.std.proofs.lemmas.Option.{same_Some}
@@ -82,7 +83,8 @@ module _ (kind : Kind) (tree : Tree) (values : Values) (in_tree : AreInTree kind
   commit_held by n id ready = let found = commit_of_kind ready.value ready.of_kind in value_holds r id found.0 (ready.stored ∙ ap Some found.1)
 
   module _ (id : Id) (object : ObjectKind) (content : Bytes) (links : List Link) (is : IsObject kind tree id object content links) (none : get values id ≡ None) (n : ℕ) where
-    module _ (v : Value) (of_kind : object_kind v ≡ object) (same : content_of kind v ≡ content) (form : HasForm kind v) (fits : Fits r (v ∷ []) v) (within : PathsWithin n v) where
+    module _ (v : Value) (of_kind : object_kind v ≡ object) (same : content_of kind v ≡ content) (form : HasForm kind v) (fits : Fits r (v ∷ []) v) (within : PathsWithin n v)
+        (aims : target_of v ≡ target_linked object links) where
       text : value_text kind v ≡ object_text object content
       text = λ i. object_text (of_kind i) (same i)
 
@@ -125,10 +127,11 @@ module _ (kind : Kind) (tree : Tree) (values : Values) (in_tree : AreInTree kind
           go true e h = subst (P q) (same_Some v w h) (subst (λ x. P x v) (sym (one_id q id e)) here)
           go false e h = there q w h
 
-      stored_next : IsStoredNext kind tree values id object n
+      stored_next : IsStoredNext kind tree values id object links n
       stored_next = record {
         value = v;
         of_kind = of_kind;
+        target = aims;
         within = within;
         in_tree = record {
           sound = record {
@@ -139,16 +142,17 @@ module _ (kind : Kind) (tree : Tree) (values : Values) (in_tree : AreInTree kind
         };
       }
 
-    bytes_next : object ≡ kinds.Blob → IsStoredNext kind tree values id object n
-    bytes_next e = stored_next (StoredBytes content) (sym e) refl tt tt tt
+    bytes_next : object ≡ kinds.Blob → IsStoredNext kind tree values id object links n
+    bytes_next e = stored_next (StoredBytes content) (sym e) refl tt tt tt (sym (ap (λ o. target_linked o links) e))
 
-    tag_next : (named : List Naming) → NamesByTag kind content named → links ≡ map plain_link named → AreReady values object n links → object ≡ kinds.Tag → IsStoredNext kind tree values id object n
+    tag_next : (named : List Naming) → NamesByTag kind content named → links ≡ map plain_link named → AreReady values object n links → object ≡ kinds.Tag → IsStoredNext kind tree values id object links n
     tag_next named names are ready e =
-        let ready_links = subst (AreReady values object n) (are ∙ ap (map plain_link) names.named_are) ready in
-        stored_next (StoredTag names.tag) (sym e) (sym names.text) names.form (commit_held object n (names.tag).target ready_links.0) tt
+        let linked = are ∙ ap (map plain_link) names.named_are in
+        let ready_links = subst (AreReady values object n) linked ready in
+        stored_next (StoredTag names.tag) (sym e) (sym names.text) names.form (commit_held object n (names.tag).target ready_links.0) tt (sym (ap (λ o. target_linked o links) e ∙ ap (target_linked kinds.Tag) linked))
 
-    commit_next : (named : List Naming) → NamesByCommit kind content named → links ≡ map plain_link named → AreReady values object n links → object ≡ kinds.Commit → IsStoredNext kind tree values id object n
-    commit_next named by are ready e = stored_next (StoredCommit commit) (sym e) content_is (parts.form, ((in_tree.sound).written tree_id (StoredFolder files) at).0) (parents_held, stored_comes (StoredCommit commit ∷ []) tree_id files at, plain tree_id files at) tt
+    commit_next : (named : List Naming) → NamesByCommit kind content named → links ≡ map plain_link named → AreReady values object n links → object ≡ kinds.Commit → IsStoredNext kind tree values id object links n
+    commit_next named by are ready e = stored_next (StoredCommit commit) (sym e) content_is (parts.form, ((in_tree.sound).written tree_id (StoredFolder files) at).0) (parents_held, stored_comes (StoredCommit commit ∷ []) tree_id files at, plain tree_id files at) tt (sym (ap (λ o. target_linked o links) e))
       where
         names : NamesByParts kind by.parts named
         names = by.names
@@ -186,11 +190,11 @@ module _ (kind : Kind) (tree : Tree) (values : Values) (in_tree : AreInTree kind
             (all_in (IsReady values object n) (map plain_link (map (λ parent. (parent, kinds.Commit)) (names.value).parents)) ready_links.1 (record { id = q; kind = kinds.Commit; name = 0 })
             (in_map plain_link (q, kinds.Commit) (map (λ parent. (parent, kinds.Commit)) (names.value).parents) (in_map (λ parent. (parent, kinds.Commit)) q (names.value).parents i)))
 
-    tree_next : (items : List Item) → IsWrittenTree kind content items → links ≡ map link_by_item items → AreReady values object n links → n ≤ max_path → object ≡ kinds.Tree → IsStoredNext kind tree values id object n
+    tree_next : (items : List Item) → IsWrittenTree kind content items → links ≡ map link_by_item items → AreReady values object n links → n ≤ max_path → object ≡ kinds.Tree → IsStoredNext kind tree values id object links n
     tree_next items written are ready most e =
         let ready_links = subst (λ o. AreReady values o n (map link_by_item items)) e (subst (AreReady values object n) are ready) in
         let made = folder_made kind values n in_tree.sound content items written.1 (λ item i. all_in (IsReady values kinds.Tree n) (map link_by_item items) ready_links (link_by_item item) (in_map link_by_item item items i)) most in
-        stored_next (StoredFolder made.0) (sym e) (made.1).text (made.1).written ((made.1).all, plain_written made.0 (made.1).written) (made.1).within
+        stored_next (StoredFolder made.0) (sym e) (made.1).text (made.1).written ((made.1).all, plain_written made.0 (made.1).written) (made.1).within (sym (ap (λ o. target_linked o links) e))
 
 pub nexts_are_stored : NextsAreStored
 nexts_are_stored kind tree values id kinds.Blob content links n in_tree is none ready most = bytes_next kind tree values in_tree id kinds.Blob content links is none n refl

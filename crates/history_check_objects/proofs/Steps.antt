@@ -1,9 +1,10 @@
 -- The steps of a survey.
-use Rattle.std.proofs.Common.{◌≡◌, ◌≢◌, ℕ, zero, suc, ◌+◌, ◌<◌, ◌≤◌, Bool, true, false, cond, List, [], ◌∷◌, ◌++◌, map, length, take, get_or, refl, sym, ◌∙◌, ap, subst, arith, inl, inr, Option, Some, None, is_some, length-append, Vec}
-use Rattle.std.specs.Prelude.{Contains, IsTrue}
+use Rattle.std.proofs.Common.{◌≡◌, ◌≢◌, ℕ, zero, suc, ◌+◌, ◌<◌, ◌≤◌, Bool, true, false, cond, List, [], ◌∷◌, ◌++◌, map, length, take, get_or, refl, sym, ◌∙◌, ap, subst, arith, inl, inr, Option, Some, None, is_some, option_map, MatchOption, length-append, Vec}
+use Rattle.std.specs.Prelude.{Contains, IsTrue, option_and_then}
 use Rattle.std.specs.Ordering.{is_eq}
 use Rattle.std.specs.declared.alloc.Global.{Global}
 use Rattle.std.specs.BTreeMap as maps
+use Rattle.std.specs.BTreeMap.{BTreeMap}
 use Rattle.std.specs.BTreeSet as sets
 use Rattle.std.specs.FinMap.{get, insert}
 use Rattle.gix_hash_id.specs.Id.{Id, id_of}
@@ -30,10 +31,12 @@ use Rattle.history_texts.specs.Written.{NamesObjects, Naming, named_by_item}
 use Rattle.history_check_objects.specs.Flaws.{HasEntry, HasMissing, HasPath, HasWrongKind, Names, deeper, entry, names, by_way_of}
 use Rattle.history_check_objects.specs.Flaws.{Leads as Reaching}
 use Rattle.history_check_objects.specs.Links.{AreReady, IsReady, IsWithin, Link, LinksObjects, PathsWithin, link_by_item, plain_link, reach_of}
-use Rattle.history_check_objects.specs.Nexts.{IsObject, IsStoredNext}
+use Rattle.history_check_objects.specs.Nexts.{IsObject, IsStoredNext, target_linked}
 use Rattle.history_check_objects.specs.Opened.{AreInTree}
-use Rattle.history_check_objects.specs.Surveying.{AreOpen, Dones, IsAmong, IsApart, IsDone, IsDue, IsOpen, IsSomewhere, Leads, Reaches, Stands, Unmet, by_id, link_of, links_of}
-use Rattle.history_check_objects.specs.declared.order.Done.{Done}
+use Rattle.history_check_objects.specs.Stored.{target_of}
+use Rattle.history_check_objects.specs.Surveying.{AreOpen, IsAmong, IsApart, IsDone, IsDue, IsOpen, IsSomewhere, Leads, Reaches, Stands, Unmet, by_id, link_of, links_of}
+use Rattle.history_check_objects.specs.declared.stored.Done.{Done}
+use Rattle.history_check_objects.specs.declared.stored.Stored.{Stored}
 use Rattle.history_check_objects.specs.declared.order.Frame.{Frame}
 use Rattle.history_check_objects.specs.declared.reading.Link as own
 use Rattle.history_check_objects.proofs.Nexts.{nexts_are_stored}
@@ -52,8 +55,8 @@ itself x = sym (id_tied (id_of x) (id_of x)) ∙ id_itself (id_of x)
 pub has_same : (unmet : Unmet) (a b : ObjectId) → id_of a ≡ id_of b → sets.contains by_id unmet a ≡ sets.contains by_id unmet b
 has_same unmet a b e = ap (λ (q : Id). sets.contains_by (λ (k : ObjectId). id_cmp q (id_of k)) unmet) e
 
-pub done_same : (done : Dones) (a b : ObjectId) → id_of a ≡ id_of b → maps.get by_id done a ≡ maps.get by_id done b
-done_same done a b e = ap (λ (q : Id). maps.get_by (λ (k : ObjectId). id_cmp q (id_of k)) done) e
+pub done_same : (done : Stored) (a b : ObjectId) → id_of a ≡ id_of b → maps.get by_id done.done a ≡ maps.get by_id done.done b
+done_same done a b e = ap (λ (q : Id). maps.get_by (λ (k : ObjectId). id_cmp q (id_of k)) done.done) e
 
 -- ---- open objects
 
@@ -236,7 +239,7 @@ module _ (kind : Kind) (tree : Tree) (values : Values) (in_tree : AreInTree kind
 
 -- ---- the survey
 
-module _ (kind : Kind) (tree : Tree) (ids : List ObjectId) (unmet : Unmet) (done : Dones) where
+module _ (kind : Kind) (tree : Tree) (ids : List ObjectId) (unmet : Unmet) (done : Stored) where
   -- an open object goes on
   pub goes_on : (frame new : Frame) (frames : List Frame) (due : Option ObjectId) (s : Stands kind tree ids unmet done (frame ∷ frames) due) → new.id ≡ frame.id → IsOpen kind tree s.values new
       → Stands kind tree ids unmet done (new ∷ frames) due
@@ -246,6 +249,7 @@ module _ (kind : Kind) (tree : Tree) (ids : List ObjectId) (unmet : Unmet) (done
     listed = s.listed;
     known = s.known;
     dones = s.dones;
+    tags = s.tags;
     read = λ id among. elim among [ inl e ↦ s.read id (inl (ap id_of (sym same) ∙ e)) | inr a ↦ s.read id (inr a) ];
     open_ones = (is, subst (λ (x : ObjectId). IsApart (id_of x) frames) (sym same) (s.open_ones).1, subst (λ (x : ObjectId). Leads kind tree (id_of x) frames) (sym same) (s.open_ones).2, (s.open_ones).3);
     to_come = λ id h. let c = s.to_come id h in (c.0, c.1, (λ e. (c.2).0 (ap id_of (sym same) ∙ e), (c.2).1));
@@ -274,6 +278,7 @@ module _ (kind : Kind) (tree : Tree) (ids : List ObjectId) (unmet : Unmet) (done
     listed = s.listed;
     known = s.known;
     dones = s.dones;
+    tags = s.tags;
     open_ones = s.open_ones;
     read = s.read;
     to_come = λ q h. s.to_come q (was (is_eq (by_id id q)) (sets.contains by_id unmet q) (sym (removed q) ∙ h));
@@ -308,6 +313,7 @@ module _ (kind : Kind) (tree : Tree) (ids : List ObjectId) (unmet : Unmet) (done
     listed = s.listed;
     known = s.known;
     dones = s.dones;
+    tags = s.tags;
     read = λ q among. elim among [ inl e ↦ (id, due.listed, sym e ∙ ap id_of same) | inr a ↦ s.read q a ];
     open_ones = (open_one, subst (λ (x : ObjectId). IsApart (id_of x) frames) (sym same) due.apart, subst (λ (x : ObjectId). Leads kind tree (id_of x) frames) (sym same) due.leads, s.open_ones);
     to_come = λ q h. let c = s.to_come q h in (c.0, c.1, (λ e. clash h (has_same unmet q id (sym e ∙ ap id_of same) ∙ due.met), c.2));
@@ -339,7 +345,7 @@ module _ (kind : Kind) (tree : Tree) (ids : List ObjectId) (unmet : Unmet) (done
     is_open : IsOpen kind tree s.values frame
     is_open = (s.open_ones).0
 
-    stored : IsStoredNext kind tree s.values (id_of frame.id) frame.kind frame.longest
+    stored : IsStoredNext kind tree s.values (id_of frame.id) frame.kind (links_of frame.links.items) frame.longest
     stored = nexts_are_stored kind tree s.values (id_of frame.id) frame.kind is_open.content (links_of frame.links.items) frame.longest s.in_tree is_open.object is_open.absent
         (subst (AreReady s.values frame.kind frame.longest) (take_whole (links_of frame.links.items) frame.next ended) is_open.ready) is_open.most
 
@@ -393,14 +399,17 @@ module _ (kind : Kind) (tree : Tree) (ids : List ObjectId) (unmet : Unmet) (done
     done_still : (id : Id) (noted : Done) → IsDone kind tree s.values id noted → IsDone kind tree values id noted
     done_still id noted is = record { value = is.value; stored = keeps id is.value is.stored; of_kind = is.of_kind; within = is.within; reaches = is.reaches }
 
-    pub closed : (noted : Done) → noted.kind ≡ frame.kind → noted.longest ≡ frame.longest → (new : Dones)
-        → ((q : ObjectId) → maps.get by_id new q ≡ cond (is_eq (by_id frame.id q)) (Some noted) (maps.get by_id done q)) → Stands kind tree ids unmet new frames None
-    closed noted of_kind longest new put = record {
+    pub closed : (noted : Done) → noted.kind ≡ frame.kind → noted.longest ≡ frame.longest → (new : Stored)
+        → ((q : ObjectId) → maps.get by_id new.done q ≡ cond (is_eq (by_id frame.id q)) (Some noted) (maps.get by_id done.done q))
+        → (commit : Option ObjectId) → option_map id_of commit ≡ target_linked frame.kind (links_of frame.links.items)
+        → MatchOption commit (new.tags ≡ done.tags) (λ commit. maps.Updates by_id done.tags new.tags frame.id (Some commit)) → Stands kind tree ids unmet new frames None
+    closed noted of_kind longest new put commit commit_is tag_put = record {
       values = values;
       in_tree = stored.in_tree;
       listed = s.listed;
       known = λ id v at. known_at id v (id_eq id (id_of frame.id)) refl (sym (at_id id) ∙ at);
       dones = λ id d at. done_at id d (is_eq (by_id frame.id id)) refl (sym (put id) ∙ at);
+      tags = λ id. tag_at commit commit_is tag_put id (is_eq (by_id frame.id id)) refl;
       open_ones = open_still frames (s.open_ones).1 (s.open_ones).3;
       read = λ q among. s.read q (inr among);
       to_come = λ q h. let c = s.to_come q h in (c.0, still_none (id_of q) c.1 (c.2).0, (c.2).1);
@@ -409,7 +418,7 @@ module _ (kind : Kind) (tree : Tree) (ids : List ObjectId) (unmet : Unmet) (done
         | inr (inl (x, e, f)) ↦ none_is_some x e
         | inr (inr (inl (inl e))) ↦ inr (inr (inr (now_done q e)))
         | inr (inr (inl (inr a))) ↦ inr (inr (inl a))
-        | inr (inr (inr a)) ↦ inr (inr (inr (ap is_some (put q) ∙ either (is_eq (by_id frame.id q)) (maps.get by_id done q) a)))
+        | inr (inr (inr a)) ↦ inr (inr (inr (ap is_some (put q) ∙ either (is_eq (by_id frame.id q)) (maps.get by_id done.done q) a)))
       ];
       next = λ q e. none_is_some q e;
     }
@@ -427,12 +436,38 @@ module _ (kind : Kind) (tree : Tree) (ids : List ObjectId) (unmet : Unmet) (done
           reaches = subst (Reaches kind tree (id_of frame.id)) (sym longest) is_open.reaches;
         }
 
-        done_at : (id : ObjectId) (d : Done) (b : Bool) → is_eq (by_id frame.id id) ≡ b → cond b (Some noted) (maps.get by_id done id) ≡ Some d → IsDone kind tree values (id_of id) d
+        done_at : (id : ObjectId) (d : Done) (b : Bool) → is_eq (by_id frame.id id) ≡ b → cond b (Some noted) (maps.get by_id done.done id) ≡ Some d → IsDone kind tree values (id_of id) d
         done_at id d true e h = subst (λ q. IsDone kind tree values q d) (same_key frame.id id e) (subst (IsDone kind tree values (id_of frame.id)) (same_Some noted d h) here)
         done_at id d false e h = done_still (id_of id) d (s.dones id d h)
 
-        now_done : (q : ObjectId) → id_of frame.id ≡ id_of q → is_some (maps.get by_id new q) ≡ true
-        now_done q e = ap is_some (done_same new q frame.id (sym e) ∙ put frame.id) ∙ ap (λ b. is_some (cond b (Some noted) (maps.get by_id done frame.id))) (itself frame.id)
+        -- no tag was noted under the id before
+        untagged : (q : ObjectId) → id_of frame.id ≡ id_of q → option_map id_of (maps.get by_id done.tags q) ≡ None
+        untagged q e = s.tags q ∙ ap (option_and_then target_of) (ap (get s.values) (sym e) ∙ is_open.absent)
+
+        target_here : (q : ObjectId) → id_of frame.id ≡ id_of q → target_linked frame.kind (links_of frame.links.items) ≡ option_and_then target_of (get values (id_of q))
+        target_here q e = sym stored.target ∙ sym (ap (option_and_then target_of) (ap (get values) (sym e) ∙ at_here))
+
+        target_there : (q : ObjectId) → is_eq (by_id frame.id q) ≡ false → option_and_then target_of (get s.values (id_of q)) ≡ option_and_then target_of (get values (id_of q))
+        target_there q other = sym (ap (option_and_then target_of) (at_id (id_of q) ∙ ap (λ b. cond b (Some stored.value) (get s.values (id_of q))) (apart (id_eq (id_of q) (id_of frame.id)) refl)))
+          where
+            apart : (b : Bool) → id_eq (id_of q) (id_of frame.id) ≡ b → id_eq (id_of q) (id_of frame.id) ≡ false
+            apart false e = e
+            apart true e = clash (ap is_eq (ap (λ (x : Id). id_cmp (id_of frame.id) x) (one_id (id_of q) (id_of frame.id) e)) ∙ itself frame.id) other
+
+        tag_at : (commit : Option ObjectId) → option_map id_of commit ≡ target_linked frame.kind (links_of frame.links.items)
+            → MatchOption commit (new.tags ≡ done.tags) (λ commit. maps.Updates by_id done.tags new.tags frame.id (Some commit))
+            → (q : ObjectId) (b : Bool) → is_eq (by_id frame.id q) ≡ b → option_map id_of (maps.get by_id new.tags q) ≡ option_and_then target_of (get values (id_of q))
+        tag_at None is same q true e =
+            let at = same_key frame.id q e in
+            ap (λ (tags : BTreeMap ObjectId ObjectId). option_map id_of (maps.get by_id tags q)) same ∙ untagged q at ∙ is ∙ target_here q at
+        tag_at None is same q false e = ap (λ (tags : BTreeMap ObjectId ObjectId). option_map id_of (maps.get by_id tags q)) same ∙ s.tags q ∙ target_there q e
+        tag_at (Some commit) is updates q true e =
+            ap (option_map id_of) (updates.0 q ∙ ap (λ b. cond b (Some commit) (maps.get by_id done.tags q)) e) ∙ is ∙ target_here q (same_key frame.id q e)
+        tag_at (Some commit) is updates q false e =
+            ap (option_map id_of) (updates.0 q ∙ ap (λ b. cond b (Some commit) (maps.get by_id done.tags q)) e) ∙ s.tags q ∙ target_there q e
+
+        now_done : (q : ObjectId) → id_of frame.id ≡ id_of q → is_some (maps.get by_id new.done q) ≡ true
+        now_done q e = ap is_some (done_same new q frame.id (sym e) ∙ put frame.id) ∙ ap (λ b. is_some (cond b (Some noted) (maps.get by_id done.done frame.id))) (itself frame.id)
 
         either : (b : Bool) (o : Option Done) → is_some o ≡ true → is_some (cond b (Some noted) o) ≡ true
         either true o h = refl
@@ -450,7 +485,7 @@ module _ (kind : Kind) (tree : Tree) (ids : List ObjectId) (unmet : Unmet) (done
     cycle (inl e) = subst (λ q. Reaching kind tree q link) e (names as_kind named)
     cycle (inr among) = by_way_of (id_of frame.id) (ways frame frames s.open_ones link among) (names as_kind named)
 
-    pub missing : ((q : ObjectId) → id_of q ≡ link → (sets.contains by_id unmet q ≡ false) × (maps.get by_id done q ≡ None)) → (IsAmong link (frame ∷ frames) → ⊥) → HasMissing kind tree link (id_of frame.id)
+    pub missing : ((q : ObjectId) → id_of q ≡ link → (sets.contains by_id unmet q ≡ false) × (maps.get by_id done.done q ≡ None)) → (IsAmong link (frame ∷ frames) → ⊥) → HasMissing kind tree link (id_of frame.id)
     missing nowhere apart = (as_kind, named, none (file_at tree (object_place link)) refl)
       where
         none : (o : Option Bytes) → file_at tree (object_place link) ≡ o → o ≡ None

@@ -1,5 +1,5 @@
 -- A turn of the survey, by the list of what is open.
-use Rattle.std.proofs.Common.{◌≡◌, ◌≤◌, false, List, [], ◌∷◌, ◌++◌, length, reverse, refl, sym, ◌∙◌, ap, subst, inl, inr, IfNone, IfSome, Option, Some, None}
+use Rattle.std.proofs.Common.{◌≡◌, ◌≤◌, false, List, [], ◌∷◌, ◌++◌, length, reverse, refl, sym, ◌∙◌, ap, subst, inl, inr, IfNone, IfSome, MatchOption, Option, Some, None, option_map}
 use Rattle.std.specs.Prelude.{IsTrue}
 use Rattle.std.specs.List.{list_any}
 use Rattle.std.specs.BTreeMap as maps
@@ -10,14 +10,15 @@ use Rattle.gix_hash_id.specs.declared.object_id.ObjectId.{ObjectId}
 use Rattle.gix_ref_file.specs.Tree.{Tree}
 use Rattle.history_model.specs.Bytes.{Bytes}
 use Rattle.history_model.proofs.WholeLists.{none_is_some}
-use Rattle.history_check_objects.specs.Nexts.{IsObject}
-use Rattle.history_check_objects.specs.Surveying.{Dones, Stands, Unmet, by_id, link_of, links_of}
+use Rattle.history_check_objects.specs.Nexts.{IsObject, target_linked}
+use Rattle.history_check_objects.specs.Surveying.{Stands, Unmet, by_id, link_of, links_of}
+use Rattle.history_check_objects.specs.declared.stored.Stored.{Stored}
 use Rattle.history_check_objects.specs.declared.order.Frame.{Frame}
 use Rattle.history_check_objects.proofs.Advances.{length_map}
 use Rattle.history_check_objects.proofs.Begins.{open_last}
 use Rattle.history_check_objects.proofs.Steps.{closed, entered, taken}
 
-module _ (kind : Kind) (tree : Tree) (ids : List ObjectId) (unmet : Unmet) (done : Dones) where
+module _ (kind : Kind) (tree : Tree) (ids : List ObjectId) (unmet : Unmet) (done : Stored) where
   -- the last of the open objects goes on
   pub popped : (items rest : List Frame) (frame : Frame) → items ≡ rest ++ frame ∷ [] → Stands kind tree ids unmet done (reverse items) None → Stands kind tree ids unmet done (frame ∷ reverse rest) None
   popped items rest frame are s = subst (λ fs. Stands kind tree ids unmet done fs None) (ap reverse are ∙ open_last rest frame) s
@@ -27,11 +28,13 @@ module _ (kind : Kind) (tree : Tree) (ids : List ObjectId) (unmet : Unmet) (done
   pushed items rest frame due are s = subst (λ fs. Stands kind tree ids unmet done fs due) (sym (ap reverse are ∙ open_last rest frame)) s
 
   -- or is done
-  pub noted : (rest : List Frame) (frame : Frame) → Stands kind tree ids unmet done (frame ∷ reverse rest) None → length frame.links.items ≤ frame.next → (new : Dones)
-      → maps.Updates by_id done new frame.id (Some (record { kind = frame.kind; longest = frame.longest })) → Stands kind tree ids unmet new (reverse rest) None
-  noted rest frame s ended new put =
+  pub noted : (rest : List Frame) (frame : Frame) → Stands kind tree ids unmet done (frame ∷ reverse rest) None → length frame.links.items ≤ frame.next → (new : Stored)
+      → maps.Updates by_id done.done new.done frame.id (Some (record { kind = frame.kind; longest = frame.longest }))
+      → (commit : Option ObjectId) → option_map id_of commit ≡ target_linked frame.kind (links_of frame.links.items)
+      → MatchOption commit (new.tags ≡ done.tags) (λ commit. maps.Updates by_id done.tags new.tags frame.id (Some commit)) → Stands kind tree ids unmet new (reverse rest) None
+  noted rest frame s ended new put commit commit_is tag_put =
       closed kind tree ids unmet done frame (reverse rest) s (subst (λ n. n ≤ frame.next) (sym (length_map link_of frame.links.items)) ended)
-      (record { kind = frame.kind; longest = frame.longest }) refl refl new put.0
+      (record { kind = frame.kind; longest = frame.longest }) refl refl new put.0 commit commit_is tag_put
 
   -- if none is open, the first of those that are to come is next
   pub first : (items : List Frame) → items ≡ [] → Stands kind tree ids unmet done (reverse items) None → (id : ObjectId) → IsTrue (sets.contains by_id unmet id) → (new : Unmet) → sets.Updates by_id unmet new id false
@@ -48,6 +51,7 @@ module _ (kind : Kind) (tree : Tree) (ids : List ObjectId) (unmet : Unmet) (done
     listed = s.listed;
     known = s.known;
     dones = s.dones;
+    tags = s.tags;
     open_ones = s.open_ones;
     read = s.read;
     to_come = λ q h. s.to_come q (sym (has q) ∙ h);

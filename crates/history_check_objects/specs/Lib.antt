@@ -5,5 +5,6 @@ pub mod Nexts
 pub mod Opened
 pub mod Passing
 pub mod Reading
+pub mod Stored
 pub mod Surveyed
 pub mod Surveying

@@ -6,7 +6,7 @@ use Rattle.history_check_objects.specs.Links.{reach_of}
 use Rattle.history_texts.specs.declared.open_error.OpenError.{OpenError}
 use Rattle.history_texts.specs.declared.open_error.NamedBy.TheVariants.{Object}
 use Rattle.history_texts.specs.declared.open_error.OpenError.TheVariants.{BadTree, WrongKind}
-use Rattle.history_check_objects.specs.declared.order.Done.{Done}
+use Rattle.history_check_objects.specs.declared.stored.Done.{Done}
 use Rattle.history_check_objects.specs.declared.order.Frame.{Frame}
 use Rattle.history_check_objects.specs.declared.reading.Link.{Link}
 

@@ -11,6 +11,7 @@ use Rattle.history_model.specs.Repository.{Values}
 use Rattle.history_layout.specs.TreeHalves.{HoldsValues}
 use Rattle.history_texts.specs.IdLists.{is_one_of}
 use Rattle.history_check_objects.specs.Opened.{IsSoundStore}
+use Rattle.history_check_objects.specs.Stored.{Facts, AreFactsOf}
 use Rattle.history_check_objects.specs.Surveying.{Stands}
 use Rattle.history_texts.specs.declared.open_error.OpenError.{OpenError}
 use Rattle.history_texts.specs.declared.open_error.NamedBy.TheVariants.{Object}
@@ -22,7 +23,7 @@ use Rattle.history_check_objects.specs.declared.order.Survey.{Survey}
 abbrev pub StandsOver : Kind → Tree → List ObjectId → Survey → List Frame → Option ObjectId
     → Type 0
 StandsOver kind tree ids survey frames due =
-    Stands kind tree ids survey.unmet survey.done frames due
+    Stands kind tree ids survey.unmet survey.stored frames due
 
 abbrev pub StandsAt : Kind → Tree → List ObjectId → Survey → Option ObjectId → Type 0
 StandsAt kind tree ids survey due =
@@ -44,9 +45,12 @@ IsLacking frames by id (Missing other (Object from)) = (other ≡ id) × (from �
     × (id_of by ≢ id_of id) × IsFalse (is_open frames (id_of id))
 IsLacking frames by id _ = ⊥
 
--- the tree holds the values of just these ids, which are a whole store in written form
-pub record IsWholePart (kind : Kind) (tree : Tree) (ids : List ObjectId) : Type 0 where
+-- the tree holds the values of just these ids, which are a whole store in written form; these are
+-- their facts
+pub record IsWholePart (kind : Kind) (tree : Tree) (ids : List ObjectId) (facts : Facts)
+    : Type 0 where
   pub values : Values
   pub holds : HoldsValues kind tree values
   pub sound : IsSoundStore kind values
   pub known : (id : Id) → contains_key values id ≡ is_one_of ids id
+  pub told : AreFactsOf facts values

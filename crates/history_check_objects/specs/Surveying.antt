@@ -1,8 +1,7 @@
 -- How far a survey has come: what it has done holds values of the tree, and what is open leads to
 -- what comes next.
-use Rattle.std.specs.Prelude.{◌≡◌, ◌≢◌, ◌⊎◌, ◌≤◌, ℕ, List, [], ◌∷◌, length, map, take, Contains, Option, Some, None, is_some, IsTrue, IsFalse}
+use Rattle.std.specs.Prelude.{◌≡◌, ◌≢◌, ◌⊎◌, ◌≤◌, ℕ, List, [], ◌∷◌, length, map, take, Contains, Option, Some, None, is_some, option_map, option_and_then, IsTrue, IsFalse}
 use Rattle.std.specs.declared.cmp.Ordering.{Ordering}
-use Rattle.std.specs.BTreeMap.{BTreeMap}
 use Rattle.std.specs.BTreeMap as maps
 use Rattle.std.specs.BTreeSet.{BTreeSet}
 use Rattle.std.specs.BTreeSet as sets
@@ -22,7 +21,9 @@ use Rattle.history_check_objects.specs.Flaws.{HasPath, Names}
 use Rattle.history_check_objects.specs.Links.{AreReady, Link, PathsWithin}
 use Rattle.history_check_objects.specs.Nexts.{IsObject}
 use Rattle.history_check_objects.specs.Opened.{AreInTree}
-use Rattle.history_check_objects.specs.declared.order.Done.{Done}
+use Rattle.history_check_objects.specs.Stored.{target_of}
+use Rattle.history_check_objects.specs.declared.stored.Done.{Done}
+use Rattle.history_check_objects.specs.declared.stored.Stored.{Stored}
 use Rattle.history_check_objects.specs.declared.order.Frame.{Frame}
 use Rattle.history_check_objects.specs.declared.reading.Link as own
 
@@ -51,9 +52,6 @@ links_of links = map link_of links
 -- the order of ids
 abbrev pub by_id : ObjectId → ObjectId → Ordering
 by_id a b = id_cmp (id_of a) (id_of b)
-
-abbrev pub Dones : Type 0
-Dones = BTreeMap ObjectId Done
 
 abbrev pub Unmet : Type 0
 Unmet = BTreeSet ObjectId
@@ -116,26 +114,28 @@ pub record IsDue (kind : Kind) (tree : Tree) (ids : List ObjectId) (values : Val
   pub leads : Leads kind tree (id_of due) frames
 
 -- a listed object is to come, is the one that comes next, is open, or is done
-abbrev pub IsSomewhere : Unmet → Dones → List Frame → Option ObjectId → ObjectId → Type 0
-IsSomewhere unmet done frames due id =
+abbrev pub IsSomewhere : Unmet → Stored → List Frame → Option ObjectId → ObjectId → Type 0
+IsSomewhere unmet stored frames due id =
     IsTrue (sets.contains by_id unmet id)
     ⊎ ((next : ObjectId) × (due ≡ Some next) × (id_of next ≡ id_of id))
-    ⊎ IsAmong (id_of id) frames ⊎ IsTrue (is_some (maps.get by_id done id))
+    ⊎ IsAmong (id_of id) frames ⊎ IsTrue (is_some (maps.get by_id stored.done id))
 
 -- The survey has come so far: what is done is stored in values of the tree; each listed object is
 -- somewhere.
-pub record Stands (kind : Kind) (tree : Tree) (ids : List ObjectId) (unmet : Unmet) (done : Dones)
+pub record Stands (kind : Kind) (tree : Tree) (ids : List ObjectId) (unmet : Unmet) (stored : Stored)
     (frames : List Frame) (due : Option ObjectId) : Type 0 where
   pub values : Values
   pub in_tree : AreInTree kind tree values
   pub listed : AreListed kind tree ids
   pub known : (id : Id) (value : Value) → get values id ≡ Some value
       → (own : ObjectId) × Contains ids own × (id ≡ id_of own)
-  pub dones : (id : ObjectId) (noted : Done) → maps.get by_id done id ≡ Some noted
+  pub dones : (id : ObjectId) (noted : Done) → maps.get by_id stored.done id ≡ Some noted
       → IsDone kind tree values (id_of id) noted
+  pub tags : (id : ObjectId) → option_map id_of (maps.get by_id stored.tags id)
+      ≡ option_and_then target_of (get values (id_of id))
   pub open_ones : AreOpen kind tree values frames
   pub read : (id : Id) → IsAmong id frames → (own : ObjectId) × Contains ids own × (id ≡ id_of own)
   pub to_come : (id : ObjectId) → IsTrue (sets.contains by_id unmet id)
       → Contains ids id × (get values (id_of id) ≡ None) × IsApart (id_of id) frames
-  pub each : (id : ObjectId) → Contains ids id → IsSomewhere unmet done frames due id
+  pub each : (id : ObjectId) → Contains ids id → IsSomewhere unmet stored frames due id
   pub next : (id : ObjectId) → due ≡ Some id → IsDue kind tree ids values unmet frames id

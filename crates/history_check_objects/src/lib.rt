@@ -5,6 +5,8 @@ pub mod laws;
 mod listing;
 mod order;
 mod reading;
+mod stored;
 mod whole;
 
-pub use whole::whole_ids;
+pub use stored::Stored;
+pub use whole::{WholeObjects, whole_objects};

@@ -1,31 +1,26 @@
 //! The order of the objects: each after all that it names, and none twice.
-ghost use Rattle.std.specs.Prelude.{◌≡◌, ◌∷◌, ◌<◌, ◌≤◌, List, [], None, Some, IfErr, IfOk, OnOk, MatchOption, length, reverse};
+ghost use Rattle.std.specs.Prelude.{◌≡◌, ◌∷◌, ◌<◌, ◌≤◌, List, [], None, Some, IfErr, IfOk, OnOk, MatchOption, length, option_map, reverse};
 ghost use Rattle.gix_hash_id.specs.Id.{id_of};
 ghost use Rattle.gix_hash_id.specs.declared.kind.Kind.{Kind};
 ghost use Rattle.gix_hash_id.specs.declared.object_id.ObjectId.{ObjectId};
 ghost use Rattle.gix_ref_file.specs.Tree.{Tree};
 ghost use Rattle.history_check_objects.specs.Flaws.{IsObjectsFlaw};
 ghost use Rattle.history_check_objects.specs.Links.{reach_of};
+ghost use Rattle.history_check_objects.specs.Nexts.{target_linked};
 ghost use Rattle.history_check_objects.specs.Passing.{IsPassed, IsReach, IsRefusedLink, IsSame};
+ghost use Rattle.history_check_objects.specs.Stored.{facts_in};
 ghost use Rattle.history_check_objects.specs.Surveyed.{IsLacking, IsWholePart, StandsAt, StandsOver, is_open, left_of};
-ghost use Rattle.history_check_objects.specs.Surveying.{AreListed};
+ghost use Rattle.history_check_objects.specs.Surveying.{AreListed, links_of};
 
 use crate::reading::{Found, Link, read_object};
+use crate::stored::{Done, Stored};
 use gix_hash::{Kind, ObjectId};
 use gix_object::Kind as ObjectKind;
 use gix_ref_file::Files;
 use history_model::limits::MAX_PATH;
 use history_texts::{NamedBy, OpenError};
 use std::alloc::{AllocError, Global};
-use std::collections::{BTreeMap, BTreeSet};
-
-/// What is noted of an object all of whose links are noted: its kind, and how long the longest path
-/// below it is, if it is a tree.
-#[derive(Clone, Copy)]
-pub(crate) struct Done {
-    pub(crate) kind: ObjectKind,
-    pub(crate) longest: usize,
-}
+use std::collections::BTreeSet;
 
 /// An object that was read. The links before `next` are done, and `longest` is how long the longest
 /// path by these is.
@@ -60,6 +55,17 @@ impl Frame {
         self.next += 1;
         Ok(())
     }
+
+    // Returns what a tag is of; `None` of another object.
+    fn commit(&self) -> Option<ObjectId>
+        ensures { option_map id_of result
+            ≡ target_linked self.now.kind (links_of self.now.links.items) }
+    {
+        match self.kind {
+            ObjectKind::Tag => Some(self.links.first()?.id),
+            ObjectKind::Commit | ObjectKind::Tree | ObjectKind::Blob => None,
+        }
+    }
 }
 
 // Returns how long the longest path is that a name makes with what it names, which has a longest
@@ -80,7 +86,7 @@ fn path_length(name: usize, longest: usize) -> usize
 pub(crate) struct Survey {
     unmet: BTreeSet<ObjectId>,
     waiting: Vec<Frame>,
-    done: BTreeMap<ObjectId, Done>,
+    stored: Stored,
 }
 
 impl Survey {
@@ -96,7 +102,7 @@ impl Survey {
         Ok(Survey {
             unmet,
             waiting: Vec::new(alloc),
-            done: BTreeMap::new(alloc),
+            stored: Stored::new(alloc),
         })
     }
 
@@ -118,13 +124,11 @@ impl Survey {
                 self.waiting.push(frame)?;
                 return Ok(Some(id));
             }
-            self.done.insert(
-                frame.id,
-                Done {
-                    kind: frame.kind,
-                    longest: frame.longest,
-                },
-            )?;
+            let done = Done {
+                kind: frame.kind,
+                longest: frame.longest,
+            };
+            self.stored.note(frame.id, done, frame.commit())?;
         }
         Ok(self.unmet.pop_first())
     }
@@ -148,7 +152,7 @@ impl Survey {
     {
         'links: while frame.next < frame.links.len() {
             let link = frame.links[frame.next];
-            if let Some(done) = self.done.get(&link.id).copied() {
+            if let Some(done) = self.stored.done.get(&link.id).copied() {
                 frame.pass(link, done)?;
             } else if self.unmet.remove(&link.id) {
                 return Ok(Some(link.id));
@@ -207,16 +211,17 @@ impl Survey {
 
 /// Reads the objects of these ids, each once, and each after all that it names.
 ///
-/// Returns `Ok` only if they are whole; otherwise the error is a flaw of the part, or no memory is
+/// Returns what is known of them, if they are whole; otherwise the error is a flaw of the part, or no memory is
 /// left.
 pub(crate) fn survey_objects<F: Files>(
     alloc: Global,
     files: &F,
     kind: Kind,
     ids: &[ObjectId],
-) -> Result<(), OpenError>
+) -> Result<Stored, OpenError>
     ensures whole { F.is_honest files.now → AreListed kind (F.history files.now).tree ids.now
-        → OnOk result (IsWholePart kind (F.history files.now).tree ids.now) }
+        → IfOk result (λ stored.
+        IsWholePart kind (F.history files.now).tree ids.now (facts_in stored)) }
     ensures flaw { F.is_honest files.now → AreListed kind (F.history files.now).tree ids.now
         → IfErr result (IsObjectsFlaw F.reading_may_fail kind (F.history files.now).tree) }
 {
@@ -224,5 +229,5 @@ pub(crate) fn survey_objects<F: Files>(
     'survey: while let Some(id) = survey.next()? {
         survey.enter(alloc, files, kind, id)?;
     }
-    Ok(())
+    Ok(survey.stored)
 }

@@ -14,5 +14,5 @@ returns-clause-whole g c = λ honest listed.
     let tree = (g.F.Files.history c.args.files.now).tree in
     let none = rw c.in_default.is at c.in_ok-id.ensures.fewer in
     let stands = rw c.in_default.is at (c.in_ok-id.ensures.stands c.args.kind tree c.args.ids.now (c.survey.invariant honest listed)) in
-    whole_part c.args.kind tree c.args.ids.now c.next.new.self.unmet c.next.new.self.done
-    (subst (λ (frames : List Frame). Stands c.args.kind tree c.args.ids.now c.next.new.self.unmet c.next.new.self.done (reverse frames) None) none.0 stands) none.1
+    whole_part c.args.kind tree c.args.ids.now c.next.new.self.unmet c.next.new.self.stored
+    (subst (λ (frames : List Frame). Stands c.args.kind tree c.args.ids.now c.next.new.self.unmet c.next.new.self.stored (reverse frames) None) none.0 stands) none.1

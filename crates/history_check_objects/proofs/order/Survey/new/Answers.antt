@@ -10,4 +10,4 @@ loop-id-preserved c = one_unmet c.loop-id.unmet c.insert.new.self c.args.ids.now
 pub returns : goal.returns
 returns c = λ kind tree listed.
     subst (λ (frames : List Frame). Stands kind tree c.args.ids.now c.loop-id.unmet c.new-2.result (reverse frames) None) (sym c.new.ensures.items)
-    (begun kind tree c.args.ids.now c.loop-id.unmet c.new-2.result listed (all_unmet c.loop-id.unmet c.args.ids.now c.loop-id.id-index c.loop-id-test.false c.loop-id.invariant) c.new-2.ensures.empty)
+    (begun kind tree c.args.ids.now c.loop-id.unmet c.new-2.result listed (all_unmet c.loop-id.unmet c.args.ids.now c.loop-id.id-index c.loop-id-test.false c.loop-id.invariant) c.new-2.ensures.done c.new-2.ensures.tags)

@@ -27,8 +27,8 @@ noted-preserved c =
     record {
       stands = λ kind tree ids begun.
           let after = rw c.in_default-2.is at (c.in_ok-id.ensures.stands kind tree ids (popped kind tree ids _ _ _ _ _ last (c.noted.invariant.stands kind tree ids begun))) in
-          subst (λ (waiting : Vec Frame Global). Stands kind tree ids c.advance.new.self.unmet c.insert.new.self (reverse waiting.items) None) (sym c.advance.ensures.waiting)
-          (noted kind tree ids c.advance.new.self.unmet c.advance.new.self.done c.pop.new.self.items c.advance.new.frame after ended.0 c.insert.new.self c.in_ok-insert.ensures.updates);
+          subst (λ (waiting : Vec Frame Global). Stands kind tree ids c.advance.new.self.unmet c.note.new.self (reverse waiting.items) None) (sym c.advance.ensures.waiting)
+          (noted kind tree ids c.advance.new.self.unmet c.advance.new.self.stored c.pop.new.self.items c.advance.new.frame after ended.0 c.note.new.self c.in_ok-note.ensures.done c.commit.result c.commit.ensures c.in_ok-note.ensures.tags);
       left = ended.1 ∙ c.noted.invariant.left;
     }
 
@@ -36,6 +36,6 @@ pub returns-clause-stands : goal.returns-clause-stands
 returns-clause-stands c = λ kind tree ids begun.
     let same : c.noted.self.waiting.items ≡ c.pop.new.self.items = c.in_default.ensures.items ∙ append-nil c.pop.new.self.items in
     let none : c.pop.new.self.items ≡ [] = c.in_default.ensures.rest ∙ ap (λ n. take (n - 1) c.noted.self.waiting.items) (c.in_default.ensures.cases).0 in
-    next_due kind tree ids c.noted.self.unmet c.noted.self.done c.pop.new.self.items none
-    (subst (λ (frames : List Frame). Stands kind tree ids c.noted.self.unmet c.noted.self.done (reverse frames) None) same (c.noted.invariant.stands kind tree ids begun))
+    next_due kind tree ids c.noted.self.unmet c.noted.self.stored c.pop.new.self.items none
+    (subst (λ (frames : List Frame). Stands kind tree ids c.noted.self.unmet c.noted.self.stored (reverse frames) None) same (c.noted.invariant.stands kind tree ids begun))
     c.pop_first.new.self c.pop_first.result c.pop_first.ensures.member c.pop_first.ensures.updates c.pop_first.ensures.unchanged
