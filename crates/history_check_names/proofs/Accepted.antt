@@ -36,7 +36,8 @@ use Rattle.history_check_names.specs.Causes.{HasCause, may_hold_file, IsFault}
 use Rattle.history_check_names.specs.Logs.{HasBadLine, HasLongLine, max_log_line}
 use Rattle.history_check_names.specs.Parts.{StandsNames}
 use Rattle.history_check_names.specs.Packed.{has_record, is_good_file, is_packed_text, record_names, records_at, records_in}
-use Rattle.history_check_names.specs.Stored.{Fact, Facts, AreFactsOf, fact_of, is_of_wrong_kind, is_tag_of, is_well_peeled}
+use Rattle.history_check_names.specs.Stored.{is_of_wrong_kind, is_tag_of, is_well_peeled}
+use Rattle.history_check_objects.specs.Stored.{Fact, Facts, AreFactsOf, fact_of}
 use Rattle.history_check_names.specs.declared.error.NamesError.{NamesError}
 use Rattle.history_check_names.specs.declared.error.NamesError.TheVariants.{NoHead, BadHead, Stray, Unfinished, BadName, PrivateName, Symbolic, Missing, WrongKind, BadPacked, BadPeeled, Collides, BadLog, LongLogLine, LogWithoutName, File, Memory}
 use Rattle.history_check_names.proofs.LogTexts.{body, body_lacks, all_reverse}

@@ -9,7 +9,7 @@ use Rattle.gix_ref_file.proofs.Listings.{node_is}
 use Rattle.history_model.specs.Bytes.{Bytes}
 use Rattle.history_model.specs.Places.{file_at, is_name_folder}
 use Rattle.history_check_names.specs.Sound.{IsSoundAt, IsSoundBelow, IsSoundFile}
-use Rattle.history_check_names.specs.Stored.{Facts}
+use Rattle.history_check_objects.specs.Stored.{Facts}
 use Rattle.gix_ref_way.proofs.Walked.{all_below, none_below_file, found_all}
 
 -- a path and all below it

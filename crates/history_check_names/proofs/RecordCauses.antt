@@ -1,5 +1,5 @@
 -- What is reported of a record of `packed-refs`: that it is sound, or why it isn't.
-use Rattle.std.proofs.Common.{◌≡◌, ◌⊎◌, ℕ, zero, suc, ◌+◌, ◌<◌, Bool, true, false, ◌||◌, List, [], ◌∷◌, map, length, take, get_or, refl, sym, ◌∙◌, ap, subst, bytes_eq, arith, Vec, Result}
+use Rattle.std.proofs.Common.{◌≡◌, ℕ, zero, suc, ◌+◌, ◌<◌, Bool, true, false, ◌||◌, List, [], ◌∷◌, map, length, take, get_or, refl, sym, ◌∙◌, ap, subst, bytes_eq, arith, Vec, Result}
 use Rattle.std.specs.Prelude.{IsTrue, IfErr}
 use Rattle.std.specs.List.{AllByRecursion, Contains, list_all, list_any}
 use Rattle.std.specs.declared.alloc.Global.{Global}
@@ -21,7 +21,8 @@ use Rattle.history_check_names.specs.Causes.{HasBadPeel, HasCause, IsCollision, 
 use Rattle.history_check_names.specs.Packed.{has_record, record_names, records_at}
 use Rattle.history_check_names.specs.PackedRead.{ReadsPacked}
 use Rattle.history_check_names.specs.Sound.{IsApart, IsSoundRecord}
-use Rattle.history_check_names.specs.Stored.{Facts, is_well_peeled, kind_in, may_be_held}
+use Rattle.history_check_names.specs.Stored.{is_well_peeled, may_be_held}
+use Rattle.history_check_objects.specs.Stored.{Facts, kind_in}
 use Rattle.history_check_names.specs.declared.error.NamesError.{NamesError}
 use Rattle.history_check_names.specs.declared.packed.Packed.{Packed}
 use Rattle.history_check_names.proofs.GoodNames.{good_parts}
@@ -85,13 +86,13 @@ module _ (kind : Kind) (facts : Facts) (tree : Tree) (packed : Packed) (reads : 
       either true h = refl
       either false h = h
 
-  pub collides : (A B : Type 0) (error : NamesError) → is_private e.name ≡ false → IsCollision A kind tree e.name error → HasCause (A ⊎ B) kind facts tree error
-  collides A B error common h = collision_cause A B kind facts tree e.name error reads.good common (sym (record_there kind tree e.name named has)) h
+  pub collides : (A : Type 0) (error : NamesError) → is_private e.name ≡ false → IsCollision A kind tree e.name error → HasCause A kind facts tree error
+  collides A error common h = collision_cause A kind facts tree e.name error reads.good common (sym (record_there kind tree e.name named has)) h
 
-  pub unheld : {T : Type 0} (A B : Type 0) (id : ObjectId) (name : Vec ℕ Global) (r : Result T NamesError) → is_private e.name ≡ false → is_file_at tree e.name ≡ false → name.items ≡ e.name → id_of id ≡ e.target
-      → IfErr r (IsUnheld B (kind_in facts (id_of id)) id name) → IfErr r (HasCause (A ⊎ B) kind facts tree)
-  unheld A B id name r common bare is id_is h =
-      unheld_causes A B kind facts tree id name r (ap (name_state kind tree) is ∙ record_read kind tree e reads.good common bare there ∙ ap states.Holds (sym id_is)) h
+  pub unheld : {T : Type 0} (A : Type 0) (id : ObjectId) (name : Vec ℕ Global) (r : Result T NamesError) → is_private e.name ≡ false → is_file_at tree e.name ≡ false → name.items ≡ e.name → id_of id ≡ e.target
+      → IfErr r (IsUnheld (kind_in facts (id_of id)) id name) → IfErr r (HasCause A kind facts tree)
+  unheld A id name r common bare is id_is h =
+      unheld_causes A kind facts tree id name r (ap (name_state kind tree) is ∙ record_read kind tree e reads.good common bare there ∙ ap states.Holds (sym id_is)) h
 
   pub badly_peeled : (name : Bytes) → name ≡ e.name → is_well_peeled facts e ≡ false → HasBadPeel kind facts tree name
   badly_peeled name is wrong = record { entry = e; among = there; named = sym is; wrong = wrong }

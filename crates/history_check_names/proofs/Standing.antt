@@ -31,7 +31,8 @@ use Rattle.history_layout.proofs.TreeMoves.{head_apart, head_no_log, log_no_name
 use Rattle.history_check_names.specs.Parts.{IsNamesPart, StandsNames, NamesBranch}
 use Rattle.history_check_names.specs.Packed.{has_name, has_record, is_packed_text, record_names, records_at}
 use Rattle.history_check_names.specs.Sound.{AreSoundRecords, IsApart, IsLogFile, IsNameFile, IsSoundAt, IsSoundFile, IsSoundRecord}
-use Rattle.history_check_names.specs.Stored.{Fact, Facts, AreFactsOf, fact_of, is_tag_of, kind_in, may_be_held}
+use Rattle.history_check_names.specs.Stored.{is_tag_of, may_be_held}
+use Rattle.history_check_objects.specs.Stored.{Fact, Facts, AreFactsOf, fact_of, kind_in}
 use Rattle.history_check_names.proofs.MadeNames.{made, made_at}
 use Rattle.history_check_names.proofs.PackedReads.{IsFile, all_map, file_of, form_from, found_state, hit_any, none_of, packed_read, read_by}
 use Rattle.history_check_names.proofs.PackedTexts.{text_ids}

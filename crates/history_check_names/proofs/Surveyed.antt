@@ -10,7 +10,7 @@ use Rattle.history_check_names.specs.Causes.{HasCause, IsFault}
 use Rattle.history_check_names.specs.Parts.{IsNamesPart, NamesBranch, StandsNames}
 use Rattle.history_check_names.specs.Packed.{is_packed_text}
 use Rattle.history_check_names.specs.Sound.{AreSoundRecords, IsSound, IsSoundBelow}
-use Rattle.history_check_names.specs.Stored.{Facts, AreFactsOf}
+use Rattle.history_check_objects.specs.Stored.{Facts, AreFactsOf}
 use Rattle.history_check_names.specs.declared.error.NamesError.{NamesError}
 use Rattle.history_check_names.proofs.Accepted.{no_cause}
 use Rattle.history_check_names.proofs.Found.{all_at}

@@ -7,10 +7,6 @@ use Rattle.std.proofs.lemmas.Bool.{or_from}
 use Rattle.gix_hash_id.specs.Id.{Id, id_of}
 use Rattle.gix_hash_id.specs.declared.kind.Kind.{Kind}
 use Rattle.gix_hash_id.specs.declared.object_id.ObjectId.{ObjectId}
-use Rattle.gix_object_lookup.specs.Table.{Object, Table, content_at, content_or_none, kind_at}
-use Rattle.gix_object_lines.specs.declared.kind.Kind.TheVariants.{Tag}
-use Rattle.gix_hash_id.specs.Order.{id_eq}
-use Rattle.std.proofs.lemmas.Option.{same_Some}
 use Rattle.gix_ref_file.specs.Changes.{is_file_at}
 use Rattle.gix_ref_file.specs.Tree.{Tree, bytes_at}
 use Rattle.history_model.specs.Bytes.{Bytes, begins}
@@ -24,7 +20,8 @@ use Rattle.history_check_names.specs.Logs.{HasFault, SpellsLog}
 use Rattle.history_check_names.specs.Sound.{IsApart, IsSoundFile}
 use Rattle.history_check_names.specs.Packed.{has_name, has_record, is_packed_text}
 use Rattle.history_check_names.specs.PackedRead.{IsPackedFault, ReadsPacked, names_in}
-use Rattle.history_check_names.specs.Stored.{Fact, Facts, fact_told, facts_in, is_of_wrong_kind, is_tag_of, kind_in, may_be_held, target_in, target_told}
+use Rattle.history_check_names.specs.Stored.{is_of_wrong_kind, is_tag_of, may_be_held}
+use Rattle.history_check_objects.specs.Stored.{Fact, Facts, facts_in, kind_in}
 use Rattle.history_check_names.specs.declared.error.NamesError.{NamesError}
 use Rattle.history_check_names.specs.declared.error.NamesError.TheVariants.{NoHead, BadHead, Stray, Unfinished, BadName, PrivateName, Symbolic, Missing, WrongKind, BadPacked, BadPeeled, Collides, BadLog, LongLogLine, LogWithoutName, File, Memory}
 use Rattle.history_check_names.specs.declared.log.LogFault.{LogFault}
@@ -82,63 +79,15 @@ unnamed_file kind tree name none = sym (ap (λ n. n && (is_file_at tree name || 
 pub kept_record : (kind : Kind) (packed : Packed) (tree : Tree) (name : Bytes) (b : Bool) → b ≡ list_any (bytes_eq name) (names_in packed.names.keys) → ReadsPacked kind packed tree → b ≡ has_record kind tree name
 kept_record kind packed tree name b is reads = is ∙ reads.names name
 
--- ---- what a store says
-
-kinds_told : (kind : Kind) (table : Table) (id : Id) → kind_in (facts_in kind table) id ≡ kind_at table id
-kinds_told kind table id = go (table id)
-  where
-    go : (o : Option Object) → option_map (λ (fact : Fact). fact.kind) (option_map (fact_told kind) o) ≡ option_map (λ (object : Object). object.kind) o
-    go None = refl
-    go (Some object) = refl
-
-pub held_told : {T E : Type 0} (kind : Kind) (table : Table) (id : Id) (r : Result T E) → OnOk r (IsTrue (may_be_held (kind_at table id))) → OnOk r (IsTrue (may_be_held (kind_in (facts_in kind table) id)))
-held_told kind table id r h = subst (λ o. OnOk r (IsTrue (may_be_held o))) (sym (kinds_told kind table id)) h
-
-pub unheld_told : {T : Type 0} (B : Type 0) (kind : Kind) (table : Table) (id : ObjectId) (name : Vec ℕ Global) (r : Result T NamesError) → IfErr r (IsUnheld B (kind_at table (id_of id)) id name) → IfErr r (IsUnheld B (kind_in (facts_in kind table) (id_of id)) id name)
-unheld_told B kind table id name r h = subst (λ o. IfErr r (IsUnheld B o id name)) (sym (kinds_told kind table (id_of id))) h
-
--- of a tag that is found, whether it is of this commit
-pub tag_told : (kind : Kind) (table : Table) (id commit : Id) (content : Bytes) (b : Bool) → kind_at table id ≡ Some Tag → content ≡ content_at table id
-    → b ≡ unwrap_or (option_map (id_eq commit) (target_in kind content)) false → b ≡ is_tag_of (facts_in kind table id) commit
-tag_told kind table id commit content b is read told = told ∙ ap (λ text. unwrap_or (option_map (id_eq commit) (target_in kind text)) false) read ∙ go (table id) is
-  where
-    go : (o : Option Object) → option_map (λ (object : Object). object.kind) o ≡ Some Tag → unwrap_or (option_map (id_eq commit) (target_in kind (content_or_none o))) false ≡ is_tag_of (option_map (fact_told kind) o) commit
-    go None e = cc
-    go (Some object) e = ap (λ k. unwrap_or (option_map (id_eq commit) (target_told kind k object.content)) false) (sym (same_Some object.kind Tag e))
-
 -- ---- causes
 
--- a cause stays where more may fail
-pub widen : (A B : Type 0) (kind : Kind) (facts : Facts) (tree : Tree) (error : NamesError) → HasCause A kind facts tree error → HasCause (A ⊎ B) kind facts tree error
-widen A B kind facts tree NoHead h = h
-widen A B kind facts tree BadHead h = h
-widen A B kind facts tree (Stray path) h = h
-widen A B kind facts tree (Unfinished path) h = h
-widen A B kind facts tree (BadName path) h = h
-widen A B kind facts tree (PrivateName name) h = h
-widen A B kind facts tree (Symbolic name) h = h
-widen A B kind facts tree (Missing id name) h = h
-widen A B kind facts tree (WrongKind id name) h = h
-widen A B kind facts tree (BadPacked number) h = h
-widen A B kind facts tree (BadPeeled name) h = h
-widen A B kind facts tree (Collides name other) h = h
-widen A B kind facts tree (BadLog path number) h = h
-widen A B kind facts tree (LongLogLine path number) h = h
-widen A B kind facts tree (LogWithoutName path) h = h
-widen A B kind facts tree File h = inl h
-widen A B kind facts tree Memory h = h
-
-pub widen_error : {T : Type 0} (A B : Type 0) (kind : Kind) (facts : Facts) (tree : Tree) (r : Result T NamesError) → IfErr r (HasCause A kind facts tree) → IfErr r (HasCause (A ⊎ B) kind facts tree)
-widen_error A B kind facts tree (Ok t) h = h
-widen_error A B kind facts tree (Err error) h = widen A B kind facts tree error h
-
 -- where the id that a name reads as isn't a stored commit's or tag's
-pub unheld_causes : {T : Type 0} (A B : Type 0) (kind : Kind) (facts : Facts) (tree : Tree) (id : ObjectId) (name : Vec ℕ Global) (r : Result T NamesError) → name_state kind tree name.items ≡ states.Holds (id_of id)
-    → IfErr r (IsUnheld B (kind_in facts (id_of id)) id name) → IfErr r (HasCause (A ⊎ B) kind facts tree)
-unheld_causes A B kind facts tree id name (Ok t) reads h = h
-unheld_causes A B kind facts tree id name (Err error) reads h = go error h
+pub unheld_causes : {T : Type 0} (A : Type 0) (kind : Kind) (facts : Facts) (tree : Tree) (id : ObjectId) (name : Vec ℕ Global) (r : Result T NamesError) → name_state kind tree name.items ≡ states.Holds (id_of id)
+    → IfErr r (IsUnheld (kind_in facts (id_of id)) id name) → IfErr r (HasCause A kind facts tree)
+unheld_causes A kind facts tree id name (Ok t) reads h = h
+unheld_causes A kind facts tree id name (Err error) reads h = go error h
   where
-    go : (error : NamesError) → IsUnheld B (kind_in facts (id_of id)) id name error → HasCause (A ⊎ B) kind facts tree error
+    go : (error : NamesError) → IsUnheld (kind_in facts (id_of id)) id name error → HasCause A kind facts tree error
     go NoHead h = absurd h
     go BadHead h = absurd h
     go (Stray path) h = absurd h
@@ -156,8 +105,8 @@ unheld_causes A B kind facts tree id name (Err error) reads h = go error h
     go (BadLog path number) h = absurd h
     go (LongLogLine path number) h = absurd h
     go (LogWithoutName path) h = absurd h
-    go File h = inr h
-    go Memory h = tt
+    go File h = absurd h
+    go Memory h = absurd h
 
 -- why a log's text isn't one
 pub log_causes : (A : Type 0) (kind : Kind) (facts : Facts) (tree : Tree) (path : Vec ℕ Global) (text : Bytes) (fault : LogFault) → is_log_place path.items ≡ true → file_at tree path.items ≡ Some text → HasFault kind text fault
@@ -222,11 +171,11 @@ pub private_file : (kind : Kind) (tree : Tree) (name : Bytes) → is_file_at tre
 private_file kind tree name there = ap (λ b. b || has_record kind tree name) there
 
 -- if one exists that is a folder of this one, the two collide
-pub collision_cause : (A B : Type 0) (kind : Kind) (facts : Facts) (tree : Tree) (name : Bytes) (error : NamesError) → is_packed_text kind (bytes_at tree packed_place) ≡ true → is_private name ≡ false → has_name kind tree name ≡ true
-    → IsCollision A kind tree name error → HasCause (A ⊎ B) kind facts tree error
-collision_cause A B kind facts tree name error good common there h = go error h
+pub collision_cause : (A : Type 0) (kind : Kind) (facts : Facts) (tree : Tree) (name : Bytes) (error : NamesError) → is_packed_text kind (bytes_at tree packed_place) ≡ true → is_private name ≡ false → has_name kind tree name ≡ true
+    → IsCollision A kind tree name error → HasCause A kind facts tree error
+collision_cause A kind facts tree name error good common there h = go error h
   where
-    go : (error : NamesError) → IsCollision A kind tree name error → HasCause (A ⊎ B) kind facts tree error
+    go : (error : NamesError) → IsCollision A kind tree name error → HasCause A kind facts tree error
     go NoHead h = absurd h
     go BadHead h = absurd h
     go (Stray path) h = absurd h
@@ -246,7 +195,7 @@ collision_cause A B kind facts tree name error good common there h = go error h
     go (BadLog path number) h = absurd h
     go (LongLogLine path number) h = absurd h
     go (LogWithoutName path) h = absurd h
-    go File h = inl h
+    go File h = h
     go Memory h = tt
 
 -- ---- a name's file
@@ -264,9 +213,9 @@ module _ (kind : Kind) (facts : Facts) (tree : Tree) (name text found : Bytes) (
   name_sound id (Err e) common apart holds held = held
 
   -- one that doesn't says why
-  pub name_causes : {T : Type 0} (A B : Type 0) (id : ObjectId) (holder : Vec ℕ Global) (r : Result T NamesError) → holder.items ≡ name → loose_state kind found ≡ states.Holds (id_of id)
-      → IfErr r (IsUnheld B (kind_in facts (id_of id)) id holder) → IfErr r (HasCause (A ⊎ B) kind facts tree)
-  name_causes A B id holder r is holds unheld = unheld_causes A B kind facts tree id holder r (ap (name_state kind tree) is ∙ state_is (states.Holds (id_of id)) holds) unheld
+  pub name_causes : {T : Type 0} (A : Type 0) (id : ObjectId) (holder : Vec ℕ Global) (r : Result T NamesError) → holder.items ≡ name → loose_state kind found ≡ states.Holds (id_of id)
+      → IfErr r (IsUnheld (kind_in facts (id_of id)) id holder) → IfErr r (HasCause A kind facts tree)
+  name_causes A id holder r is holds unheld = unheld_causes A kind facts tree id holder r (ap (name_state kind tree) is ∙ state_is (states.Holds (id_of id)) holds) unheld
 
 -- ---- a log
 

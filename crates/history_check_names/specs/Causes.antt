@@ -6,8 +6,6 @@ use Rattle.std.specs.declared.alloc.Global.{Global}
 use Rattle.gix_hash_id.specs.Id.{id_of}
 use Rattle.gix_hash_id.specs.declared.kind.Kind.{Kind}
 use Rattle.gix_hash_id.specs.declared.object_id.ObjectId.{ObjectId}
-use Rattle.gix_object_lookup.specs.declared.find.Error as find
-use Rattle.gix_object_lookup.specs.declared.find.Error.TheVariants as finds
 use Rattle.gix_object_lines.specs.declared.kind.Kind.{Kind as ObjectKind}
 use Rattle.gix_ref_file.specs.Changes.{is_file_at}
 use Rattle.gix_ref_file.specs.Tree.{Tree, bytes_at, is_folder}
@@ -23,7 +21,8 @@ use Rattle.history_model.specs.Places.{file_at, head_place, packed_place, is_loc
 use Rattle.history_model.specs.StandsFor.{head_text}
 use Rattle.history_check_names.specs.Logs.{HasBadLine, HasLongLine}
 use Rattle.history_check_names.specs.Packed.{HasBadRecord, has_name, has_record, records_at}
-use Rattle.history_check_names.specs.Stored.{Facts, is_of_wrong_kind, is_well_peeled, kind_in}
+use Rattle.history_check_names.specs.Stored.{is_of_wrong_kind, is_well_peeled}
+use Rattle.history_check_objects.specs.Stored.{Facts, kind_in}
 use Rattle.history_check_names.specs.declared.error.NamesError.{NamesError}
 use Rattle.history_check_names.specs.declared.error.NamesError.TheVariants.{NoHead, BadHead, Stray, Unfinished, BadName, PrivateName, Symbolic, Missing, WrongKind, BadPacked, BadPeeled, Collides, BadLog, LongLogLine, LogWithoutName, File, Memory}
 use Rattle.history_check_names.specs.declared.log.LogFault.{LogFault}
@@ -32,10 +31,6 @@ use Rattle.history_check_names.specs.declared.log.LogFault.TheVariants as logs
 abbrev pub file_fault : FileError → NamesError
 file_fault files.Failed = File
 file_fault files.Memory = Memory
-
-abbrev pub find_fault : find.Error → NamesError
-find_fault finds.Failed = File
-find_fault finds.Memory = Memory
 
 abbrev pub log_error : Vec ℕ Global → LogFault → NamesError
 log_error path (logs.Bad number) = BadLog path number
@@ -130,14 +125,12 @@ Excuses MayFail kind facts path result tree =
     IsTrue (is_file_at tree path) → IfErr result (HasCause MayFail kind facts tree)
 
 -- why no commit or tag is found under the id that a name holds
-abbrev pub IsUnheld : Type 0 → Option ObjectKind → ObjectId → Vec ℕ Global → NamesError → Type 0
-IsUnheld MayFail stored id name (Missing missing holder) =
+abbrev pub IsUnheld : Option ObjectKind → ObjectId → Vec ℕ Global → NamesError → Type 0
+IsUnheld stored id name (Missing missing holder) =
     (stored ≡ None) × (missing ≡ id) × (holder ≡ name)
-IsUnheld MayFail stored id name (WrongKind wrong holder) =
+IsUnheld stored id name (WrongKind wrong holder) =
     IsTrue (is_of_wrong_kind stored) × (wrong ≡ id) × (holder ≡ name)
-IsUnheld MayFail stored id name File = MayFail
-IsUnheld MayFail stored id name Memory = ⊤
-IsUnheld MayFail stored id name _ = ⊥
+IsUnheld stored id name _ = ⊥
 
 -- the first name is a folder of the second one, unless memory ran out for the error
 abbrev pub IsCollisionOf : Bytes → Bytes → NamesError → Type 0
@@ -153,7 +146,7 @@ IsCollision MayFail kind tree name File = MayFail
 IsCollision MayFail kind tree name Memory = ⊤
 IsCollision MayFail kind tree name _ = ⊥
 
--- a call of the files or of the store failed, or memory ran out
+-- a call of the files failed, or memory ran out
 abbrev pub IsFault : NamesError → Type 0
 IsFault File = ⊤
 IsFault Memory = ⊤

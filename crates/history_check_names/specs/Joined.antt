@@ -12,7 +12,7 @@ use Rattle.history_model.specs.Repository.{Repository, Values, IsWholeStore, fir
 use Rattle.history_model.specs.StandsFor.{StandsWhole}
 use Rattle.history_layout.specs.TreeHalves.{HoldsValues}
 use Rattle.history_check_names.specs.Parts.{IsNamesPart}
-use Rattle.history_check_names.specs.Stored.{Facts, AreFactsOf}
+use Rattle.history_check_objects.specs.Stored.{Facts, AreFactsOf}
 
 -- a repository without names that stores these values
 abbrev pub store_of : Kind → Values → Repository

@@ -9,7 +9,7 @@ use Rattle.history_model.specs.Places.{file_at, head_place}
 use Rattle.history_model.specs.Repository.{Reference, Repository, Values, HasWholeNames}
 use Rattle.history_model.specs.StandsFor.{head_text}
 use Rattle.history_layout.specs.TreeHalves.{HoldsNames}
-use Rattle.history_check_names.specs.Stored.{Facts, AreFactsOf}
+use Rattle.history_check_objects.specs.Stored.{Facts, AreFactsOf}
 
 -- The tree is the names part of this repository: whole, and in written form.
 pub record StandsNames (tree : Tree) (r : Repository) : Type 0 where

@@ -16,7 +16,8 @@ use Rattle.history_model.specs.Places.{file_at, head_place, packed_place, is_log
 use Rattle.gix_ref_way.specs.Ways.{above}
 use Rattle.history_check_names.specs.Logs.{SpellsLog}
 use Rattle.history_check_names.specs.Packed.{has_name, is_packed_text, records_at}
-use Rattle.history_check_names.specs.Stored.{Facts, is_well_peeled, kind_in, may_be_held}
+use Rattle.history_check_names.specs.Stored.{is_well_peeled, may_be_held}
+use Rattle.history_check_objects.specs.Stored.{Facts, kind_in}
 use Rattle.history_check_names.specs.declared.loose.Loose.{Loose}
 use Rattle.history_check_names.specs.declared.loose.Loose.TheVariants.{Holds, Symbolic, Faulty}
 

@@ -1,13 +1,12 @@
 //! Why a names part isn't a repository's.
 
 ghost use Rattle.std.specs.Prelude.{◌≡◌};
-ghost use Rattle.history_check_names.specs.Causes.{file_fault, find_fault, log_error};
+ghost use Rattle.history_check_names.specs.Causes.{file_fault, log_error};
 ghost use Rattle.history_check_names.specs.Told.{cause_of_names};
 ghost use Rattle.history_check_names.specs.declared.error.NamesError.TheVariants.{Memory};
 
 use crate::log::LogFault;
 use gix_hash::ObjectId;
-use gix_object_lookup::find;
 use gix_ref_file::FileError;
 use history_texts::{NamedBy, OpenError};
 use std::alloc::{AllocError, AllocFailed};
@@ -77,17 +76,6 @@ impl From<FileError> for NamesError {
         match error {
             FileError::Failed => NamesError::File,
             FileError::Memory => NamesError::Memory,
-        }
-    }
-}
-
-impl From<find::Error> for NamesError {
-    ghost from_gives = { λ error given. given ≡ find_fault error };
-
-    fn from(error: find::Error) -> NamesError {
-        match error {
-            find::Error::Failed => NamesError::File,
-            find::Error::Memory => NamesError::Memory,
         }
     }
 }

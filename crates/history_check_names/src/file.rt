@@ -1,8 +1,7 @@
 //! One file of the names part.
 
-ghost use Rattle.std.specs.Prelude.{◌≡◌, ◌⊎◌, IfErr, IfOk, IsErrOf, IsFalse, IsTrue, OnOk, length, option_map};
+ghost use Rattle.std.specs.Prelude.{◌≡◌, IfErr, IfOk, IsErrOf, IsFalse, IsTrue, OnOk, length, option_map};
 ghost use Rattle.gix_hash_id.specs.Id.{id_of};
-ghost use Rattle.gix_object_lookup.specs.Table.{kind_at};
 ghost use Rattle.gix_ref_file.specs.Calls.{Finds};
 ghost use Rattle.gix_ref_file.specs.Changes.{is_file_at};
 ghost use Rattle.gix_ref_file.specs.Tree.{bytes_at};
@@ -14,7 +13,8 @@ ghost use Rattle.history_check_names.specs.Causes.{Excuses, IsCollision, IsColli
 ghost use Rattle.history_check_names.specs.Packed.{has_name};
 ghost use Rattle.history_check_names.specs.PackedRead.{ReadsPacked};
 ghost use Rattle.history_check_names.specs.Sound.{IsApart, Sounds};
-ghost use Rattle.history_check_names.specs.Stored.{Facts, facts_in, may_be_held};
+ghost use Rattle.history_check_names.specs.Stored.{may_be_held};
+ghost use Rattle.history_check_objects.specs.Stored.{Facts, facts_in, kind_in};
 
 use crate::error::NamesError;
 use crate::log::log_fault;
@@ -23,8 +23,8 @@ use crate::packed::Packed;
 use crate::records::PACKED_REFS;
 use gix_hash::{Kind, ObjectId};
 use gix_object_lines::Kind as ObjectKind;
-use gix_object_lookup::FindHeader;
 use gix_ref_file::{FileError, Files, Place};
+use history_check_objects::Stored;
 use history_model::names::{HEAD, REFS};
 use history_texts::is_name;
 use std::alloc::Global;
@@ -39,11 +39,11 @@ const LOCK_END: &[u8] = b".lock";
 /// stored commit or tag, or the log of an existing name. The file has so many bytes. HEAD isn't
 /// read, nor is a name's file that is too long to hold anything. Otherwise returns a cause that
 /// holds.
-pub(crate) fn test_file<F: Files, S: FindHeader>(
+pub(crate) fn test_file<F: Files>(
     alloc: Global,
     files: &F,
     kind: Kind,
-    stored: &S,
+    stored: &Stored,
     packed: &Packed<'_>,
     path: Vec<u8>,
     len: u64,
@@ -51,11 +51,10 @@ pub(crate) fn test_file<F: Files, S: FindHeader>(
     requires packed { Finds F.is_honest F.history files.now (ReadsPacked kind packed.now) }
     requires size { Finds F.is_honest F.history files.now
         (λ tree. len ≡ length (bytes_at tree path.items)) }
-    ensures sound { S.is_honest stored.now → Finds F.is_honest F.history files.now
-        (Sounds kind (facts_in kind (S.table stored.now)) path.items result) }
-    ensures wrong { S.is_honest stored.now → Finds F.is_honest F.history files.now
-        (Excuses (F.reading_may_fail ⊎ S.may_fail stored.now) kind
-        (facts_in kind (S.table stored.now)) path.items result) }
+    ensures sound { Finds F.is_honest F.history files.now
+        (Sounds kind (facts_in stored.now) path.items result) }
+    ensures wrong { Finds F.is_honest F.history files.now
+        (Excuses F.reading_may_fail kind (facts_in stored.now) path.items result) }
 {
     if path.as_slice() == HEAD {
         return Ok(());
@@ -76,11 +75,11 @@ pub(crate) fn test_file<F: Files, S: FindHeader>(
 }
 
 // Tests the file of a name.
-fn test_name<F: Files, S: FindHeader>(
+fn test_name<F: Files>(
     alloc: Global,
     files: &F,
     kind: Kind,
-    stored: &S,
+    stored: &Stored,
     packed: &Packed<'_>,
     name: Vec<u8>,
     len: u64,
@@ -90,11 +89,10 @@ fn test_name<F: Files, S: FindHeader>(
         (λ tree. len ≡ length (bytes_at tree name.items)) }
     requires below { IsTrue (begins refs_front name.items) }
     requires finished { IsFalse (is_lock_file name.items) }
-    ensures sound { S.is_honest stored.now → Finds F.is_honest F.history files.now
-        (Sounds kind (facts_in kind (S.table stored.now)) name.items result) }
-    ensures wrong { S.is_honest stored.now → Finds F.is_honest F.history files.now
-        (Excuses (F.reading_may_fail ⊎ S.may_fail stored.now) kind
-        (facts_in kind (S.table stored.now)) name.items result) }
+    ensures sound { Finds F.is_honest F.history files.now
+        (Sounds kind (facts_in stored.now) name.items result) }
+    ensures wrong { Finds F.is_honest F.history files.now
+        (Excuses F.reading_may_fail kind (facts_in stored.now) name.items result) }
 {
     if !is_name(&name) {
         return Err(NamesError::BadName(name));
@@ -115,22 +113,15 @@ fn test_name<F: Files, S: FindHeader>(
 }
 
 /// Tests that a commit or a tag is stored under the id that a name holds. Otherwise returns
-/// `Missing` or `WrongKind`, or that the store failed or memory ran out.
-pub(crate) fn test_held<S: FindHeader>(
-    stored: &S,
-    id: ObjectId,
-    name: Vec<u8>,
-) -> Result<(), NamesError>
-    ensures held { S.is_honest stored.now
-        → OnOk result (IsTrue (may_be_held (kind_at (S.table stored.now) (id_of id)))) }
-    ensures unheld { S.is_honest stored.now
-        → IfErr result
-        (IsUnheld (S.may_fail stored.now) (kind_at (S.table stored.now) (id_of id)) id name) }
+/// `Missing` or `WrongKind`.
+pub(crate) fn test_held(stored: &Stored, id: ObjectId, name: Vec<u8>) -> Result<(), NamesError>
+    ensures held { OnOk result (IsTrue (may_be_held (kind_in (facts_in stored.now) (id_of id)))) }
+    ensures unheld { IfErr result (IsUnheld (kind_in (facts_in stored.now) (id_of id)) id name) }
 {
-    let Some(header) = stored.try_header(id.as_oid())? else {
+    let Some(kind) = stored.kind_of(&id) else {
         return Err(NamesError::Missing(id, name));
     };
-    match header.kind {
+    match kind {
         ObjectKind::Commit | ObjectKind::Tag => Ok(()),
         ObjectKind::Tree | ObjectKind::Blob => Err(NamesError::WrongKind(id, name)),
     }

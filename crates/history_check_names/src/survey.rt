@@ -1,6 +1,6 @@
 //! Everything that is in the names part.
 
-ghost use Rattle.std.specs.Prelude.{◌≡◌, ◌⊎◌, IfErr, IfOk, IsTrue, OnOk};
+ghost use Rattle.std.specs.Prelude.{◌≡◌, IfErr, IfOk, IsTrue, OnOk};
 ghost use Rattle.gix_ref_file.specs.Tree.{bytes_at};
 ghost use Rattle.history_model.specs.Places.{packed_place};
 ghost use Rattle.history_check_names.specs.Packed.{is_packed_text};
@@ -12,7 +12,7 @@ ghost use Rattle.history_check_names.specs.Causes.{HasCause, IsFault};
 ghost use Rattle.history_check_names.specs.PackedRead.{ReadsPacked};
 ghost use Rattle.history_check_names.specs.Parts.{IsNamesPart, NamesBranch, StandsNames};
 ghost use Rattle.history_check_names.specs.Sound.{IsSound, IsSoundBelow};
-ghost use Rattle.history_check_names.specs.Stored.{AreFactsOf, Facts, facts_in};
+ghost use Rattle.history_check_objects.specs.Stored.{AreFactsOf, Facts, facts_in};
 
 use crate::error::NamesError;
 use crate::file::{file_len, test_file, text_at};
@@ -20,9 +20,9 @@ use crate::loose::MAX_LOOSE;
 use crate::packed::Packed;
 use crate::records::{PACKED_REFS, test_records};
 use gix_hash::Kind;
-use gix_object_lookup::{FindHeader, FindInto};
 use gix_ref_file::paths::{is_deeper, joined};
 use gix_ref_file::{Files, Place};
+use history_check_objects::Stored;
 use history_model::names::{HEAD, HEADS};
 use history_names::Names;
 use history_texts::{Part, is_name};
@@ -37,27 +37,21 @@ use std::alloc::Global;
 ///
 /// Otherwise the error names a cause that holds. It is `File` if a call of the files failed, and
 /// `Memory` if no memory is left.
-pub fn survey_names<F: Files, S: FindInto + FindHeader>(
+pub fn survey_names<F: Files>(
     alloc: Global,
     names: &Names<F>,
-    stored: &S,
+    stored: &Stored,
 ) -> Result<Vec<u8>, NamesError>
-    ensures stands { S.is_honest stored.now
-        → Finds F.is_honest F.history (files_of_names names.now) (λ tree. IfOk result (λ branch.
-        IsNamesPart (kind_of_names names.now)
-        (facts_in (kind_of_names names.now) (S.table stored.now)) tree branch.items)) }
-    ensures wrong { S.is_honest stored.now
-        → Finds F.is_honest F.history (files_of_names names.now) (λ tree. IfErr result
-        (HasCause (F.reading_may_fail ⊎ S.may_fail stored.now) (kind_of_names names.now)
-        (facts_in (kind_of_names names.now) (S.table stored.now)) tree)) }
+    ensures stands { Finds F.is_honest F.history (files_of_names names.now) (λ tree. IfOk result
+        (λ branch. IsNamesPart (kind_of_names names.now) (facts_in stored.now) tree branch.items)) }
+    ensures wrong { Finds F.is_honest F.history (files_of_names names.now) (λ tree. IfErr result
+        (HasCause F.reading_may_fail (kind_of_names names.now) (facts_in stored.now) tree)) }
     // The file of packed names is in its form.
-    ensures packed { S.is_honest stored.now
-        → Finds F.is_honest F.history (files_of_names names.now) (λ tree. OnOk result (IsTrue
-        (is_packed_text (kind_of_names names.now) (bytes_at tree packed_place)))) }
+    ensures packed { Finds F.is_honest F.history (files_of_names names.now) (λ tree. OnOk result
+        (IsTrue (is_packed_text (kind_of_names names.now) (bytes_at tree packed_place)))) }
     // A repository's names part is refused only for a fault.
-    ensures accepted { (r : Repository) → S.is_honest stored.now
-        → r.kind ≡ kind_of_names names.now
-        → AreFactsOf (facts_in (kind_of_names names.now) (S.table stored.now)) r.objects
+    ensures accepted { (r : Repository) → r.kind ≡ kind_of_names names.now
+        → AreFactsOf (facts_in stored.now) r.objects
         → Finds F.is_honest F.history (files_of_names names.now)
         (λ tree. StandsNames tree r → IfErr result IsFault) }
 {
@@ -97,17 +91,16 @@ fn is_branch(name: &[u8]) -> bool
 }
 
 // Tests everything in the part.
-fn test_all<F: Files, S: FindInto + FindHeader>(
+fn test_all<F: Files>(
     alloc: Global,
     files: &F,
     kind: Kind,
-    stored: &S,
+    stored: &Stored,
 ) -> Result<(), NamesError>
-    ensures sound { S.is_honest stored.now → Finds F.is_honest F.history files.now
-        (λ tree. OnOk result (IsSound kind (facts_in kind (S.table stored.now)) tree)) }
-    ensures wrong { S.is_honest stored.now → Finds F.is_honest F.history files.now
-        (λ tree. IfErr result (HasCause (F.reading_may_fail ⊎ S.may_fail stored.now) kind
-        (facts_in kind (S.table stored.now)) tree)) }
+    ensures sound { Finds F.is_honest F.history files.now
+        (λ tree. OnOk result (IsSound kind (facts_in stored.now) tree)) }
+    ensures wrong { Finds F.is_honest F.history files.now
+        (λ tree. IfErr result (HasCause F.reading_may_fail kind (facts_in stored.now) tree)) }
 {
     let text = text_at(alloc, files, PACKED_REFS)?;
     let packed = Packed::read(alloc, kind, &text)?;
@@ -116,21 +109,19 @@ fn test_all<F: Files, S: FindInto + FindHeader>(
 }
 
 // Tests everything below a folder.
-fn test_folder<F: Files, S: FindHeader>(
+fn test_folder<F: Files>(
     alloc: Global,
     files: &F,
     kind: Kind,
-    stored: &S,
+    stored: &Stored,
     packed: &Packed<'_>,
     folder: &[u8],
 ) -> Result<(), NamesError>
     requires { Finds F.is_honest F.history files.now (ReadsPacked kind packed.now) }
-    ensures sound { S.is_honest stored.now → Finds F.is_honest F.history files.now
-        (λ tree. OnOk result
-        (IsSoundBelow kind (facts_in kind (S.table stored.now)) folder.now tree)) }
-    ensures wrong { S.is_honest stored.now → Finds F.is_honest F.history files.now
-        (λ tree. IfErr result (HasCause (F.reading_may_fail ⊎ S.may_fail stored.now) kind
-        (facts_in kind (S.table stored.now)) tree)) }
+    ensures sound { Finds F.is_honest F.history files.now
+        (λ tree. OnOk result (IsSoundBelow kind (facts_in stored.now) folder.now tree)) }
+    ensures wrong { Finds F.is_honest F.history files.now
+        (λ tree. IfErr result (HasCause F.reading_may_fail kind (facts_in stored.now) tree)) }
 {
     for name in &files.list(alloc, folder)? {
         let path = joined(alloc, folder, name)?;

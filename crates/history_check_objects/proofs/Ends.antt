@@ -1,13 +1,13 @@
 -- Where a survey has come to its end, the tree holds the values of the listed objects.
-use Rattle.std.proofs.Common.{◌≡◌, Bool, true, false, cond, List, [], ◌∷◌, refl, sym, ◌∙◌, ap, inl, inr, Option, Some, None, is_some, option_map}
+use Rattle.std.proofs.Common.{◌≡◌, Bool, true, false, cond, ◌||◌, List, [], ◌∷◌, refl, sym, ◌∙◌, ap, inl, inr, Option, Some, None, is_some, option_map}
 use Rattle.std.specs.Prelude.{Contains, option_and_then}
 use Rattle.std.specs.BTreeMap as maps
-use Rattle.std.specs.Map.{lookup}
+use Rattle.std.specs.Map.{keys_of, lookup}
 use Rattle.std.specs.Ordering.{is_eq}
 use Rattle.std.specs.List.{list_any}
 use Rattle.std.specs.FinMap.{contains_key, get}
 use Rattle.gix_hash_id.specs.Id.{Id, id_of}
-use Rattle.gix_hash_id.specs.Order.{id_cmp, id_eq}
+use Rattle.gix_hash_id.specs.Order.{id_cmp}
 use Rattle.gix_hash_id.specs.OrderLaws.{id_tied}
 use Rattle.gix_hash_id.specs.declared.kind.Kind.{Kind}
 use Rattle.gix_hash_id.specs.declared.object_id.ObjectId.{ObjectId}
@@ -17,13 +17,12 @@ use Rattle.history_model.specs.Objects.{Value, object_kind, value_text}
 use Rattle.history_model.specs.Places.{file_at}
 use Rattle.history_model.specs.Repository.{HaveOwnIds, Values}
 use Rattle.history_model.specs.StandsFor.{value_files}
-use Rattle.history_model.proofs.IdLemmas.{id_itself, one_id}
+use Rattle.history_model.proofs.IdLemmas.{one_id}
 use Rattle.history_model.proofs.PlaceLemmas.{file_at_id, file_has_id}
-use Rattle.history_model.proofs.WholeLists.{clash, none_is_some, one_passes, passes_one}
-use Rattle.history_model.proofs.WholeSteps.{contains_in, in_contains}
+use Rattle.history_model.proofs.WholeLists.{clash, none_is_some}
 use Rattle.history_texts.specs.IdLists.{is_one_of}
 use Rattle.std.proofs.lemmas.Option.{same_Some}
-use Rattle.history_check_objects.specs.Stored.{at_id, fact_noted, fact_of, facts_in, target_of}
+use Rattle.history_check_objects.specs.Stored.{at_id, fact_noted, fact_of, facts_in, ids_in, target_of}
 use Rattle.history_check_objects.specs.Surveyed.{IsWholePart}
 use Rattle.history_check_objects.specs.Surveying.{Stands, Unmet, by_id}
 use Rattle.history_check_objects.specs.declared.stored.Done.{Done}
@@ -73,31 +72,15 @@ module _ (kind : Kind) (tree : Tree) (ids : List ObjectId) (unmet : Unmet) (done
           ap (file_at tree) listed.2 ∙ (s.in_tree).texts (id_of listed.0) there.0 there.1
           ∙ sym (ap (get (value_files kind s.values)) listed.2 ∙ file_at_id kind s.values own (id_of listed.0) ((s.listed).formed listed.0 listed.1) ∙ ap (option_map (value_text kind)) there.1)
 
-  same_test : (a b : Bool) → (a ≡ true → b ≡ true) → (b ≡ true → a ≡ true) → a ≡ b
-  same_test true b f g = sym (f refl)
-  same_test false true f g = g refl
-  same_test false false f g = refl
-
-  known_is : (id : Id) → contains_key s.values id ≡ is_one_of ids id
-  known_is id = same_test (contains_key s.values id) (is_one_of ids id) (λ h. there (get s.values id) refl h) (λ h.
-      let one = one_passes (λ (other : ObjectId). id_eq id (id_of other)) ids h in
-      let at = value_at one.0 (in_contains ids one.0 one.1) in
-      ap is_some (ap (get s.values) (one_id id (id_of one.0) one.2) ∙ at.1))
-    where
-      there : (o : Option Value) → get s.values id ≡ o → is_some o ≡ true → is_one_of ids id ≡ true
-      there None e h = cc
-      there (Some v) e h =
-          let own = s.known id v e in
-          passes_one (λ (other : ObjectId). id_eq id (id_of other)) ids own.0 (contains_in ids own.0 own.1) (ap (λ q. id_eq q (id_of own.0)) own.2 ∙ id_itself (id_of own.0))
-
   -- an id with something in a map is a key of it
   some_key : {X : Type 0} (es : List (ObjectId × X)) (id : Id) (x : X) → lookup (λ (own : ObjectId). is_eq (id_cmp id (id_of own))) es ≡ Some x → (own : ObjectId) × (id ≡ id_of own)
   some_key [] id x h = none_is_some x h
-  some_key (e ∷ es) id x h = go (is_eq (id_cmp id (id_of e.0))) refl h
+  some_key (e ∷ es) id x h = go (is_eq (id_cmp id (id_of e.0))) refl h (λ k. some_key es id x k)
     where
-      go : (b : Bool) → is_eq (id_cmp id (id_of e.0)) ≡ b → cond b (Some e.1) (lookup (λ (own : ObjectId). is_eq (id_cmp id (id_of own))) es) ≡ Some x → (own : ObjectId) × (id ≡ id_of own)
-      go true same h = (e.0, one_id id (id_of e.0) (id_tied id (id_of e.0) ∙ same))
-      go false other h = some_key es id x h
+      go : (b : Bool) → is_eq (id_cmp id (id_of e.0)) ≡ b → cond b (Some e.1) (lookup (λ (own : ObjectId). is_eq (id_cmp id (id_of own))) es) ≡ Some x
+          → (lookup (λ (own : ObjectId). is_eq (id_cmp id (id_of own))) es ≡ Some x → (own : ObjectId) × (id ≡ id_of own)) → (own : ObjectId) × (id ≡ id_of own)
+      go true same h rest = (e.0, one_id id (id_of e.0) (id_tied id (id_of e.0) ∙ same))
+      go false other h rest = rest h
 
   told_at : (own : ObjectId) (v : Value) → get s.values (id_of own) ≡ Some v → (o : Option Done) → maps.get by_id done.done own ≡ o → is_some o ≡ true → option_map (fact_noted (maps.get by_id done.tags own)) o ≡ Some (fact_of v)
   told_at own v at None e h = cc
@@ -123,7 +106,28 @@ module _ (kind : Kind) (tree : Tree) (ids : List ObjectId) (unmet : Unmet) (done
           ∙ told_at own.0 v (ap (get s.values) (sym own.2) ∙ e) (maps.get by_id done.done own.0) refl (is_noted own.0 own.1)
           ∙ sym (ap (option_map fact_of) e)
 
-  pub whole_part : IsWholePart kind tree ids (facts_in done)
+  -- whether an id is a key is whether something is there
+  key_there : {X : Type 0} (es : List (ObjectId × X)) (id : Id) → is_one_of (keys_of es) id ≡ is_some (lookup (λ (own : ObjectId). is_eq (id_cmp id (id_of own))) es)
+  key_there [] id = refl
+  key_there (e ∷ es) id = ap (λ b. b || is_one_of (keys_of es) id) (id_tied id (id_of e.0)) ∙ split (is_eq (id_cmp id (id_of e.0))) (key_there es id)
+    where
+      split : (b : Bool) → is_one_of (keys_of es) id ≡ is_some (lookup (λ (own : ObjectId). is_eq (id_cmp id (id_of own))) es)
+          → (b || is_one_of (keys_of es) id) ≡ is_some (cond b (Some e.1) (lookup (λ (own : ObjectId). is_eq (id_cmp id (id_of own))) es))
+      split true rest = refl
+      split false rest = rest
+
+  some_mapped : {X Y : Type 0} (f : X → Y) (o : Option X) → is_some (option_map f o) ≡ is_some o
+  some_mapped f None = refl
+  some_mapped f (Some x) = refl
+
+  known_is : (id : Id) → contains_key s.values id ≡ is_one_of (ids_in done) id
+  known_is id =
+      sym (some_mapped fact_of (get s.values id))
+      ∙ ap is_some (sym (told id))
+      ∙ some_mapped (fact_noted (at_id done.tags id)) (at_id done.done id)
+      ∙ sym (key_there done.done.entries id)
+
+  pub whole_part : IsWholePart kind tree done
   whole_part = record {
     values = s.values;
     holds = record { files = file_is; folders = (s.listed).folders };

@@ -1,6 +1,6 @@
 -- What is known of the objects that are stored.
-use Rattle.std.specs.Prelude.{◌≡◌, ℕ, Option, Some, None, option_map, option_and_then}
-use Rattle.std.specs.BTreeMap.{BTreeMap, get_by}
+use Rattle.std.specs.Prelude.{◌≡◌, List, Option, Some, None, option_map, option_and_then}
+use Rattle.std.specs.BTreeMap.{BTreeMap, get_by, keys}
 use Rattle.std.specs.FinMap.{get}
 use Rattle.gix_hash_id.specs.Id.{Id, id_of}
 use Rattle.gix_hash_id.specs.Order.{id_cmp}
@@ -53,3 +53,6 @@ fact_noted commit done = record { kind = done.kind; target = option_map id_of co
 -- the facts of the objects that are noted
 abbrev pub facts_in : Stored → Facts
 facts_in stored id = option_map (fact_noted (at_id stored.tags id)) (at_id stored.done id)
+
+abbrev pub ids_in : Stored → List ObjectId
+ids_in stored = keys stored.done

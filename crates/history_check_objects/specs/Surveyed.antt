@@ -11,13 +11,14 @@ use Rattle.history_model.specs.Repository.{Values}
 use Rattle.history_layout.specs.TreeHalves.{HoldsValues}
 use Rattle.history_texts.specs.IdLists.{is_one_of}
 use Rattle.history_check_objects.specs.Opened.{IsSoundStore}
-use Rattle.history_check_objects.specs.Stored.{Facts, AreFactsOf}
+use Rattle.history_check_objects.specs.Stored.{AreFactsOf, facts_in, ids_in}
 use Rattle.history_check_objects.specs.Surveying.{Stands}
 use Rattle.history_texts.specs.declared.open_error.OpenError.{OpenError}
 use Rattle.history_texts.specs.declared.open_error.NamedBy.TheVariants.{Object}
 use Rattle.history_texts.specs.declared.open_error.OpenError.TheVariants.{Cycle, Missing}
 use Rattle.history_check_objects.specs.declared.order.Frame.{Frame}
 use Rattle.history_check_objects.specs.declared.order.Survey.{Survey}
+use Rattle.history_check_objects.specs.declared.stored.Stored.{Stored}
 
 -- the survey has come so far, with these open objects, the last one first
 abbrev pub StandsOver : Kind → Tree → List ObjectId → Survey → List Frame → Option ObjectId
@@ -45,12 +46,10 @@ IsLacking frames by id (Missing other (Object from)) = (other ≡ id) × (from �
     × (id_of by ≢ id_of id) × IsFalse (is_open frames (id_of id))
 IsLacking frames by id _ = ⊥
 
--- the tree holds the values of just these ids, which are a whole store in written form; these are
--- their facts
-pub record IsWholePart (kind : Kind) (tree : Tree) (ids : List ObjectId) (facts : Facts)
-    : Type 0 where
+-- the tree holds the values of just the objects that are noted: a whole store in written form
+pub record IsWholePart (kind : Kind) (tree : Tree) (stored : Stored) : Type 0 where
   pub values : Values
   pub holds : HoldsValues kind tree values
   pub sound : IsSoundStore kind values
-  pub known : (id : Id) → contains_key values id ≡ is_one_of ids id
-  pub told : AreFactsOf facts values
+  pub known : (id : Id) → contains_key values id ≡ is_one_of (ids_in stored) id
+  pub told : AreFactsOf (facts_in stored) values

@@ -8,7 +8,6 @@ ghost use Rattle.history_check_objects.specs.Flaws.{IsObjectsFlaw};
 ghost use Rattle.history_check_objects.specs.Links.{reach_of};
 ghost use Rattle.history_check_objects.specs.Nexts.{target_linked};
 ghost use Rattle.history_check_objects.specs.Passing.{IsPassed, IsReach, IsRefusedLink, IsSame};
-ghost use Rattle.history_check_objects.specs.Stored.{facts_in};
 ghost use Rattle.history_check_objects.specs.Surveyed.{IsLacking, IsWholePart, StandsAt, StandsOver, is_open, left_of};
 ghost use Rattle.history_check_objects.specs.Surveying.{AreListed, links_of};
 
@@ -91,12 +90,12 @@ pub(crate) struct Survey {
 
 impl Survey {
     /// Returns the survey of these objects, none of which has come. Fails only if memory runs out.
-    pub(crate) fn new(alloc: Global, ids: &[ObjectId]) -> Result<Survey, AllocError>
-        ensures { (kind : Kind) (tree : Tree) → AreListed kind tree ids.now
-            → IfOk result (λ survey. StandsAt kind tree ids.now survey None) }
+    pub(crate) fn new(alloc: Global, ids: Vec<ObjectId>) -> Result<Survey, AllocError>
+        ensures { (kind : Kind) (tree : Tree) → AreListed kind tree ids.items
+            → IfOk result (λ survey. StandsAt kind tree ids.items survey None) }
     {
         let mut unmet = BTreeSet::new(alloc);
-        for id in ids {
+        for id in &ids {
             unmet.insert(*id)?;
         }
         Ok(Survey {
@@ -217,12 +216,11 @@ pub(crate) fn survey_objects<F: Files>(
     alloc: Global,
     files: &F,
     kind: Kind,
-    ids: &[ObjectId],
+    ids: Vec<ObjectId>,
 ) -> Result<Stored, OpenError>
-    ensures whole { F.is_honest files.now → AreListed kind (F.history files.now).tree ids.now
-        → IfOk result (λ stored.
-        IsWholePart kind (F.history files.now).tree ids.now (facts_in stored)) }
-    ensures flaw { F.is_honest files.now → AreListed kind (F.history files.now).tree ids.now
+    ensures whole { F.is_honest files.now → AreListed kind (F.history files.now).tree ids.items
+        → IfOk result (IsWholePart kind (F.history files.now).tree) }
+    ensures flaw { F.is_honest files.now → AreListed kind (F.history files.now).tree ids.items
         → IfErr result (IsObjectsFlaw F.reading_may_fail kind (F.history files.now).tree) }
 {
     let mut survey = Survey::new(alloc, ids)?;

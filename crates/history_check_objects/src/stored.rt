@@ -2,18 +2,19 @@
 ghost use Rattle.std.specs.BTreeMap.{IsEmpty, Updates};
 ghost use Rattle.std.specs.Prelude.{◌≡◌, MatchOption, OnOk, Some, option_map};
 ghost use Rattle.gix_hash_id.specs.Id.{id_of};
-ghost use Rattle.history_check_objects.specs.Stored.{facts_in, kind_in, target_in};
+ghost use Rattle.history_check_objects.specs.Stored.{facts_in, ids_in, kind_in, target_in};
 ghost use Rattle.history_check_objects.specs.Surveying.{by_id};
 
 use gix_hash::ObjectId;
 use gix_object::Kind as ObjectKind;
 use std::alloc::{AllocError, Global};
 use std::collections::BTreeMap;
+use std::collections::btree_map::Keys;
 
 /// What is noted of an object all of whose links are noted: its kind, and how long the longest path
 /// below it is, if it is a tree.
 #[derive(Clone, Copy)]
-pub(crate) struct Done {
+pub struct Done {
     pub(crate) kind: ObjectKind,
     pub(crate) longest: usize,
 }
@@ -54,6 +55,13 @@ impl Stored {
         }
         self.done.insert(id, done)?;
         Ok(())
+    }
+
+    /// Returns the ids of the objects.
+    pub fn ids(&self) -> Keys<'_, ObjectId, Done>
+        ensures { result ≡ ids_in self.now }
+    {
+        self.done.keys()
     }
 
     /// Returns the kind of the object of this id; `None` if none is stored.

@@ -1,42 +1,28 @@
 //! The objects of a part that is whole.
 ghost use Rattle.std.specs.Prelude.{IfErr, IfOk};
 ghost use Rattle.history_check_objects.specs.Flaws.{IsObjectsFlaw};
-ghost use Rattle.history_check_objects.specs.Stored.{facts_in};
 ghost use Rattle.history_check_objects.specs.Surveyed.{IsWholePart};
 
 use crate::listing::list_objects;
 use crate::order::survey_objects;
 use crate::stored::Stored;
-use gix_hash::{Kind, ObjectId};
+use gix_hash::Kind;
 use gix_ref_file::Files;
 use history_texts::OpenError;
 use std::alloc::Global;
 
-/// The objects of a part that is whole: their ids, and what is known of them.
-#[derive(Drop)]
-pub struct WholeObjects {
-    pub ids: Vec<ObjectId>,
-    pub stored: Stored,
-}
-
-/// Returns the objects of a part that is whole: each file is an object's, in written
+/// Returns what is known of the objects of a part that is whole: each file is an object's, in written
 /// form and under its own id, all that an object names is stored, and none reaches itself. No file
 /// is changed. Each object is read once.
 ///
 /// Otherwise the error holds of the part: `File` if a call of the files failed, `Memory` if no
 /// memory is left, and else a cause.
-pub fn whole_objects<F: Files>(
-    alloc: Global,
-    files: &F,
-    kind: Kind,
-) -> Result<WholeObjects, OpenError>
+pub fn whole_objects<F: Files>(alloc: Global, files: &F, kind: Kind) -> Result<Stored, OpenError>
     ensures whole { F.is_honest files.now
-        → IfOk result (λ whole. IsWholePart kind (F.history files.now).tree whole.ids.items
-        (facts_in whole.stored)) }
+        → IfOk result (IsWholePart kind (F.history files.now).tree) }
     ensures flaw { F.is_honest files.now
         → IfErr result (IsObjectsFlaw F.reading_may_fail kind (F.history files.now).tree) }
 {
     let ids = list_objects(alloc, files, kind)?;
-    let stored = survey_objects(alloc, files, kind, &ids)?;
-    Ok(WholeObjects { ids, stored })
+    survey_objects(alloc, files, kind, ids)
 }

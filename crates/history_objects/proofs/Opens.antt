@@ -20,10 +20,15 @@ use Rattle.history_objects.specs.KnownIds.{AreStanding}
 use Rattle.history_objects.specs.KnownObjects.{object_at}
 use Rattle.history_texts.specs.ObjectTexts.{object_in}
 use Rattle.history_texts.proofs.TextObjects.{object_in-text}
-use Rattle.history_objects.specs.Opened.{IsOpened}
+use Rattle.history_objects.specs.Opened.{IsOpenedWith}
+use Rattle.history_check_objects.specs.Stored.{facts_in, ids_in}
 use Rattle.history_check_objects.specs.Surveyed.{IsWholePart}
+use Rattle.history_check_objects.specs.declared.stored.Stored.{Stored}
 
-module _ (kind : Kind) (tree : Tree) (ids : List ObjectId) (whole : IsWholePart kind tree ids) where
+module _ (kind : Kind) (tree : Tree) (stored : Stored) (whole : IsWholePart kind tree stored) where
+  abbrev ids : List ObjectId
+  ids = ids_in stored
+
   formed : (id : Id) (v : Value) → get whole.values id ≡ Some v → IsTrue (is_id kind id)
   formed id v at = values_have_ids kind whole.values ((whole.sound).whole.own_ids) id v at
 
@@ -55,8 +60,8 @@ module _ (kind : Kind) (tree : Tree) (ids : List ObjectId) (whole : IsWholePart 
         ∙ ap (λ b. b || is_one_of ids id) (ap (λ (s : IdSet). contains_key s id) none ∙ ap is_some (get-empty by_id id))
         ∙ sym (whole.known id)
 
-    pub opened : IsOpened kind tree new
-    opened = record { values = whole.values; holds = whole.holds; sound = whole.sound; known = known_are }
+    pub opened_with : IsOpenedWith kind tree new (facts_in stored)
+    opened_with = record { opened = record { values = whole.values; holds = whole.holds; sound = whole.sound; known = known_are }; told = whole.told }
 
     pub objects_stand : (id : Id) → IsTrue (contains_key new id) → IsSome (object_at tree id)
     objects_stand id h = let one = some_value id (sym (known_are id) ∙ h) in there id one.0 one.1

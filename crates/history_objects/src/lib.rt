@@ -10,6 +10,6 @@ mod put;
 
 pub use ids::IdIter;
 pub use objects::{Object, Objects, PutMadeError};
-pub use opening::ObjectsRefusal;
+pub use opening::{ObjectsRefusal, OpenedObjects, open_objects};
 pub use prefixes::{Hit, Lookup};
 pub use put::PutError;

@@ -24,6 +24,7 @@ ghost use Rattle.history_objects.specs.Prefixes.{CanName, IsHit};
 ghost use Rattle.gix_hash_prefix.specs.Run.{IsWithinTwiceDigits};
 ghost use Rattle.history_objects.specs.KeptIds.{kept, left};
 ghost use Rattle.history_objects.specs.KnownIds.{AreStanding};
+ghost use Rattle.history_check_objects.specs.Stored.{ids_in};
 
 use crate::folders::{has_folder, make_missing};
 use crate::ids::{IdIter, Ids};
@@ -33,6 +34,7 @@ use gix_object_lines::cut::strip_prefix;
 use gix_object_lines::{Kind as ObjectKind, encode};
 use gix_ref_file::{FileError, Files};
 use gix_ref_way::{is_file, write_anew};
+use history_check_objects::Stored;
 use history_texts::{NewObject, UNFINISHED, object_place, parse_header};
 use std::alloc::{AllocError, Global};
 
@@ -274,15 +276,15 @@ impl<F: Files> Objects<F> {
 
     /// Makes more ids known, of objects that are stored in the part. After an error some of them
     /// may be known.
-    pub fn know(&mut self, alloc: Global, ids: &[ObjectId]) -> Result<(), AllocError>
+    pub fn know(&mut self, alloc: Global, stored: &Stored) -> Result<(), AllocError>
         requires { F.is_honest self.old.files
-            → AreStanding self.old.kind (F.history self.old.files).tree ids.now }
+            → AreStanding self.old.kind (F.history self.old.files).tree (ids_in stored.now) }
         ensures files { self.new.files ≡ self.old.files }
         ensures kind { self.new.kind ≡ self.old.kind }
         ensures known { OnOk result ((id : Id) → contains_key (kept self.new.ids) id
-            ≡ (contains_key (kept self.old.ids) id || is_one_of ids.now id)) }
+            ≡ (contains_key (kept self.old.ids) id || is_one_of (ids_in stored.now) id)) }
     {
-        for id in ids {
+        'ids: for id in stored.ids() {
             self.ids.make_room(alloc, id)?;
             self.ids.insert(*id);
         }

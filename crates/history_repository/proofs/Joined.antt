@@ -1,6 +1,5 @@
 -- The two parts that were surveyed, as one repository.
-use Rattle.std.proofs.Common.{◌≡◌, ◌⊎◌, ℕ, ◌<◌, ◌^◌, ◌&&◌, not, nat_le, length-append, take, unwrap_or, true, cond, [], ◌∷◌, ◌++◌, length, refl, sym, ◌∙◌, ap, subst, arith, inl, inr, codes, Option, Some, None, is_some, option_map}
-use Rattle.std.specs.Prelude.{option_and_then}
+use Rattle.std.proofs.Common.{◌≡◌, ◌⊎◌, ℕ, ◌<◌, ◌^◌, ◌&&◌, not, nat_le, length-append, take, drop, unwrap_or, true, cond, [], ◌∷◌, ◌++◌, length, refl, sym, ◌∙◌, ap, subst, arith, inl, inr, codes, Option, Some, None, is_some, option_map}
 use Rattle.std.specs.FinMap.{contains_key, empty, get}
 use Rattle.std.proofs.lemmas.Bool.{and_parts}
 use Rattle.std.proofs.lemmas.List.{append_cancel_left, append_cancel_right, take-append-le, take_all}
@@ -8,6 +7,7 @@ use Rattle.std.proofs.lemmas.Option.{same_Some}
 use Rattle.gix_hash_id.specs.Id.{Id, id_of}
 use Rattle.gix_hash_id.specs.declared.kind.Kind.{Kind}
 use Rattle.gix_hash_id.specs.Kind.{hex_len}
+use Rattle.gix_object_lines.specs.declared.kind.Kind.{Kind as ObjectKind}
 use Rattle.gix_object_lines.specs.declared.kind.Kind.TheVariants as kinds
 use Rattle.gix_ref_file.specs.History.{History}
 use Rattle.gix_ref_file.specs.Tree.{Tree}
@@ -15,28 +15,27 @@ use Rattle.history_model.specs.Bytes.{Bytes, is_empty, line}
 use Rattle.history_model.specs.Forms.{IsWrittenValue, is_actor, is_id, is_tag_form, is_tag_name, max_title, title}
 use Rattle.history_model.specs.Objects.{StoredBytes, StoredCommit, StoredFolder, StoredTag, TagValue, Value, actor_text, content_of, hex, object_kind, tag_content, value_text}
 use Rattle.history_model.specs.PackedNames.{id_from_hex}
-use Rattle.history_model.specs.Places.{Pair, object_place}
+use Rattle.history_model.specs.Places.{Pair, file_at, object_place}
 use Rattle.history_model.specs.Repository.{HaveOwnIds, Repository, Values, first_branch}
 use Rattle.history_model.specs.StandsFor.{StandsWhole, head_text}
 use Rattle.history_model.proofs.PlaceLemmas.{file_at_id, id_length, values_have_ids}
+use Rattle.history_model.proofs.WholeTexts.{object_same}
 use Rattle.history_model.proofs.IdLemmas.{id_from_hex-hex, length-hex}
 use Rattle.history_layout.specs.TreeHalves.{HoldsValues}
 use Rattle.history_layout.proofs.TreePuts.{halves_stand}
 use Rattle.history_objects.specs.Face.{ids_of_objects}
 use Rattle.history_objects.specs.Ids.{IdSet}
-use Rattle.history_objects.specs.KnownObjects.{object_at}
-use Rattle.history_texts.specs.ObjectTexts.{object_in}
 use Rattle.history_names.specs.Packing.{KeepsRecords}
-use Rattle.history_texts.proofs.TextObjects.{object_in-text}
 use Rattle.history_check_objects.specs.Flaws.{IsObjectsFlaw}
-use Rattle.history_objects.specs.Opened.{IsOpened}
+use Rattle.history_objects.specs.Opened.{IsOpened, IsOpenedWith}
 use Rattle.history_check_objects.specs.Opened.{IsSoundStore, store_of}
+use Rattle.history_check_objects.specs.Stored.{AreFactsOf, Fact, Facts, fact_of}
 use Rattle.history_texts.specs.declared.open_error.OpenError.{OpenError}
 use Rattle.history_check_objects.proofs.Joins.{whole_on}
 use Rattle.history_check_names.specs.Causes.{HasCause, IsFault}
 use Rattle.history_check_names.specs.Joined.{StandsStore}
 use Rattle.history_check_names.specs.Parts.{IsNamesPart, StandsNames}
-use Rattle.history_check_names.specs.Stored.{AreFactsOf, Fact, Facts, fact_of, fact_told, is_of_wrong_kind, is_tag_of, target_in}
+use Rattle.history_check_names.specs.Stored.{is_of_wrong_kind, is_tag_of}
 use Rattle.history_check_names.specs.declared.error.NamesError.{NamesError}
 use Rattle.history_check_names.specs.declared.error.NamesError.TheVariants.{NoHead, BadHead, Stray, Unfinished, BadName, PrivateName, Symbolic, Missing, WrongKind, BadPacked, BadPeeled, Collides, BadLog, LongLogLine, LogWithoutName, File, Memory}
 use Rattle.history_check_names.specs.Told.{cause_of_names}
@@ -51,6 +50,16 @@ same_branch : (a b : Bytes) → head_text a ≡ head_text b → a ≡ b
 same_branch a b e = append_cancel_left (codes "ref: ") a b (append_cancel_right (codes "ref: " ++ a) (codes "ref: " ++ b) (10 ∷ []) e)
 
 -- ---- what a tag's first line says
+
+-- the id in `object <hex>`, with which a tag begins
+target_in : Kind → Bytes → Option Id
+target_in kind content = id_from_hex kind (take (hex_len kind) (drop 7 content))
+
+fact_read : Kind → ObjectKind → Bytes → Fact
+fact_read kind kinds.Tag content = record { kind = kinds.Tag; target = target_in kind content }
+fact_read kind kinds.Commit content = record { kind = kinds.Commit; target = None }
+fact_read kind kinds.Tree content = record { kind = kinds.Tree; target = None }
+fact_read kind kinds.Blob content = record { kind = kinds.Blob; target = None }
 
 tag_id : (kind : Kind) (tag : TagValue) → is_tag_form kind tag ≡ true → is_id kind tag.target ≡ true
 tag_id kind tag form =
@@ -96,33 +105,33 @@ same_ids kind tree a b in_a in_b own_a own_b id = go (get a id) refl (get b id) 
     go (Some v) e y f = of_id (values_have_ids kind a own_a id v e)
     go None e (Some w) f = of_id (values_have_ids kind b own_b id w f)
 
-module _ (kind : Kind) (tree : Tree) (values : Values) (holds : HoldsValues kind tree values) (sound : IsSoundStore kind values)
-    (ids : IdSet) (known : (id : Id) → contains_key ids id ≡ contains_key values id) where
-  object_of : (id : Id) (v : Value) → get values id ≡ Some v → object_at tree id ≡ Some (record { kind = object_kind v; content = content_of kind v })
-  object_of id v at =
-      ap (option_and_then object_in) (holds.files (object_place id) ∙ file_at_id kind values (sound.whole).own_ids id (values_have_ids kind values (sound.whole).own_ids id v at) ∙ ap (option_map (value_text kind)) at)
-      ∙ object_in-text (object_kind v) (content_of kind v) small
-    where
-      small : length (content_of kind v) < 2 ^ 64
-      small = let most = (sound.written id v at).1 in omega arith
+-- the fact read from the text of a value is the value's fact
+fact_told : (kind : Kind) (v : Value) → IsWrittenValue kind v → fact_read kind (object_kind v) (content_of kind v) ≡ fact_of v
+fact_told kind (StoredCommit commit) written = refl
+fact_told kind (StoredTag tag) written = ap (λ o. record { kind = kinds.Tag; target = o }) (target_read kind tag (tag_id kind tag written.0))
+fact_told kind (StoredBytes bytes) written = refl
+fact_told kind (StoredFolder files) written = refl
 
-  -- the fact read from the text of a value is the value's fact
-  told_so : (v : Value) → IsWrittenValue kind v → fact_told kind (record { kind = object_kind v; content = content_of kind v }) ≡ fact_of v
-  told_so (StoredCommit commit) written = refl
-  told_so (StoredTag tag) written = ap (λ o. record { kind = kinds.Tag; target = o }) (target_read kind tag (tag_id kind tag written.0))
-  told_so (StoredBytes bytes) written = refl
-  told_so (StoredFolder files) written = refl
+module _ (kind : Kind) (tree : Tree) (a b : Values) (in_a : HoldsValues kind tree a) (in_b : HoldsValues kind tree b) (sound_a : IsSoundStore kind a) (sound_b : IsSoundStore kind b) where
+  same_known : (id : Id) → contains_key a id ≡ contains_key b id
+  same_known = same_ids kind tree a b in_a in_b (sound_a.whole).own_ids (sound_b.whole).own_ids
 
-  facts_told : (id : Id) → option_map (fact_told kind) (cond (contains_key ids id) (object_at tree id) None) ≡ option_map fact_of (get values id)
-  facts_told id = go (get values id) refl
+  text_at : (values : Values) → HoldsValues kind tree values → HaveOwnIds kind values → (id : Id) (v : Value) → get values id ≡ Some v → file_at tree (object_place id) ≡ Some (value_text kind v)
+  text_at values holds own id v at = holds.files (object_place id) ∙ file_at_id kind values own id (values_have_ids kind values own id v at) ∙ ap (option_map (value_text kind)) at
+
+  same_facts : (id : Id) → option_map fact_of (get a id) ≡ option_map fact_of (get b id)
+  same_facts id = go (get a id) refl (get b id) refl
     where
-      go : (o : Option Value) → get values id ≡ o → option_map (fact_told kind) (cond (contains_key ids id) (object_at tree id) None) ≡ option_map fact_of (get values id)
-      go None e = ap (λ b. option_map (fact_told kind) (cond b (object_at tree id) None)) (known id ∙ ap is_some e) ∙ ap (option_map fact_of) (sym e)
-      go (Some v) e =
-          ap (λ b. option_map (fact_told kind) (cond b (object_at tree id) None)) (known id ∙ ap is_some e)
-          ∙ ap (option_map (fact_told kind)) (object_of id v e)
-          ∙ ap Some (told_so v (sound.written id v e))
-          ∙ ap (option_map fact_of) (sym e)
+      go : (x : Option Value) → get a id ≡ x → (y : Option Value) → get b id ≡ y → option_map fact_of (get a id) ≡ option_map fact_of (get b id)
+      go None e None f = ap (option_map fact_of) (e ∙ sym f)
+      go (Some v) e None f = absurd (cc (sym (ap is_some e) ∙ same_known id ∙ ap is_some f))
+      go None e (Some w) f = absurd (cc (sym (ap is_some e) ∙ same_known id ∙ ap is_some f))
+      go (Some v) e (Some w) f =
+          let text : value_text kind v ≡ value_text kind w = same_Some _ _ (sym (text_at a in_a (sound_a.whole).own_ids id v e) ∙ text_at b in_b (sound_b.whole).own_ids id w f) in
+          let same = object_same (object_kind v) (object_kind w) (content_of kind v) (content_of kind w) text in
+          ap (option_map fact_of) e
+          ∙ ap Some (sym (fact_told kind v (sound_a.written id v e)) ∙ (λ i. fact_read kind (same.0 i) (same.1 i)) ∙ fact_told kind w (sound_b.written id w f))
+          ∙ sym (ap (option_map fact_of) f)
 
 -- ---- the halves of a pair that represents a repository
 
@@ -151,26 +160,19 @@ module _ (kind : Kind) (pair : Pair) (r : Repository) (stands : StandsWhole kind
 -- ---- an opened store, and the names part over it
 
 -- what was found of the names part, by its files and their kind
-pub part_of : {F : Type 0} (history : F → History) (facts : Kind → Facts) (branch : Bytes) (known own : F) (k kind : Kind) → known ≡ own → k ≡ kind
-    → IsNamesPart k (facts k) (history known).tree branch → IsNamesPart kind (facts kind) (history own).tree branch
+pub part_of : {F : Type 0} (history : F → History) (facts : Facts) (branch : Bytes) (known own : F) (k kind : Kind) → known ≡ own → k ≡ kind
+    → IsNamesPart k facts (history known).tree branch → IsNamesPart kind facts (history own).tree branch
 part_of history facts branch known own k kind e f h =
-    subst (λ files. IsNamesPart kind (facts kind) (history files).tree branch) e (subst (λ (q : Kind). IsNamesPart q (facts q) (history known).tree branch) f h)
+    subst (λ files. IsNamesPart kind facts (history files).tree branch) e (subst (λ (q : Kind). IsNamesPart q facts (history known).tree branch) f h)
 
-pub cause_of : {F : Type 0} (history : F → History) (MayFail : Type 0) (facts : Kind → Facts) (error : NamesError) (known own : F) (k kind : Kind) → known ≡ own → k ≡ kind
-    → HasCause MayFail k (facts k) (history known).tree error → HasCause MayFail kind (facts kind) (history own).tree error
+pub cause_of : {F : Type 0} (history : F → History) (MayFail : Type 0) (facts : Facts) (error : NamesError) (known own : F) (k kind : Kind) → known ≡ own → k ≡ kind
+    → HasCause MayFail k facts (history known).tree error → HasCause MayFail kind facts (history own).tree error
 cause_of history MayFail facts error known own k kind e f h =
-    subst (λ files. HasCause MayFail kind (facts kind) (history files).tree error) e (subst (λ (q : Kind). HasCause MayFail q (facts q) (history known).tree error) f h)
+    subst (λ files. HasCause MayFail kind facts (history files).tree error) e (subst (λ (q : Kind). HasCause MayFail q facts (history known).tree error) f h)
 
--- the facts that a store reads of the ids that it knows
-abbrev pub told_facts : Kind → Tree → IdSet → Facts
-told_facts kind tree ids id = option_map (fact_told kind) (cond (contains_key ids id) (object_at tree id) None)
-
-module _ (kind : Kind) (pair : Pair) (ids : IdSet) (whole : IsOpened kind pair.objects ids) where
-  abbrev facts : Facts
-  facts = told_facts kind pair.objects ids
-
-  own_facts : AreFactsOf facts whole.values
-  own_facts = facts_told kind pair.objects whole.values whole.holds whole.sound ids whole.known
+module _ (kind : Kind) (pair : Pair) (ids : IdSet) (facts : Facts) (with_facts : IsOpenedWith kind pair.objects ids facts) where
+  abbrev whole : IsOpened kind pair.objects ids
+  whole = with_facts.opened
 
   store : StandsStore kind pair.objects whole.values
   store = record { holds = whole.holds; whole = (whole.sound).whole; written = (whole.sound).written }
@@ -178,17 +180,19 @@ module _ (kind : Kind) (pair : Pair) (ids : IdSet) (whole : IsOpened kind pair.o
   known_as : (r : Repository) → StandsWhole kind pair r → (id : Id) → contains_key ids id ≡ contains_key r.objects id
   known_as r stands id =
       whole.known id
-      ∙ same_ids kind pair.objects whole.values r.objects whole.holds (holds_values kind pair r stands) ((whole.sound).whole).own_ids ((is_sound kind pair r stands).whole).own_ids id
+      ∙ same_known kind pair.objects whole.values r.objects whole.holds (holds_values kind pair r stands) whole.sound (is_sound kind pair r stands) id
 
   pub facts_as : (r : Repository) → StandsWhole kind pair r → AreFactsOf facts r.objects
-  facts_as r stands = facts_told kind pair.objects r.objects (holds_values kind pair r stands) (is_sound kind pair r stands) ids (known_as r stands)
+  facts_as r stands id =
+      with_facts.told id
+      ∙ same_facts kind pair.objects whole.values r.objects whole.holds (holds_values kind pair r stands) whole.sound (is_sound kind pair r stands) id
 
   module _ {F : Type 0} (opened : OpenedFolder F) (own : ids_of_objects opened.objects ≡ ids) (part : IsNamesPart kind facts pair.names opened.branch.items) (keeps : KeepsRecords opened.names pair.names) where
     abbrev one : Repository
     one = record { kind = kind; names = part.names; branch = opened.branch.items; objects = whole.values }
 
     names_stand : StandsNames pair.names one
-    names_stand = part.stands whole.values own_facts
+    names_stand = part.stands whole.values with_facts.told
 
     one_stands : StandsWhole kind pair one
     one_stands = record {
@@ -212,42 +216,38 @@ module _ (kind : Kind) (pair : Pair) (ids : IdSet) (whole : IsOpened kind pair.o
 
   -- ---- causes
 
-  carried : (A B : Type 0) → (A → B) → (k l : Facts) → ((id : Id) → k id ≡ l id) → (tree : Tree) (error : NamesError) → HasCause A kind k tree error → HasCause B kind l tree error
-  carried A B f k l same tree NoHead h = h
-  carried A B f k l same tree BadHead h = h
-  carried A B f k l same tree (Stray path) h = h
-  carried A B f k l same tree (Unfinished path) h = h
-  carried A B f k l same tree (BadName path) h = h
-  carried A B f k l same tree (PrivateName name) h = h
-  carried A B f k l same tree (Symbolic name) h = h
-  carried A B f k l same tree (Missing id name) h = (h.0, ap (option_map (λ (fact : Fact). fact.kind)) (sym (same (id_of id))) ∙ h.1)
-  carried A B f k l same tree (WrongKind id name) h = (h.0, ap (λ o. is_of_wrong_kind (option_map (λ (fact : Fact). fact.kind) o)) (sym (same (id_of id))) ∙ h.1)
-  carried A B f k l same tree (BadPacked number) h = h
-  carried A B f k l same tree (BadPeeled name) h = record {
+  carried : (A : Type 0) (k l : Facts) → ((id : Id) → k id ≡ l id) → (tree : Tree) (error : NamesError) → HasCause A kind k tree error → HasCause A kind l tree error
+  carried A k l same tree NoHead h = h
+  carried A k l same tree BadHead h = h
+  carried A k l same tree (Stray path) h = h
+  carried A k l same tree (Unfinished path) h = h
+  carried A k l same tree (BadName path) h = h
+  carried A k l same tree (PrivateName name) h = h
+  carried A k l same tree (Symbolic name) h = h
+  carried A k l same tree (Missing id name) h = (h.0, ap (option_map (λ (fact : Fact). fact.kind)) (sym (same (id_of id))) ∙ h.1)
+  carried A k l same tree (WrongKind id name) h = (h.0, ap (λ o. is_of_wrong_kind (option_map (λ (fact : Fact). fact.kind) o)) (sym (same (id_of id))) ∙ h.1)
+  carried A k l same tree (BadPacked number) h = h
+  carried A k l same tree (BadPeeled name) h = record {
     entry = h.entry;
     among = h.among;
     named = h.named;
     wrong = ap (λ o. unwrap_or (option_map (λ commit. is_tag_of o commit) h.entry.peeled) true) (sym (same h.entry.target)) ∙ h.wrong;
   }
-  carried A B f k l same tree (Collides name other) h = h
-  carried A B f k l same tree (BadLog path number) h = h
-  carried A B f k l same tree (LongLogLine path number) h = h
-  carried A B f k l same tree (LogWithoutName path) h = h
-  carried A B f k l same tree File h = f h
-  carried A B f k l same tree Memory h = h
+  carried A k l same tree (Collides name other) h = h
+  carried A k l same tree (BadLog path number) h = h
+  carried A k l same tree (LongLogLine path number) h = h
+  carried A k l same tree (LogWithoutName path) h = h
+  carried A k l same tree File h = h
+  carried A k l same tree Memory h = h
 
-  pub names_cause : (M : Type 0) (error : NamesError) → HasCause (M ⊎ M) kind facts pair.names error → IsOpenCause M kind pair (cause_of_names error)
+  pub names_cause : (M : Type 0) (error : NamesError) → HasCause M kind facts pair.names error → IsOpenCause M kind pair (cause_of_names error)
   names_cause M error h = inr (record {
     values = whole.values;
     store = store;
     cause = error;
     told = refl;
-    holds = carried (M ⊎ M) M either facts (facts_of whole.values) own_facts pair.names error h;
+    holds = carried M facts (facts_of whole.values) with_facts.told pair.names error h;
   })
-    where
-      either : M ⊎ M → M
-      either (inl m) = m
-      either (inr m) = m
 
 pub names_fault : (error : NamesError) → IsFault error → IsOpenFault (cause_of_names error)
 names_fault File h = inl refl

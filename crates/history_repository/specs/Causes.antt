@@ -6,7 +6,7 @@ use Rattle.history_model.specs.Places.{Pair}
 use Rattle.history_model.specs.Repository.{Values}
 use Rattle.history_check_names.specs.Causes.{HasCause}
 use Rattle.history_check_names.specs.Joined.{StandsStore}
-use Rattle.history_check_names.specs.Stored.{Facts, fact_of}
+use Rattle.history_check_objects.specs.Stored.{Facts, fact_of}
 use Rattle.history_check_names.specs.Told.{cause_of_names}
 use Rattle.history_check_names.specs.declared.error.NamesError.{NamesError}
 use Rattle.history_check_objects.specs.Flaws.{IsObjectsFlaw}

@@ -1,17 +1,16 @@
 //! The two parts of a folder, opened.
 
-ghost use Rattle.std.specs.Prelude.{◌≡◌, ◌⊎◌, IfErr, IfOk, OnOk};
+ghost use Rattle.std.specs.Prelude.{◌≡◌, IfErr, IfOk, OnOk};
 ghost use Rattle.gix_ref_file.specs.Calls.{Finds};
 ghost use Rattle.history_model.specs.Repository.{Repository};
 ghost use Rattle.history_model.specs.StandsFor.{StandsWhole};
 ghost use Rattle.history_names.specs.Face.{files_of_names, kind_of_names};
 ghost use Rattle.history_objects.specs.Face.{files_of_objects, ids_of_objects, kind_of_objects};
-ghost use Rattle.history_objects.specs.KnownObjects.{HoldsKnown, table_of};
 ghost use Rattle.history_names.specs.Packing.{KeepsRecords};
 ghost use Rattle.history_check_names.specs.Causes.{HasCause, IsFault};
 ghost use Rattle.history_check_names.specs.Parts.{IsNamesPart, StandsNames};
-ghost use Rattle.history_check_names.specs.Stored.{AreFactsOf, facts_in};
-ghost use Rattle.history_objects.specs.Opened.{IsOpened};
+ghost use Rattle.history_check_objects.specs.Stored.{AreFactsOf, facts_in};
+ghost use Rattle.history_objects.specs.Opened.{IsOpenedWith};
 ghost use Rattle.history_repository.specs.Causes.{IsOpenCause, IsOpenFault};
 ghost use Rattle.history_repository.specs.Opened.{IsOpenedAs, trees_of};
 
@@ -20,8 +19,9 @@ use gix_hash::Kind;
 use gix_ref_file::Files;
 use gix_ref_format::packed::buffer as packed;
 use history_check_names::{NamesError, survey_names};
+use history_check_objects::Stored;
 use history_names::Names;
-use history_objects::{Objects, ObjectsRefusal};
+use history_objects::{Objects, open_objects};
 use std::alloc::Global;
 
 /// A folder that was opened: its objects, its names, and the branch that HEAD names.
@@ -34,8 +34,7 @@ pub struct OpenedFolder<F: Files> {
 
 /// Opens a folder whose two parts are those of one repository of this kind: whole, in written form
 /// and within the limits, with no file and no folder besides, whoever wrote them. No file is
-/// changed; each object is read once, and once more for each name that holds it; `packed-refs` is
-/// read twice, once to be kept.
+/// changed; each object is read once; `packed-refs` is read twice, once to be kept.
 ///
 /// Otherwise the refusal names a cause that holds of the parts, and returns both. The objects are
 /// surveyed before the names, so a cause of the names comes only if the objects are whole.
@@ -65,11 +64,11 @@ pub fn open_folder<F: Files>(
     ensures handed_back { IfErr result (λ refusal. (refusal.objects ≡ objects)
         × (refusal.names ≡ names)) }
 {
-    match Objects::open(alloc, objects, kind) {
-        Ok(objects) => open_names(alloc, objects, names),
-        Err(ObjectsRefusal { error, files }) => Err(OpenRefusal {
-            error,
-            objects: files,
+    match open_objects(alloc, objects, kind) {
+        Ok(opened) => open_names(alloc, opened.objects, &opened.stored, names),
+        Err(refusal) => Err(OpenRefusal {
+            error: refusal.error,
+            objects: refusal.files,
             names,
         }),
     }
@@ -79,13 +78,12 @@ pub fn open_folder<F: Files>(
 fn open_names<F: Files>(
     alloc: Global,
     objects: Objects<F>,
+    stored: &Stored,
     names: F,
 ) -> Result<OpenedFolder<F>, OpenRefusal<F>>
-    requires whole { F.is_honest (files_of_objects objects)
-        → IsOpened (kind_of_objects objects) (F.history (files_of_objects objects)).tree
-        (ids_of_objects objects) }
-    requires holds { F.is_honest (files_of_objects objects)
-        → HoldsKnown F.is_honest F.history objects }
+    requires { F.is_honest (files_of_objects objects)
+        → IsOpenedWith (kind_of_objects objects) (F.history (files_of_objects objects)).tree
+        (ids_of_objects objects) (facts_in stored.now) }
     ensures parts { IfOk result (λ opened. (opened.objects ≡ objects)
         × (files_of_names opened.names ≡ names)) }
     ensures kind { IfOk result (λ opened. kind_of_names opened.names ≡ kind_of_objects objects) }
@@ -109,7 +107,7 @@ fn open_names<F: Files>(
         × (refusal.names ≡ names)) }
 {
     let mut names = Names::new(alloc, names, objects.kind());
-    match read_names(alloc, &mut names, &objects) {
+    match read_names(alloc, &mut names, stored) {
         Ok(branch) => Ok(OpenedFolder {
             objects,
             names,
@@ -128,28 +126,22 @@ fn open_names<F: Files>(
 fn read_names<F: Files>(
     alloc: Global,
     names: &mut Names<F>,
-    objects: &Objects<F>,
+    stored: &Stored,
 ) -> Result<Vec<u8>, NamesError>
     ensures files { files_of_names names.new ≡ files_of_names names.old }
     ensures kind { kind_of_names names.new ≡ kind_of_names names.old }
-    ensures stands { HoldsKnown F.is_honest F.history objects.now
-        → Finds F.is_honest F.history (files_of_names names.old) (λ tree. IfOk result (λ branch.
-        IsNamesPart (kind_of_names names.old)
-        (facts_in (kind_of_names names.old) (table_of F.history objects.now)) tree branch.items)) }
-    ensures keeps { HoldsKnown F.is_honest F.history objects.now
-        → Finds F.is_honest F.history (files_of_names names.old)
+    ensures stands { Finds F.is_honest F.history (files_of_names names.old) (λ tree. IfOk result
+        (λ branch. IsNamesPart (kind_of_names names.old) (facts_in stored.now) tree branch.items)) }
+    ensures keeps { Finds F.is_honest F.history (files_of_names names.old)
         (λ tree. OnOk result (KeepsRecords names.new tree)) }
-    ensures wrong { HoldsKnown F.is_honest F.history objects.now
-        → Finds F.is_honest F.history (files_of_names names.old) (λ tree. IfErr result
-        (HasCause (F.reading_may_fail ⊎ F.reading_may_fail) (kind_of_names names.old)
-        (facts_in (kind_of_names names.old) (table_of F.history objects.now)) tree)) }
-    ensures accepted { (r : Repository) → HoldsKnown F.is_honest F.history objects.now
-        → r.kind ≡ kind_of_names names.old
-        → AreFactsOf (facts_in (kind_of_names names.old) (table_of F.history objects.now)) r.objects
+    ensures wrong { Finds F.is_honest F.history (files_of_names names.old) (λ tree. IfErr result
+        (HasCause F.reading_may_fail (kind_of_names names.old) (facts_in stored.now) tree)) }
+    ensures accepted { (r : Repository) → r.kind ≡ kind_of_names names.old
+        → AreFactsOf (facts_in stored.now) r.objects
         → Finds F.is_honest F.history (files_of_names names.old)
         (λ tree. StandsNames tree r → IfErr result IsFault) }
 {
-    let branch = survey_names(alloc, &*names, objects)?;
+    let branch = survey_names(alloc, &*names, stored)?;
     match names.read_packed(alloc) {
         Ok(()) => Ok(branch),
         Err(packed::Error::Memory) => Err(NamesError::Memory),

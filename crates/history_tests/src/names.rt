@@ -2,8 +2,8 @@
 
 use crate::common::{INPUT, KINDS, REPLIES, made_id, parts_after};
 use gix_ref_file::MemoryFiles;
-use history::Objects;
 use history_check_names::{NamesError, survey_names};
+use history_check_objects::whole_objects;
 use history_names::Names;
 use std::test::Fail;
 
@@ -25,11 +25,11 @@ fn names_are_surveyed_over_objects(rt: HostRuntime) -> Result<(), Fail> {
     let alloc = rt.alloc();
     for kind in KINDS {
         let (objects, files) = parts_after(&rt, alloc, kind, &[INPUT]);
-        let objects = Objects::open(alloc, objects, kind).map_err(|refusal| refusal.error)?;
+        let stored = whole_objects(alloc, &objects, kind)?;
         let names = Names::new(alloc, files, kind);
-        let branch = survey_names(alloc, &names, &objects)?;
+        let branch = survey_names(alloc, &names, &stored)?;
         assert!(rt; branch.as_slice() == b"refs/heads/main".as_slice());
-        let none = Objects::new(alloc, MemoryFiles::new(alloc), kind);
+        let none = whole_objects(alloc, &MemoryFiles::new(alloc), kind)?;
         let refused = survey_names(alloc, &names, &none);
         assert!(rt; matches!(refused, Err(NamesError::Missing(..))));
     }

@@ -1,4 +1,4 @@
-//! How many objects a command reads: a commit once, and of a path each tree once.
+//! How many objects a command reads, a commit and each tree of a path once, and how many an opening.
 
 use crate::common::{KINDS, first_command, parts_after};
 use gix_ref_file::Files;
@@ -41,6 +41,14 @@ const SHOWN_COMMIT: (&[u8], u64) = (b"show main\n", 1);
 /// The commit, the root, and the folders `a` and `a/b`.
 const LISTED: (&[u8], u64) = (b"files main\n", 4);
 
+/// Three more names on the first branch's commit, one of which holds a tag of it. All are packed.
+const PACKED: &[u8] =
+    b"tag refs/tags/v1 new main\ntagger 1 3 3 +0000\nA\na@b\nmessage 3\ntag\nend\nmove\nto refs/heads/a new main\nto refs/heads/b new main\nactor 1 3 4 +0000\nA\na@b\nmessage 4\nmore\nend\npack\n";
+
+/// The same, each in a file of its own.
+const LOOSE: &[u8] =
+    b"tag refs/tags/v2 new main\ntagger 1 3 5 +0000\nA\na@b\nmessage 5\nother\nend\nmove\nto refs/heads/c new main\nto refs/heads/d new main\nactor 1 3 6 +0000\nA\na@b\nmessage 4\nmore\nend\n";
+
 /// Plans a commit or answers a query, and returns whether that succeeds.
 fn is_done<F: Files>(repository: &Repository<F>, alloc: Global, command: Command) -> bool {
     match command {
@@ -75,6 +83,36 @@ fn a_command_reads_each_object_once(rt: HostRuntime) {
         for (input, wanted) in [CHANGED, BRANCHED, GRAFTED, SHOWN, SHOWN_COMMIT, LISTED] {
             let met = readings(&rt, alloc, kind, input);
             assert!(rt; met == wanted, "{met} for {wanted}");
+        }
+    }
+}
+
+/// Returns the number of calls of a pass that reads so many objects, in so many folders, once: each
+/// folder is looked up and listed, as the part and `objects` are; each object is looked up, its
+/// size is too, and it is read.
+fn calls_of_a_pass(objects: usize, folders: usize) -> u64 {
+    let of_objects = (objects as u64).saturating_mul(3);
+    let of_folders = (folders as u64).saturating_mul(2);
+    of_objects.saturating_add(of_folders).saturating_add(3)
+}
+
+#[test]
+fn opening_reads_each_object_once(rt: HostRuntime) {
+    let alloc = rt.alloc();
+    for kind in KINDS {
+        let (objects, names) = parts_after(&rt, alloc, kind, &[BEFORE, PACKED, LOOSE]);
+        let Ok(folders) = objects.list(alloc, b"objects") else {
+            panic!(rt; "not listed")
+        };
+        let objects = Fuse::failing_at(objects, 0, None);
+        let names = Fuse::failing_at(names, 0, None);
+        match Repository::open(alloc, objects, names, kind) {
+            Ok(opened) => {
+                let met = opened.objects.files().calls();
+                let wanted = calls_of_a_pass(opened.objects.ids().count(), folders.len());
+                assert!(rt; met == wanted, "{met} for {wanted}");
+            }
+            Err(_) => panic!(rt; "not opened"),
         }
     }
 }

@@ -1,7 +1,7 @@
 use Rattle.std.proofs.Common.{◌≡◌, ◌∙◌, inr, sym, ap, subst, ℕ, ◌&&◌, map, length, Vec, true, arith, rules}
 use Rattle.std.specs.Prelude.{nat_lt, nat_le}
 use Rattle.std.specs.declared.alloc.Global.{Global}
-use Rattle.history_check_names.specs.Stored.{facts_in}
+use Rattle.history_check_objects.specs.Stored.{facts_in}
 use Rattle.gix_ref_file.specs.Tree.{node_at, place_of}
 use Rattle.gix_ref_file.proofs.Listings.{map_length}
 use Rattle.history_model.specs.Places.{file_at, is_name_folder}
@@ -20,10 +20,10 @@ test_file-requires-clause-size g t c = λ honest.
     size_told (file_at tree path) c.in-File.len (file_size tree path c.in-File.len place)
 
 pub loop-name-init : goal.loop-name-init
-loop-name-init g t c = λ store honest i below. absurd (omega (arith, below))
+loop-name-init g t c = λ honest i below. absurd (omega (arith, below))
 
 pub returns-in-Folder-2-clause-wrong : goal.returns-in-Folder-2-clause-wrong
-returns-in-Folder-2-clause-wrong g t c = λ store honest.
+returns-in-Folder-2-clause-wrong g t c = λ honest.
     let tree = (g.F.Files.history c.args.files.now).tree in
     let rooted = g.met.F.Files.rooted c.args.files.now honest in
     let names = ap (map (λ (name : Vec ℕ Global). name.items)) c.deref-name-items.ensures.value ∙ c.in_ok-list.ensures.names honest in
@@ -38,7 +38,7 @@ returns-in-Folder-2-clause-wrong g t c = λ store honest.
     )
 
 pub returns-in-Absent-clause-wrong : goal.returns-in-Absent-clause-wrong
-returns-in-Absent-clause-wrong g t c = λ store honest.
+returns-in-Absent-clause-wrong g t c = λ honest.
     let tree = (g.F.Files.history c.args.files.now).tree in
     let rooted = g.met.F.Files.rooted c.args.files.now honest in
     let names = ap (map (λ (name : Vec ℕ Global). name.items)) c.deref-name-items.ensures.value ∙ c.in_ok-list.ensures.names honest in
@@ -46,15 +46,15 @@ returns-in-Absent-clause-wrong g t c = λ store honest.
     absurd (not_absent tree c.in_ok-path.path.items l.is_path l.there (ap (λ p. place_of (node_at tree p)) (sym c.deref-in-loop-name.ensures.value) ∙ sym (c.in_ok-kind_of.ensures.place honest) ∙ c.in-Absent.is))
 
 pub returns-clause-sound : goal.returns-clause-sound
-returns-clause-sound g t c = λ store honest.
+returns-clause-sound g t c = λ honest.
     let names = ap (map (λ (name : Vec ℕ Global). name.items)) c.deref-name-items.ensures.value ∙ c.in_ok-list.ensures.names honest in
-    all_sound c.args.kind (facts_in c.args.kind (g.S.Lookup.table c.args.stored.now)) (g.F.Files.history c.args.files.now).tree (g.met.F.Files.rooted c.args.files.now honest) c.args.folder.now _ names
-    (λ i below. c.loop-name.invariant store honest i (omega (arith, below, c.loop-name-test.false, map_length c.deref-name-items.result.now)))
+    all_sound c.args.kind (facts_in c.args.stored.now) (g.F.Files.history c.args.files.now).tree (g.met.F.Files.rooted c.args.files.now honest) c.args.folder.now _ names
+    (λ i below. c.loop-name.invariant honest i (omega (arith, below, c.loop-name-test.false, map_length c.deref-name-items.result.now)))
 
 pub loop-name-preserved : goal.loop-name-preserved
-loop-name-preserved g t c = λ store honest.
+loop-name-preserved g t c = λ honest.
     let tree = (g.F.Files.history c.args.files.now).tree in
-    let facts = facts_in c.args.kind (g.S.Lookup.table c.args.stored.now) in
+    let facts = facts_in c.args.stored.now in
     let rooted = g.met.F.Files.rooted c.args.files.now honest in
     let names = ap (map (λ (name : Vec ℕ Global). name.items)) c.deref-name-items.ensures.value ∙ c.in_ok-list.ensures.names honest in
     let l = is_listed tree c.args.folder.now c.deref-name-items.result.now c.loop-name.name-index c.name-item.result c.in_ok-path.path.items c.deref.result.now rooted names c.loop-name-test.true c.name-item.is c.deref.ensures.value c.in_ok-path.ensures in
@@ -64,7 +64,7 @@ loop-name-preserved g t c = λ store honest.
       | in-Folder+in_ok-test_folder-in-Folder w ↦
           let may : is_name_folder path ≡ true = search rules in
           let opened : w.deref-in-Folder.result.now ≡ path = w.deref-in-Folder.ensures.value in
-          sound_folder c.args.kind facts tree rooted path l.is_path (place ∙ w.in-Folder.is) may (subst (λ p. IsSoundBelow c.args.kind facts p tree) opened (w.in_ok-test_folder-in-Folder.ensures.sound store honest))
-      | in-File+in_ok-test_file-in-File w ↦ sound_file c.args.kind facts tree rooted path _ l.is_path (place ∙ w.in-File.is) (w.in_ok-test_file-in-File.ensures.sound store honest)
+          sound_folder c.args.kind facts tree rooted path l.is_path (place ∙ w.in-Folder.is) may (subst (λ p. IsSoundBelow c.args.kind facts p tree) opened (w.in_ok-test_folder-in-Folder.ensures.sound honest))
+      | in-File+in_ok-test_file-in-File w ↦ sound_file c.args.kind facts tree rooted path _ l.is_path (place ∙ w.in-File.is) (w.in_ok-test_file-in-File.ensures.sound honest)
     ] in
-    one_more (IsSoundFrom c.args.kind facts tree) c.args.folder.now c.in_ok-path.path.items _ c.loop-name.name-index (c.loop-name.invariant store honest) l.at here
+    one_more (IsSoundFrom c.args.kind facts tree) c.args.folder.now c.in_ok-path.path.items _ c.loop-name.name-index (c.loop-name.invariant honest) l.at here

@@ -1,43 +1,41 @@
-use Rattle.std.proofs.Common.{◌⊎◌}
 use Rattle.std.proofs.lemmas.Result.{err_from_is_err_and}
-use Rattle.history_check_names.specs.Stored.{facts_in}
+use Rattle.history_check_objects.specs.Stored.{facts_in}
 use Rattle.history_check_names.specs.Causes.{HasCause}
 use Rattle.history_check_names.specs.Sound.{IsSound}
 use Rattle.history_check_names.proofs.Surveyed.{part_stands, seen_so, fault_alone}
-use Rattle.history_check_names.proofs.Told.{widen}
 use Rattle.history_check_names.proofs.survey.survey_names.Goals as goal
 
 pub returns-clause-stands : goal.returns-clause-stands
-returns-clause-stands g c = λ store honest.
+returns-clause-stands g c = λ honest.
     let tree = (g.F.Files.history c.args.names.now.store.files).tree in
-    let facts = facts_in c.args.names.now.kind (g.S.Lookup.table c.args.stored.now) in
+    let facts = facts_in c.args.stored.now in
     part_stands c.args.names.now.kind facts tree c.in_ok-branch.branch.items (g.met.F.Files.rooted c.args.names.now.store.files honest)
-    (seen_so g.F.Files.is_honest (λ files kind. IsSound kind (facts_in kind (g.S.Lookup.table c.args.stored.now)) (g.F.Files.history files).tree) c.files.result.now c.args.names.now.store.files c.kind.result c.args.names.now.kind c.files.ensures c.kind.ensures honest (c.in_ok-test_all.ensures.sound store))
+    (seen_so g.F.Files.is_honest (λ files kind. IsSound kind (facts_in c.args.stored.now) (g.F.Files.history files).tree) c.files.result.now c.args.names.now.store.files c.kind.result c.args.names.now.kind c.files.ensures c.kind.ensures honest c.in_ok-test_all.ensures.sound)
     (c.in_ok-branch.ensures.found honest)
 
 pub returns-in_err-branch-clause-wrong : goal.returns-in_err-branch-clause-wrong
-returns-in_err-branch-clause-wrong g c = λ store honest.
+returns-in_err-branch-clause-wrong g c = λ honest.
     let tree = (g.F.Files.history c.args.names.now.store.files).tree in
-    let facts = facts_in c.args.names.now.kind (g.S.Lookup.table c.args.stored.now) in
+    let facts = facts_in c.args.stored.now in
     let p = err_from_is_err_and c.from_residual.result c.from_residual.ensures.1 in
-    rw (p.1, p.2) (widen g.F.Files.reading_may_fail (g.S.Lookup.may_fail c.args.stored.now) c.args.names.now.kind facts tree c.in_err-branch.field-0.0 (c.in_err-branch.ensures.wrong facts honest))
+    rw (p.1, p.2) (c.in_err-branch.ensures.wrong facts honest)
 
 pub returns-in_err-branch-clause-accepted : goal.returns-in_err-branch-clause-accepted
-returns-in_err-branch-clause-accepted g c = λ r store same are honest stands.
+returns-in_err-branch-clause-accepted g c = λ r same are honest stands.
     let tree = (g.F.Files.history c.args.names.now.store.files).tree in
-    let facts = facts_in c.args.names.now.kind (g.S.Lookup.table c.args.stored.now) in
+    let facts = facts_in c.args.stored.now in
     let p = err_from_is_err_and c.from_residual.result c.from_residual.ensures.1 in
     rw (p.1, p.2) (fault_alone g.F.Files.reading_may_fail c.args.names.now.kind facts tree r c.in_err-branch.field-0.0 same are stands (c.in_err-branch.ensures.wrong facts honest))
 
 pub returns-in_err-test_all-clause-accepted : goal.returns-in_err-test_all-clause-accepted
-returns-in_err-test_all-clause-accepted g c = λ r store same are honest stands.
+returns-in_err-test_all-clause-accepted g c = λ r same are honest stands.
     let tree = (g.F.Files.history c.args.names.now.store.files).tree in
-    let facts = facts_in c.args.names.now.kind (g.S.Lookup.table c.args.stored.now) in
+    let facts = facts_in c.args.stored.now in
     let p = err_from_is_err_and c.from_residual-in_err-test_all.result c.from_residual-in_err-test_all.ensures.1 in
-    rw (p.1, p.2) (fault_alone (g.F.Files.reading_may_fail ⊎ g.S.Lookup.may_fail c.args.stored.now) c.args.names.now.kind facts tree r c.in_err-test_all.field-0.0 same are stands
-    (seen_so g.F.Files.is_honest (λ files kind. HasCause (g.F.Files.reading_may_fail ⊎ g.S.Lookup.may_fail c.args.stored.now) kind (facts_in kind (g.S.Lookup.table c.args.stored.now)) (g.F.Files.history files).tree c.in_err-test_all.field-0.0) c.files.result.now c.args.names.now.store.files c.kind.result c.args.names.now.kind c.files.ensures c.kind.ensures honest
-    (c.in_err-test_all.ensures.wrong store)))
+    rw (p.1, p.2) (fault_alone g.F.Files.reading_may_fail c.args.names.now.kind facts tree r c.in_err-test_all.field-0.0 same are stands
+    (seen_so g.F.Files.is_honest (λ files kind. HasCause g.F.Files.reading_may_fail kind (facts_in c.args.stored.now) (g.F.Files.history files).tree c.in_err-test_all.field-0.0) c.files.result.now c.args.names.now.store.files c.kind.result c.args.names.now.kind c.files.ensures c.kind.ensures honest
+    c.in_err-test_all.ensures.wrong))
 
 pub returns-clause-packed : goal.returns-clause-packed
-returns-clause-packed g c = λ store honest.
-    (seen_so g.F.Files.is_honest (λ files kind. IsSound kind (facts_in kind (g.S.Lookup.table c.args.stored.now)) (g.F.Files.history files).tree) c.files.result.now c.args.names.now.store.files c.kind.result c.args.names.now.kind c.files.ensures c.kind.ensures honest (c.in_ok-test_all.ensures.sound store)).packed
+returns-clause-packed g c = λ honest.
+    (seen_so g.F.Files.is_honest (λ files kind. IsSound kind (facts_in c.args.stored.now) (g.F.Files.history files).tree) c.files.result.now c.args.names.now.store.files c.kind.result c.args.names.now.kind c.files.ensures c.kind.ensures honest c.in_ok-test_all.ensures.sound).packed

@@ -8,4 +8,4 @@ use Rattle.history_check_objects.proofs.order.Survey.new.Given as goal
 
 -- the ids so far are to come
 abbrev pub invariant-loop-id : goal.invariant-loop-id
-invariant-loop-id l = (id : ObjectId) → sets.contains by_id l.unmet id ≡ is_one_of (take l.id-index l.ids) (id_of id)
+invariant-loop-id l = (id : ObjectId) → sets.contains by_id l.unmet id ≡ is_one_of (take l.id-index l.id-items) (id_of id)
