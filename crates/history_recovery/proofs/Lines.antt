@@ -65,9 +65,12 @@ lines_begin (b ∷ text) = go (has_byte 10 (b ∷ text)) (lines_begin text)
 pub lines_short : (text : Bytes) → length (whole_lines text) ≤ length text
 lines_short text = let rest = lines_begin text in omega (arith, ap length rest.1, length-append (whole_lines text) rest.0)
 
+is_zero : (n : ℕ) → (n == 0) ≡ true → n ≡ 0
+is_zero n none = grind (arith, tests)
+
 pub no_lines : (text : Bytes) → (length text == 0) ≡ true → text ≡ []
 no_lines [] none = refl
-no_lines (b ∷ text) none = cc
+no_lines (b ∷ text) none = absurd (omega (arith, is_zero (length (b ∷ text)) none))
 
 pub some_lines : (text : Bytes) → (length text == 0) ≡ false → text ≢ []
 some_lines text some none = let wrong : true ≡ false = sym (ap (λ t. length t == 0) none) ∙ some in cc wrong
