@@ -43,7 +43,7 @@ clients-test: ## the tests of clients/python, over the proved program if it is b
 
 folder-demo: SCRIPT = demo/folder ## shows the proved program on real folders, against demo/folder.wanted; seconds once it is proved
 bench: SCRIPT = bench/report ## no test: the program's workloads on real folders beside git's, with ratios; SIZE=small for a quick one; minutes once all is proved
-faults: SCRIPT = bench/faults ## refuses each growth of memory of the program's own run in turn, and interrupts its readings; minutes, and a C compiler
+faults: SCRIPT = bench/faults ## refuses each growth of memory of the program's own run in turn, interrupts its readings, and gives it large files; minutes, and a C compiler
 deb: SCRIPT = package/deb ## a Debian package of the proved program, its manual pages and completions, in the folder out/; hours the first time
 folder-demo bench faults deb: program
 	$(SCRIPT) $(PROGRAM)
