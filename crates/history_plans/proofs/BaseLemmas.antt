@@ -2,14 +2,15 @@
 use Rattle.std.specs.declared.alloc.Global.{Global}
 use Rattle.std.specs.Prelude.{Vec, Result, IsErrOf, MatchOption, ⊤, option_and_then}
 use Rattle.std.proofs.lemmas.Option.{same_Some}
-use Rattle.std.proofs.Common.{◌≡◌, ℕ, ◌+◌, ◌<◌, length, take, drop, get_or, Bool, true, false, cond, not, ◌||◌, ◌==◌, List, [], ◌∷◌, ◌++◌, map, filter, refl, sym, ◌∙◌, ap, subst, Option, Some, None, is_some, option_map, option_to_list, Err}
+use Rattle.std.proofs.Common.{◌≡◌, ℕ, zero, suc, arith, ◌+◌, ◌<◌, length, take, drop, get_or, Bool, true, false, cond, not, ◌||◌, ◌==◌, List, [], ◌∷◌, ◌++◌, map, filter, refl, sym, ◌∙◌, ap, subst, Option, Some, None, is_some, option_map, option_to_list, Err}
 use Rattle.std.specs.List.{AllByRecursion, cons_option, list_any, filter_map, flat_map}
 use Rattle.std.proofs.lemmas.List.{map-append, take_more}
 use Rattle.history_model.specs.Bytes.{Bytes, has_twice}
 use Rattle.gix_hash_id.specs.Id.{Id, id_of}
 use Rattle.gix_hash_id.specs.Order.{id_eq}
-use Rattle.history_model.specs.Repository.{Repository, stands}
-use Rattle.history_model.specs.Words.{commit_of}
+use Rattle.history_model.specs.Repository.{IsWholeStore, Repository, stands}
+use Rattle.history_model.specs.Words.{commit_of, word_meaning}
+use Rattle.history_model.proofs.WholeReads.{read_holds}
 use Rattle.history_model.specs.Commands.{Commit, CommitCommand, EditLine, PutLine, RemoveLine, RemoveFileLine, GraftLine, Expect, Any, New, At}
 use Rattle.history_model.specs.CommandParts.{at_word, edit_words}
 use Rattle.history_model.specs.Meaning.{branch_or_name, name_commit, parents_of}
@@ -19,7 +20,7 @@ use Rattle.history_model.specs.declared.Cause.TheVariants.{NoSuchName, Taken, No
 use Rattle.history_word.specs.Commands.{IsExpect}
 use Rattle.gix_hash_id.specs.declared.object_id.ObjectId.{ObjectId}
 use Rattle.history_repository.specs.Reads.{IsReadingFault, GivesMeant}
-use Rattle.history_plans.specs.Bases.{IsExpected, IsRootedSource, IsRootedWord, expected_meanings, line_word, source_id, held_cause, parents_cause}
+use Rattle.history_plans.specs.Bases.{IsExpected, IsHeldSource, IsRootedSource, IsRootedWord, expected_meanings, line_word, source_id, held_cause, parents_cause}
 use Rattle.history_repository.specs.Meanings.{HasRootIn, words_cause, reads_as, commit_in, commit_or_cause, meaning_of, peeled_in}
 use Rattle.history_repository.specs.Meant.{HasRoot, peeled_id}
 use Rattle.history_repository.specs.declared.stored.PeeledCommit.{PeeledCommit}
@@ -130,6 +131,20 @@ module _ (r : Repository) where
   pub sources_rooted : (sources : List (Option own.WordMeaning)) → AllByRecursion (IsRootedWord r) sources → AllByRecursion (IsRootedSource r) (map (option_and_then peeled_in) sources)
   sources_rooted [] rooted = tt
   sources_rooted (source ∷ sources) rooted = (one_rooted source rooted.0, sources_rooted sources rooted.1)
+
+  module _ (store : IsWholeStore r) where
+    one_held : (line : EditLine) (source : Option PeeledCommit) → option_map peeled_id source ≡ source_id r line → IsRootedSource r source → IsHeldSource r source
+    one_held line None same rooted = tt
+    one_held (PutLine kind path bytes) (Some commit) same rooted = cc
+    one_held (RemoveLine path) (Some commit) same rooted = cc
+    one_held (RemoveFileLine path) (Some commit) same rooted = cc
+    one_held (GraftLine path word from) (Some commit) same rooted = (read_holds r store (word_meaning r word) (peeled_id commit) (sym same), rooted)
+
+    -- and they are stored
+    pub sources_held : (lines : List EditLine) (sources : List (Option PeeledCommit)) → map (option_map peeled_id) sources ≡ map (source_id r) lines → AllByRecursion (IsRootedSource r) sources → AllByRecursion (IsHeldSource r) sources
+    sources_held lines [] same rooted = tt
+    sources_held [] (source ∷ sources) same rooted = cc
+    sources_held (line ∷ lines) (source ∷ sources) same rooted = (one_held line source (first_option same) rooted.0, sources_held lines sources (rest_options same) rooted.1)
 
   -- ---- the commits of parents, with their roots
 
@@ -298,6 +313,22 @@ all_more {X} P xs more x all one is = subst (λ (ys : List X). AllByRecursion P 
     go : (xs : List X) → AllByRecursion P xs → AllByRecursion P (xs ++ x ∷ [])
     go [] all = (one, tt)
     go (y ∷ ys) all = (all.0, go ys all.1)
+
+-- it holds of each of them
+pub all_at : {X : Type 0} (P : X → Type 0) (xs : List X) (i : ℕ) (x : X) → i < length xs → x ≡ get_or xs i x → AllByRecursion P xs → P x
+all_at P xs i x less is all = subst P (sym is) (go xs i less all)
+  where
+    go : (xs : List X) (i : ℕ) → i < length xs → AllByRecursion P xs → P (get_or xs i x)
+    go [] i less all = absurd (omega arith)
+    go (y ∷ ys) zero less all = all.0
+    go (y ∷ ys) (suc i) less all = go ys i (omega arith) all.1
+
+-- what is the same of each so far is the same of one more
+pub mapped_added : {X Y Z : Type 0} (f : Y → Z) (k : X → Z) (xs : List X) (i : ℕ) (x : X) (y : Y) (ys more : List Y) → i < length xs → x ≡ get_or xs i x → f y ≡ k x → map f ys ≡ map k (take i xs) → more ≡ ys ++ y ∷ []
+    → map f more ≡ map k (take (i + 1) xs)
+mapped_added f k xs i x y ys more less is same so_far added =
+    ap (map f) added ∙ map-append f ys (y ∷ []) ∙ (λ j. so_far j ++ same j ∷ [])
+    ∙ sym (ap (map k) (take_more xs i x less ∙ ap (λ z. take i xs ++ z ∷ []) (sym is)) ∙ map-append k (take i xs) (x ∷ []))
 
 -- ---- ids that occur twice
 

@@ -367,11 +367,11 @@ zip_add R [] (z ∷ ys) x y all here = absurd all
 zip_add R (w ∷ xs) [] x y all here = absurd all
 zip_add R (w ∷ xs) (z ∷ ys) x y all here = (all.0, zip_add R xs ys x y all.1 here)
 
-pub zip_at : {A B : Type 0} (R : A → B → Type 0) (p : B → Bool) (xs : List A) (ys : List B) (d : A) (i : ℕ) → i < length xs → AllZip R xs ys → list_all p ys ≡ true → (y : B) × R (get_or xs i d) y × (p y ≡ true)
-zip_at R p [] ys d i within all each = absurd (omega arith)
-zip_at R p (x ∷ xs) [] d i within all each = absurd all
-zip_at R p (x ∷ xs) (y ∷ ys) d zero within all each = (y, all.0, (and_parts (p y) (list_all p ys) each).0)
-zip_at R p (x ∷ xs) (y ∷ ys) d (suc i) within all each = zip_at R p xs ys d i (omega arith) all.1 (and_parts (p y) (list_all p ys) each).1
+pub zip_at : {A B : Type 0} (R : A → B → Type 0) (xs : List A) (ys : List B) (d : A) (i : ℕ) → i < length xs → AllZip R xs ys → (y : B) × R (get_or xs i d) y
+zip_at R [] ys d i within all = absurd (omega arith)
+zip_at R (x ∷ xs) [] d i within all = absurd all
+zip_at R (x ∷ xs) (y ∷ ys) d zero within all = (y, all.0)
+zip_at R (x ∷ xs) (y ∷ ys) d (suc i) within all = zip_at R xs ys d i (omega arith) all.1
 
 pub none_zip : {A B C : Type 0} (R : A → C → Type 0) (Q : C → B → Type 0) (ys : List C) (zs : List B) → zs ≡ [] → AllZip R [] ys → AllZip Q ys zs
 none_zip R Q [] [] none all = tt
@@ -384,14 +384,12 @@ all_joined p xs x all =
     (parts.0, (and_parts (p x) true parts.1).0)
 
 -- one line more is read
-pub line_added : (r : plain.Repository) (tos : List sent.To) (to : sent.To) (orders : List To) (lines more : List Line) (line : Line) → AreTos (tos ++ to ∷ []) orders → list_all (λ (to : To). is_name to.name) orders ≡ true
-    → ((front : List To) → AreTos tos front → list_all (λ (to : To). is_name to.name) front ≡ true → AreLines r front lines) → ((order : To) → IsTo to order → is_name order.name ≡ true → IsLine r order line)
-    → more ≡ lines ++ line ∷ [] → AreLines r orders more
-line_added r tos to orders lines more line are named so_far here added =
+pub line_added : (r : plain.Repository) (tos : List sent.To) (to : sent.To) (orders : List To) (lines more : List Line) (line : Line) → AreTos (tos ++ to ∷ []) orders
+    → ((front : List To) → AreTos tos front → AreLines r front lines) → ((order : To) → IsTo to order → IsLine r order line) → more ≡ lines ++ line ∷ [] → AreLines r orders more
+line_added r tos to orders lines more line are so_far here added =
     let cut = zip_split IsTo tos to orders are in
-    let parts = all_joined (λ (to : To). is_name to.name) cut.0 cut.1 (sym (ap (list_all (λ (to : To). is_name to.name)) cut.2) ∙ named) in
     subst (λ all. AreLines r orders all) (sym added)
-    (subst (λ all. AreLines r all (lines ++ line ∷ [])) (sym cut.2) (zip_add (IsLine r) cut.0 lines cut.1 line (so_far cut.0 cut.3 parts.0) (here cut.1 cut.4 parts.1)))
+    (subst (λ all. AreLines r all (lines ++ line ∷ [])) (sym cut.2) (zip_add (IsLine r) cut.0 lines cut.1 line (so_far cut.0 cut.3) (here cut.1 cut.4)))
 
 -- one line more is made a move
 pub moves_added : (r : plain.Repository) (order : MoveCommand) (lines : List Line) (line : Line) (orders : List To) (moves more : List Moves) (one : Moves) → AllZip (swapped r) (lines ++ line ∷ []) orders

@@ -1,9 +1,10 @@
 -- What a commit is based on, and why it can't be based on it.
-use Rattle.std.specs.Prelude.{◌≡◌, ⊤, List, [], ◌∷◌, map, length, nat_lt, Option, Some, None, Result, MatchOption, option_map, option_and_then, if◌then◌else◌}
+use Rattle.std.specs.Prelude.{◌≡◌, ⊤, ℕ, List, Vec, [], ◌∷◌, map, length, nat_lt, Option, Some, None, Result, MatchOption, option_map, option_and_then, if◌then◌else◌}
 use Rattle.std.specs.List.{AllByRecursion}
+use Rattle.std.specs.declared.alloc.Global.{Global}
 use Rattle.history_model.specs.Bytes.{Bytes, has_twice}
 use Rattle.history_model.specs.Repository as plain
-use Rattle.history_model.specs.Repository.{id_at}
+use Rattle.history_model.specs.Repository.{HoldsCommit, id_at}
 use Rattle.history_model.specs.Forms.{max_parents}
 use Rattle.history_model.specs.Words.{commit_of}
 use Rattle.history_model.specs.Commands as orders
@@ -56,12 +57,47 @@ line_word _ = None
 abbrev pub source_id : plain.Repository → orders.EditLine → Option Id
 source_id r line = option_and_then (commit_of r) (line_word line)
 
+-- the words were read as what they mean, with the roots of their commits, if those are known
+abbrev pub AreWordsRead : plain.Repository → List (Vec ℕ Global) → List WordMeaning → Type 0
+AreWordsRead r words meanings =
+    (map meaning_of meanings ≡ map (λ word. commit_or_cause r word.items) words)
+    × AllByRecursion (HasRootIn r) meanings
+
 -- the root is that of the commit of an edit's word, if it is known
 abbrev pub IsRootedWord : plain.Repository → Option WordMeaning → Type 0
 IsRootedWord r word = MatchOption word ⊤ (HasRootIn r)
 
 abbrev pub IsRootedSource : plain.Repository → Option PeeledCommit → Type 0
 IsRootedSource r source = MatchOption source ⊤ (HasRoot r)
+
+-- the word of an edit's line was read as what it means, and so were those of lines
+abbrev pub IsSourceRead : plain.Repository → orders.EditLine → Option WordMeaning → Type 0
+IsSourceRead r line source =
+    (option_map meaning_of source ≡ option_map (commit_or_cause r) (line_word line))
+    × IsRootedWord r source
+
+abbrev pub AreSourcesRead : plain.Repository → List orders.EditLine → List (Option WordMeaning)
+    → Type 0
+AreSourcesRead r lines sources =
+    (map (option_map meaning_of) sources
+    ≡ map (λ line. option_map (commit_or_cause r) (line_word line)) lines)
+    × AllByRecursion (IsRootedWord r) sources
+
+-- the commit of an edit's word is stored, and has its root, if that is known
+abbrev pub IsHeldSource : plain.Repository → Option PeeledCommit → Type 0
+IsHeldSource r source =
+    MatchOption source ⊤ (λ commit. HoldsCommit r (peeled_id commit) × HasRoot r commit)
+
+-- the same commit, with its root, if that is known; and the same commits
+abbrev pub IsRootedAs : plain.Repository → Option PeeledCommit → Option PeeledCommit → Type 0
+IsRootedAs r source rooted =
+    (option_map peeled_id rooted ≡ option_map peeled_id source) × IsRootedSource r rooted
+
+abbrev pub AreRootedSources : plain.Repository → List (Option PeeledCommit)
+    → List (Option PeeledCommit) → Type 0
+AreRootedSources r sources roots =
+    (map (option_map peeled_id) roots ≡ map (option_map peeled_id) sources)
+    × AllByRecursion (IsRootedSource r) roots
 
 -- the name that the commit moves, what it holds, the commit's parents, the tree of the first, and
 -- of each edit the commit of its word, if it has one

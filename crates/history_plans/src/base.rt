@@ -1,16 +1,17 @@
 //! What a `commit` is based on: the name that it moves, what that holds, and the commit's parents.
 
-ghost use Rattle.std.specs.Prelude.{◌≡◌, MatchResult, None, Some, ◌++◌, ⊤, IfOk, IsTrue, List, map, option_and_then, option_map, option_to_list};
+ghost use Rattle.std.specs.Prelude.{◌≡◌, MatchResult, None, Some, ◌++◌, ⊤, IfOk, IsTrue, List, OnOk, map, option_and_then, option_map, option_to_list};
 ghost use Rattle.history_plans.specs.CommitCauses.{IsNamed, Tests, name_form_causes, name_causes, place_causes};
 ghost use Rattle.history_repository.specs.Stands.{Stands};
 ghost use Rattle.std.specs.List.{AllByRecursion, filter_map};
 ghost use Rattle.history_model.specs.Forms.{is_name};
 ghost use Rattle.history_model.specs.Meaning.{branch_or_name};
 ghost use Rattle.history_word.specs.Commands.{AreEdits, IsEdit, IsExpect};
-ghost use Rattle.history_repository.specs.Reads.{GivesMeant};
+ghost use Rattle.history_repository.specs.Reads.{GivesMeant, ReadsMore};
+ghost use Rattle.history_repository.specs.Known.{AreMeant};
 ghost use Rattle.history_plans.specs.Asked.{AskedCommit};
-ghost use Rattle.history_plans.specs.Bases.{IsCommitBase, IsExpected, IsRootedWord, expected_meanings, held_cause, line_word, parents_cause};
-ghost use Rattle.history_repository.specs.Meanings.{HasRootIn, words_cause, commit_or_cause, meaning_of, peeled_in};
+ghost use Rattle.history_plans.specs.Bases.{AreRootedSources, AreSourcesRead, AreWordsRead, IsCommitBase, IsExpected, IsHeldSource, IsRootedAs, IsSourceRead, expected_meanings, held_cause, parents_cause};
+ghost use Rattle.history_repository.specs.Meanings.{words_cause, meaning_of, peeled_in};
 ghost use Rattle.history_repository.specs.Held.{IsHeld};
 ghost use Rattle.gix_hash_id.specs.Id.{id_of};
 ghost use Rattle.history_repository.specs.declared.stored.PeeledCommit.{PeeledCommit};
@@ -23,8 +24,8 @@ use history_model::Cause;
 use history_model::limits::MAX_PARENTS;
 use history_model::names::HEAD;
 use history_repository::{
-    Held, PeeledCommit, Repository, Stopped, WordMeaning, commit_held, id_held, peeled_held,
-    read_held, read_word, test_all, test_name, tree_before,
+    Held, PeeledCommit, ReadObjects, Repository, Stopped, WordMeaning, commit_held, id_held,
+    peeled_held, read_held, read_word, rooted, test_all, test_name, tree_before,
 };
 use history_store::has_twice;
 use history_word::{CommitCommand, Edit, Expect};
@@ -183,16 +184,19 @@ fn test_parents(parents: &[ObjectId]) -> Result<(), Cause>
 pub(crate) fn read_expected<F: Files>(
     repository: &Repository<F>,
     alloc: Global,
+    read: &mut ReadObjects,
     expect: &Expect,
 ) -> Result<Expected, Stopped>
-    ensures { (r : plain.Repository) (order : orders.Expect)
+    ensures reads { (r : plain.Repository) (order : orders.Expect)
         → Stands F.is_honest F.history repository.now r → IsExpect expect.now order
-        → GivesMeant F.reading_may_fail (IsExpected r order) result }
+        → AreMeant r read.old → GivesMeant F.reading_may_fail (IsExpected r order) result }
+    ensures kept { (r : plain.Repository) → Stands F.is_honest F.history repository.now r
+        → AreMeant r read.old → OnOk result (AreMeant r read.new) }
 {
     Ok(match expect {
         Expect::Any => Expected::Any,
         Expect::New => Expected::New,
-        Expect::At(word) => Expected::At(read_word(repository, alloc, word)?),
+        Expect::At(word) => Expected::At(read_word(repository, alloc, read, word)?),
     })
 }
 
@@ -200,17 +204,16 @@ pub(crate) fn read_expected<F: Files>(
 fn read_words<F: Files>(
     repository: &Repository<F>,
     alloc: Global,
+    read: &mut ReadObjects,
     words: &[Vec<u8>],
 ) -> Result<Vec<WordMeaning>, Stopped>
-    ensures means { (r : plain.Repository) → Stands F.is_honest F.history repository.now r
-        → GivesMeant F.reading_may_fail (λ meanings. map meaning_of meanings.items
-        ≡ map (λ word. commit_or_cause r word.items) words.now) result }
-    ensures rooted { (r : plain.Repository) → Stands F.is_honest F.history repository.now r
-        → IfOk result (λ meanings. AllByRecursion (HasRootIn r) meanings.items) }
+    ensures { (r : plain.Repository) → Stands F.is_honest F.history repository.now r
+        → ReadsMore F.reading_may_fail r read.old read.new
+        (λ meanings. AreWordsRead r words.now meanings.items) result }
 {
     let mut meanings = Vec::new(alloc);
     for word in words {
-        meanings.push(read_word(repository, alloc, word)?)?;
+        meanings.push(read_word(repository, alloc, read, word)?)?;
     }
     Ok(meanings)
 }
@@ -220,17 +223,17 @@ fn read_words<F: Files>(
 fn read_source<F: Files>(
     repository: &Repository<F>,
     alloc: Global,
+    read: &mut ReadObjects,
     edit: &Edit,
 ) -> Result<Option<WordMeaning>, Stopped>
-    ensures means { (r : plain.Repository) (line : orders.EditLine)
+    ensures reads { (r : plain.Repository) (line : orders.EditLine)
         → Stands F.is_honest F.history repository.now r → IsEdit edit.now line
-        → GivesMeant F.reading_may_fail (λ source. option_map meaning_of source
-        ≡ option_map (commit_or_cause r) (line_word line)) result }
-    ensures rooted { (r : plain.Repository) → Stands F.is_honest F.history repository.now r
-        → IfOk result (IsRootedWord r) }
+        → AreMeant r read.old → GivesMeant F.reading_may_fail (IsSourceRead r line) result }
+    ensures kept { (r : plain.Repository) → Stands F.is_honest F.history repository.now r
+        → AreMeant r read.old → OnOk result (AreMeant r read.new) }
 {
     match edit {
-        Edit::Graft(graft) => Ok(Some(read_word(repository, alloc, &graft.word)?)),
+        Edit::Graft(graft) => Ok(Some(read_word(repository, alloc, read, &graft.word)?)),
         Edit::Put(_) => Ok(None),
         Edit::Remove(_) => Ok(None),
         Edit::RemoveFile(_) => Ok(None),
@@ -242,20 +245,56 @@ fn read_source<F: Files>(
 fn read_sources<F: Files>(
     repository: &Repository<F>,
     alloc: Global,
+    read: &mut ReadObjects,
     edits: &[Edit],
 ) -> Result<Vec<Option<WordMeaning>>, Stopped>
-    ensures means { (r : plain.Repository) (lines : List orders.EditLine)
+    ensures { (r : plain.Repository) (lines : List orders.EditLine)
         → Stands F.is_honest F.history repository.now r → AreEdits edits.now lines
-        → GivesMeant F.reading_may_fail (λ sources. map (option_map meaning_of) sources.items
-        ≡ map (λ line. option_map (commit_or_cause r) (line_word line)) lines) result }
-    ensures rooted { (r : plain.Repository) → Stands F.is_honest F.history repository.now r
-        → IfOk result (λ sources. AllByRecursion (IsRootedWord r) sources.items) }
+        → ReadsMore F.reading_may_fail r read.old read.new
+        (λ sources. AreSourcesRead r lines sources.items) result }
 {
     let mut sources = Vec::new(alloc);
     for edit in edits {
-        sources.push(read_source(repository, alloc, edit)?)?;
+        sources.push(read_source(repository, alloc, read, edit)?)?;
     }
     Ok(sources)
+}
+
+/// Returns the commit of an edit's word, if it has one, with its root. The faults are those of
+/// `read_expected`.
+fn root_source<F: Files>(
+    repository: &Repository<F>,
+    alloc: Global,
+    read: &mut ReadObjects,
+    source: Option<PeeledCommit>,
+) -> Result<Option<PeeledCommit>, Stopped>
+    ensures { (r : plain.Repository) → Stands F.is_honest F.history repository.now r
+        → IsHeldSource r source
+        → ReadsMore F.reading_may_fail r read.old read.new (IsRootedAs r source) result }
+{
+    match source {
+        Some(commit) => Ok(Some(rooted(repository, alloc, read, commit)?)),
+        None => Ok(None),
+    }
+}
+
+/// Returns the commits of edits' words with their roots. The faults are those of `read_expected`.
+fn root_sources<F: Files>(
+    repository: &Repository<F>,
+    alloc: Global,
+    read: &mut ReadObjects,
+    sources: &[Option<PeeledCommit>],
+) -> Result<Vec<Option<PeeledCommit>>, Stopped>
+    ensures { (r : plain.Repository) → Stands F.is_honest F.history repository.now r
+        → AllByRecursion (IsHeldSource r) sources.now
+        → ReadsMore F.reading_may_fail r read.old read.new
+        (λ roots. AreRootedSources r sources.now roots.items) result }
+{
+    let mut roots = Vec::new(alloc);
+    for source in sources {
+        roots.push(root_source(repository, alloc, read, *source)?)?;
+    }
+    Ok(roots)
 }
 
 /// Tests that the name holds a commit, or doesn't exist and can be made beside the others.
@@ -285,7 +324,8 @@ fn test_place<F: Files>(
 }
 
 /// Returns what a `commit` is based on, if no cause lies in its name, its words and its parents;
-/// otherwise it is refused for the first that holds. The faults are those of `read_expected`.
+/// otherwise it is refused for the first that holds. Each object is read once, however many words
+/// mean it. The faults are those of `read_expected`.
 pub(crate) fn read_base<F: Files>(
     repository: &Repository<F>,
     alloc: Global,
@@ -295,20 +335,22 @@ pub(crate) fn read_base<F: Files>(
         → AskedCommit F.is_honest F.history repository.now command.now r order
         → Tests F.reading_may_fail name_causes r order (IsCommitBase r order) result }
 {
+    let mut read = ReadObjects::new(alloc);
     let name = name_of(repository, alloc, &command.name)?;
-    let expected = read_expected(repository, alloc, &command.expect)?;
-    let words = read_words(repository, alloc, &command.parents)?;
-    let sources = read_sources(repository, alloc, &command.edits)?;
+    let expected = read_expected(repository, alloc, &mut read, &command.expect)?;
+    let words = read_words(repository, alloc, &mut read, &command.parents)?;
+    let sources = read_sources(repository, alloc, &mut read, &command.edits)?;
     let all = all_words(alloc, &words, &sources)?;
     test_words(expected, &all)?;
-    let held = read_held(repository, alloc, &name)?;
+    let held = read_held(repository, alloc, &mut read, &name)?;
     expected.test(commit_held(held))?;
     test_place(repository, alloc, &name, held)?;
     let commits = parents_of(alloc, peeled_held(held), &words)?;
     let parents = ids_of(alloc, &commits)?;
     test_parents(&parents)?;
-    let tree = tree_before(repository, alloc, &commits)?;
+    let tree = tree_before(repository, alloc, &mut read, &commits)?;
     let sources = peeled_sources(alloc, &sources)?;
+    let sources = root_sources(repository, alloc, &mut read, &sources)?;
     Ok(Base {
         name,
         held: id_held(held),

@@ -13,7 +13,7 @@ use crate::base::{Expected, read_expected, test_words};
 use gix_hash::ObjectId;
 use gix_ref_file::Files;
 use history_model::Cause;
-use history_repository::{Repository, Stopped, commit_held, read_held, test_name};
+use history_repository::{ReadObjects, Repository, Stopped, commit_held, read_held, test_name};
 use history_word::Delete;
 use std::alloc::Global;
 
@@ -43,10 +43,11 @@ pub fn test_delete<F: Files>(
         → Stands F.is_honest F.history repository.now r → IsDelete command.now name at
         → TestsAll F.reading_may_fail r (orders.Delete name at) result }
 {
+    let mut read = ReadObjects::new(alloc);
     test_name(&command.name)?;
-    let expected = read_expected(repository, alloc, &command.expect)?;
+    let expected = read_expected(repository, alloc, &mut read, &command.expect)?;
     test_words(expected, &[])?;
-    let held = read_held(repository, alloc, &command.name)?;
+    let held = read_held(repository, alloc, &mut read, &command.name)?;
     test_gone(expected, commit_held(held))?;
     Ok(())
 }

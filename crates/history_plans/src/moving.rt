@@ -6,6 +6,7 @@ ghost use Rattle.gix_hash_id.specs.Id.{id_of};
 ghost use Rattle.history_model.specs.Forms.{is_name, is_private, max_content};
 ghost use Rattle.history_word.specs.Commands.{AreTos, IsActor, IsMove, IsTo};
 ghost use Rattle.history_word.specs.Fields.{Keeps};
+ghost use Rattle.history_repository.specs.Known.{AreMeant};
 ghost use Rattle.history_repository.specs.Reads.{GivesMeant};
 ghost use Rattle.history_repository.specs.Meanings.{meaning_of};
 ghost use Rattle.history_plans.specs.Moving.{AreLines, AreMoves, IsLine, IsLineMove, IsTeller, PlansMoves, TellsTeller, TestsNames, bars, is_elsewhere, is_missing, is_taken, is_there, line_meanings, lines_cause, to_name};
@@ -24,8 +25,8 @@ use gix_hash::{Kind, ObjectId};
 use gix_ref_file::Files;
 use history_model::Cause;
 use history_repository::{
-    Held, Repository, Stopped, WordMeaning, commit_held, id_before, id_held, is_private, kept,
-    read_held, read_word,
+    Held, ReadObjects, Repository, Stopped, WordMeaning, commit_held, id_before, id_held,
+    is_private, kept, read_held, read_word,
 };
 use history_store::{Actor, is_name};
 use history_word::{ActorLine, Field, MoveCommand, To};
@@ -254,15 +255,21 @@ fn moves_of(
 
 /// Returns a line, its words read, and what its name holds. It is a fault if a call of the files
 /// failed, or if no memory is left.
-fn read_line<F: Files>(repository: &Repository<F>, alloc: Global, to: To) -> Result<Line, Stopped>
-    ensures { (r : plain.Repository) (order : orders.To)
-        → Stands F.is_honest F.history repository.now r
-        → IsTo to order → IsTrue (is_name order.name)
-        → GivesMeant F.reading_may_fail (IsLine r order) result }
+fn read_line<F: Files>(
+    repository: &Repository<F>,
+    alloc: Global,
+    read: &mut ReadObjects,
+    to: To,
+) -> Result<Line, Stopped>
+    ensures reads { (r : plain.Repository) (order : orders.To)
+        → Stands F.is_honest F.history repository.now r → IsTo to order
+        → AreMeant r read.old → GivesMeant F.reading_may_fail (IsLine r order) result }
+    ensures kept { (r : plain.Repository) → Stands F.is_honest F.history repository.now r
+        → AreMeant r read.old → OnOk result (AreMeant r read.new) }
 {
-    let expected = read_expected(repository, alloc, &to.expect)?;
-    let word = read_word(repository, alloc, &to.word)?;
-    let held = read_held(repository, alloc, &to.name)?;
+    let expected = read_expected(repository, alloc, read, &to.expect)?;
+    let word = read_word(repository, alloc, read, &to.word)?;
+    let held = read_held(repository, alloc, read, &to.name)?;
     Ok(Line {
         name: to.name,
         expected,
@@ -271,6 +278,7 @@ fn read_line<F: Files>(repository: &Repository<F>, alloc: Global, to: To) -> Res
     })
 }
 
+/// Returns the lines, each object read once. The faults are those of `read_line`.
 fn read_lines<F: Files>(
     repository: &Repository<F>,
     alloc: Global,
@@ -278,12 +286,13 @@ fn read_lines<F: Files>(
 ) -> Result<Vec<Line>, Stopped>
     ensures { (r : plain.Repository) (tos : List orders.To)
         → Stands F.is_honest F.history repository.now r
-        → AreTos to.items tos → IsTrue (list_all (λ to. is_name to.name) tos)
+        → AreTos to.items tos
         → GivesMeant F.reading_may_fail (λ lines. AreLines r tos lines.items) result }
 {
+    let mut read = ReadObjects::new(alloc);
     let mut lines = Vec::new(alloc);
     for to in to {
-        lines.push(read_line(repository, alloc, to)?)?;
+        lines.push(read_line(repository, alloc, &mut read, to)?)?;
     }
     Ok(lines)
 }

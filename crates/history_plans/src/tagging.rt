@@ -25,8 +25,8 @@ use gix_ref_file::Files;
 use history_model::names::TAGS;
 use history_model::{Cause, Fault};
 use history_repository::{
-    Held, Repository, Stopped, commit_held, id_before, id_held, into_kept, is_too_long, kept,
-    read_held, read_word,
+    Held, ReadObjects, Repository, Stopped, commit_held, id_before, id_held, into_kept,
+    is_too_long, kept, read_held, read_word,
 };
 use history_store::{Actor, NewObject, is_name, tag_bytes, title};
 use history_word::{ActorLine, Expect, Field, TagCommand};
@@ -98,10 +98,11 @@ fn tag_base<F: Files>(
         → TestsOf F.reading_may_fail target_causes r (orders.Tag order)
         (IsTagBase r order) result }
 {
-    let expected = read_expected(repository, alloc, expect)?;
-    let meaning = read_word(repository, alloc, word)?;
+    let mut read = ReadObjects::new(alloc);
+    let expected = read_expected(repository, alloc, &mut read, expect)?;
+    let meaning = read_word(repository, alloc, &mut read, word)?;
     test_words(expected, &[meaning])?;
-    let held = read_held(repository, alloc, name)?;
+    let held = read_held(repository, alloc, &mut read, name)?;
     expected.test(commit_held(held))?;
     if held.is_none() && repository.names.collides_any(alloc, name)? {
         return Err(Stopped::Refused(Cause::Collides));

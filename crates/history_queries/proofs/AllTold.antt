@@ -1,6 +1,7 @@
 -- The descriptions of all commits, in an order in which each comes before its parents.
 use Rattle.std.proofs.Common.{◌≡◌, ◌∙◌, ◌<◌, ◌+◌, ap, refl, sym, subst, arith, ℕ, zero, suc, Bool, true, false, ◌||◌, List, [], ◌∷◌, ◌++◌, length, map, filter, take, get_or, inl, inr, pos, Option, Some, None, is_some, option_and_then, option_map, unwrap_or}
-use Rattle.std.specs.Prelude.{◌⊎◌, ⊤, Contains, IsSome}
+use Rattle.std.specs.Borrow.{Bor}
+use Rattle.std.specs.Prelude.{◌⊎◌, ⊤, Contains, IfSome, IsSome}
 use Rattle.std.specs.FinMap.{contains_key, get}
 use Rattle.std.proofs.lemmas.List.{append_assoc, map-append, take_more}
 use Rattle.std.proofs.lemmas.List.Elements.{Contains-append_left, Contains-get_or, Contains-push, Contains-push_cases}
@@ -31,7 +32,12 @@ use Rattle.gix_object_commit.specs.declared.commit.owned.Commit.{Commit}
 use Rattle.history_walks.specs.Asking.{IsInOrder, walk_from}
 use Rattle.history_walks.specs.declared.listing.Order.TheVariants.{Topological}
 use Rattle.history_walks.proofs.Named.{contains_map}
+use Rattle.gix_ref_file.specs.History.{History}
+use Rattle.gix_traverse_commit_known.specs.Told.{rows_of as graph_rows}
+use Rattle.history_repository.specs.Face.{rows_in}
 use Rattle.history_repository.specs.KeptRows.{TellsRow}
+use Rattle.history_repository.specs.Stands.{Stands}
+use Rattle.history_repository.specs.declared.repository.Repository as own
 use Rattle.history_queries.specs.Indexing.{AreTheCommits, AreToldOf}
 use Rattle.history_queries.specs.Walked.{AllHold}
 use Rattle.history_queries.proofs.CommitsWalked.{held_parent}
@@ -45,6 +51,15 @@ row_stored r row told is same tree_is parents_are time_is = record {
   parents = ap (map id_of) parents_are ∙ is.parents;
   time = time_is ∙ is.time;
 }
+
+-- what has a row is a commit
+pub row_commit : {F : Type 0} (IsHonest : F → Type 0) (history : F → History) (repository : own.Repository F) (r : Repository) → Stands IsHonest history repository r → (id : ObjectId) (value : Value) (found : Option (Bor Row)) → get r.objects (id_of id) ≡ Some value
+    → IfSome found (λ row. Contains (graph_rows (rows_in repository)) row.now × (row.now.id ≡ id)) → is_some found ≡ true → is_some (as_commit value) ≡ true
+row_commit IsHonest history repository r stands id value None at row some = cc
+row_commit IsHonest history repository r stands id value (Some row) at found some =
+    let told = stands.rows.told row.now found.0 in
+    let same : Some value ≡ Some (StoredCommit told.commit) = sym at ∙ ap (λ x. get r.objects (id_of x)) (sym found.1) ∙ told.stored in
+    ap (λ v. is_some (option_and_then as_commit v)) same
 
 -- no tips reach none
 none_reached : (g : Commits Id) {y : Id} → Reached (λ z. (g z).parents) (λ _. ⊤) [] y → ⊥

@@ -10,7 +10,7 @@ ghost use Rattle.history_word.specs.Commands.{ArePaths, IsOrder, IsLog, IsLogIte
 ghost use Rattle.history_repository.specs.Meanings.{words_cause, commit_in};
 ghost use Rattle.history_repository.specs.Fields.{kept_bytes};
 ghost use Rattle.history_queries.specs.Logs.{IsOrderOf, IsSince, meanings_in, order_cause, since_cause, AreEnds};
-ghost use Rattle.history_repository.specs.Reads.{OnlyAnswers, GivesMeant};
+ghost use Rattle.history_repository.specs.Reads.{OnlyAnswers, ReadsMore};
 ghost use Rattle.history_repository.specs.Stands.{Stands};
 ghost use Rattle.history_queries.specs.Walked.{Walks};
 ghost use Rattle.history_model.specs.Commands as model;
@@ -23,7 +23,7 @@ use gix_hash::{Kind, ObjectId};
 use gix_ref_file::Files;
 use history_model::Cause;
 use history_repository::{
-    Repository, Stopped, WordMeaning, is_bad_path, kept, read_word, test_all,
+    ReadObjects, Repository, Stopped, WordMeaning, is_bad_path, kept, read_word, test_all,
 };
 use history_store::{hex_digits, parse_time};
 use history_walks::{self as walks, Parents, Request};
@@ -155,32 +155,27 @@ fn log_text(alloc: Global, ids: &[ObjectId]) -> Result<Vec<u8>, AllocError>
 /// Returns what the words of a log's items read as: those of the tips, and those of the hidden
 /// commits.
 ///
-/// All of the words are read, and none is refused. It is a fault if a call of the files failed, or
+/// All of the words are read, each object once, and none is refused. It is a fault if a call of the files failed, or
 /// if no memory is left.
 fn read_ends<F: Files>(
     repository: &Repository<F>,
     alloc: Global,
+    read: &mut ReadObjects,
     items: &[LogItem],
 ) -> Result<Ends, Stopped>
     ensures { (r : plain.Repository) (lines : List model.LogItem)
         → Stands F.is_honest F.history repository.now r → AllZip IsLogItem items.now lines
-        → GivesMeant F.reading_may_fail (AreEnds r lines) result }
+        → ReadsMore F.reading_may_fail r read.old read.new (AreEnds r lines) result }
 {
     let mut tips = Vec::new(alloc);
     let mut hidden = Vec::new(alloc);
     for item in items {
         match item {
-            LogItem::Tip(word) => tips.push(read_word(repository, alloc, word)?)?,
-            LogItem::Hidden(word) => hidden.push(read_word(repository, alloc, word)?)?,
+            LogItem::Tip(word) => tips.push(read_word(repository, alloc, read, word)?)?,
+            LogItem::Hidden(word) => hidden.push(read_word(repository, alloc, read, word)?)?,
         }
     }
     Ok(Ends { tips, hidden })
-}
-
-/// Returns whether the walk's commits are compared with their first parents, and all parents are
-/// followed: then what the walk reads is kept. Along first parents it reads less than that.
-fn compares_all(command: &LogCommand) -> bool {
-    !command.paths.is_empty() && !command.first_parents
 }
 
 /// Returns the commits of a log's walk, whatever its paths: those that its tips reach and no hidden
@@ -200,7 +195,8 @@ fn walked<F: Files>(
         → Stands F.is_honest F.history repository.now r → IsLog command.now order
         → Walks F.reading_may_fail r order result }
 {
-    let ends = read_ends(repository, alloc, &command.items)?;
+    let mut read = ReadObjects::keeping(alloc);
+    let ends = read_ends(repository, alloc, &mut read, &command.items)?;
     ends.test()?;
     if tells_bad_path(&command.paths) {
         return Err(Stopped::Refused(Cause::BadPath));
@@ -211,7 +207,9 @@ fn walked<F: Files>(
         tips: ids_of(alloc, &ends.tips)?,
         hidden: ids_of(alloc, &ends.hidden)?,
     };
-    commits(repository, alloc, request, compares_all(command))
+    // With paths each commit is compared with its first parent: then what the walk reads is kept.
+    let keeps = !command.paths.is_empty();
+    commits(repository, alloc, read.into_contents(), request, keeps)
 }
 
 /// Returns the reply to `log`: the commits of its walk, and with paths only those that differ at

@@ -15,6 +15,7 @@ ghost use Rattle.history_repository.specs.Stands.{Stands};
 ghost use Rattle.history_repository.specs.Meant.{HasContent};
 ghost use Rattle.history_repository.specs.Reads.{GivesMeant, IsReadingFault};
 ghost use Rattle.history_repository.specs.Face.{rows_in};
+ghost use Rattle.history_walks.specs.Asking.{parents_in};
 ghost use Rattle.history_queries.specs.Walked.{AllHold, AreRead, IsFollowed};
 ghost use Rattle.history_repository.specs.declared.stopped.Stopped.TheVariants as why;
 ghost use Rattle.history_model.specs.Repository as plain;
@@ -27,7 +28,7 @@ use history_files::{File, files};
 use history_model::Fault;
 use history_repository::{MeantCommit, Repository, Stopped, content};
 use history_store::parse_commit;
-use history_walks::{ReadCommits, ReadStore, Request, list_commits};
+use history_walks::{Order, Parents, ReadCommits, ReadStore, Request, list_commits};
 use std::alloc::{AllocError, Global};
 
 /// The commits that a walk lists, and those that were read for it and are kept.
@@ -133,59 +134,81 @@ fn copied_rows<F: Files>(repository: &Repository<F>) -> Result<Option<Graph>, Al
     }
 }
 
-/// Returns the commits without rows that tips or hidden commits reach, each read once; none, if
-/// none is to be kept. The tips, the hidden ones and the faults are those of `commits`.
+// Returns the parents that a walk in this order goes along.
+fn parents_along(order: &Order) -> Parents
+    ensures { result ≡ parents_in order.now }
+{
+    match order {
+        Order::Breadth(parents) | Order::Date(parents) | Order::Topological(parents) => *parents,
+        Order::Newest { .. } | Order::Oldest { .. } => Parents::All,
+    }
+}
+
+/// Returns the commits that are known, and with them, if all are to be kept, those without rows that
+/// tips or hidden commits reach along the order's parents: each of these is read once. The tips, the
+/// hidden ones, what is known and the faults are those of `commits`.
 fn read_ahead<F: Files>(
     repository: &Repository<F>,
     alloc: Global,
+    known: ReadCommits,
     request: &Request,
     keeps: bool,
 ) -> Result<ReadCommits, Stopped>
     ensures reads { (r : plain.Repository) → Stands F.is_honest F.history repository.now r
-        → IfOk result (AreRead r) }
+        → AreRead r known → IfOk result (AreRead r) }
     ensures stopped { (r : plain.Repository) → Stands F.is_honest F.history repository.now r
+        → AreRead r known
         → AllHold r request.now.tips.items → AllHold r request.now.hidden.items
         → IfErr result (IsReadingFault F.reading_may_fail) }
     ensures rowed { (r : plain.Repository) → Stands F.is_honest F.history repository.now r
+        → AreRead r known
         → AllHeld (rows_of (rows_in repository.now)) request.now.tips.items
         → AllHeld (rows_of (rows_in repository.now)) request.now.hidden.items
         → IfErr result (λ stopped. stopped ≡ why.Fault Memory) }
 {
     if !keeps {
-        return Ok(ReadCommits::new(alloc));
+        return Ok(known);
     }
     let rows = copied_rows(repository)?;
+    let store = ReadStore {
+        store: &repository.objects,
+        read: &known,
+    };
     Ok(ReadCommits::reached(
         alloc,
-        &repository.objects,
+        &store,
         rows,
         &request.tips,
         &request.hidden,
+        parents_along(&request.order),
     )?)
 }
 
 /// Returns the commits that some tips reach and no hidden commit reaches, each once, in the
-/// requested order; and, if they are to be kept, those without rows that the walk comes to, of
-/// which each is read once. Of a commit that has a row no file is read.
+/// requested order; and the commits that were read. These are those that are known, of which none
+/// is read again; and, if all are to be kept, those without rows that the walk comes to, of which
+/// each is read once. Of a commit that has a row no file is read.
 ///
-/// The tips and the hidden ones are stored commits. It is a fault if a call of the files failed, or
-/// if no memory is left.
+/// The tips and the hidden ones are stored commits, and what is known is as it is stored. It is a
+/// fault if a call of the files failed, or if no memory is left.
 pub(crate) fn commits<F: Files>(
     repository: &Repository<F>,
     alloc: Global,
+    known: ReadCommits,
     request: Request,
     keeps: bool,
 ) -> Result<Walk, Stopped>
     ensures lists { (r : plain.Repository) → Stands F.is_honest F.history repository.now r
-        → AllHold r request.tips.items → AllHold r request.hidden.items
+        → AreRead r known → AllHold r request.tips.items → AllHold r request.hidden.items
         → GivesMeant F.reading_may_fail (IsFollowed r request) result }
     // If all of them have rows, the walk looks up no object, so that no failed call stops it.
     ensures rowed { (r : plain.Repository) → Stands F.is_honest F.history repository.now r
+        → AreRead r known
         → AllHeld (rows_of (rows_in repository.now)) request.tips.items
         → AllHeld (rows_of (rows_in repository.now)) request.hidden.items
         → IfErr result (λ stopped. stopped ≡ why.Fault Memory) }
 {
-    let read = read_ahead(repository, alloc, &request, keeps)?;
+    let read = read_ahead(repository, alloc, known, &request, keeps)?;
     let rows = copied_rows(repository)?;
     let store = ReadStore {
         store: &repository.objects,

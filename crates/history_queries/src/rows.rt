@@ -5,15 +5,16 @@ ghost use Rattle.std.specs.FinMap.{get};
 ghost use Rattle.gix_hash_id.specs.Id.{id_of};
 ghost use Rattle.gix_traverse_graph.specs.Rows.{AreRows};
 ghost use Rattle.gix_traverse_commit_known.specs.Told.{rows_of as graph_rows};
-ghost use Rattle.history_model.specs.Objects.{Value};
+ghost use Rattle.history_model.specs.Objects.{CommitValue, StoredCommit, Value, commit_content, content_of};
 ghost use Rattle.history_model.specs.Repository.{HoldsCommit};
 ghost use Rattle.history_walks.specs.Rows.{AreTheRows};
 ghost use Rattle.history_walks.specs.Telling.{TellsStored};
 ghost use Rattle.history_repository.specs.Face.{rows_in};
 ghost use Rattle.history_repository.specs.Reads.{GivesMeant};
-ghost use Rattle.history_queries.specs.Indexing.{AreTheCommits, AreToldOf};
+ghost use Rattle.history_queries.specs.Indexing.{AreTheCommits, AreToldOf, front_of};
 ghost use Rattle.history_repository.specs.Stands.{Stands};
 ghost use Rattle.history_queries.specs.Walked.{AllHold, AreRead};
+ghost use Rattle.gix_hash_id.specs.declared.kind.Kind as hash;
 ghost use Rattle.history_model.specs.Answers as model;
 ghost use Rattle.history_model.specs.Repository as plain;
 
@@ -22,46 +23,22 @@ use gix_hash::ObjectId;
 use gix_object::Commit;
 use gix_ref_file::Files;
 use gix_traverse_graph::{ParentIds, Row};
-use history_repository::{Repository, Stopped};
-use history_store::object_place;
+use history_repository::{Repository, Stopped, content};
+use history_store::{object_place, parse_header};
 use history_walks::{Order, Parents, ReadCommits, Request, Told, rows_of};
-use std::alloc::Global;
+use std::alloc::{AllocError, Global};
 
 /// How a commit's text begins, and that of no other object.
 const COMMIT_FRONT: &[u8] = b"commit ";
 
-/// Returns whether a stored object is a commit. Of its file the first 7 bytes are read. It is a
-/// fault if a call of the files failed, or if no memory is left.
-fn is_commit<F: Files>(
-    repository: &Repository<F>,
-    alloc: Global,
-    id: &ObjectId,
-) -> Result<bool, Stopped>
-    ensures { (r : plain.Repository) (value : Value) → Stands F.is_honest F.history repository.now r
-        → get r.objects (id_of id.now) ≡ Some value
-        → GivesMeant F.reading_may_fail (λ is. is ≡ is_some (plain.as_commit value)) result }
-{
-    let place = object_place(alloc, id)?;
-    let mut front = [0; 7];
-    repository.objects.files().read_at(&place, 0, &mut front)?;
-    Ok(front.as_slice() == COMMIT_FRONT)
-}
+/// How many bytes of an object's text are read first: the whole text of most commits is shorter.
+const FRONT_LENGTH: usize = 1024;
 
-/// Returns the ids of all stored commits. The faults are those of `is_commit`.
-fn stored_commits<F: Files>(
-    repository: &Repository<F>,
-    alloc: Global,
-) -> Result<Vec<ObjectId>, Stopped>
-    ensures { (r : plain.Repository) → Stands F.is_honest F.history repository.now r
-        → GivesMeant F.reading_may_fail (λ ids. AreTheCommits r ids.items) result }
-{
-    let mut commits = Vec::new(alloc);
-    'ids: for id in repository.objects.ids() {
-        if is_commit(repository, alloc, &id)? {
-            commits.push(id)?;
-        }
-    }
-    Ok(commits)
+/// The ids of commits, and the contents of those among them that have no rows.
+#[derive(Drop)]
+struct StoredCommits {
+    ids: Vec<ObjectId>,
+    read: ReadCommits,
 }
 
 /// Returns the row that is kept of a commit, if it has one.
@@ -70,6 +47,105 @@ fn row_of<'a, F: Files>(repository: &'a Repository<F>, id: &ObjectId) -> Option<
         × (row.now.id ≡ id.now)) }
 {
     repository.rows()?.commit_by_id(id)
+}
+
+/// Returns the first bytes of a stored object's text. The faults are those of `is_commit`.
+fn read_front<F: Files>(
+    repository: &Repository<F>,
+    alloc: Global,
+    id: &ObjectId,
+) -> Result<Vec<u8>, Stopped>
+    ensures { (r : plain.Repository) (value : Value) → Stands F.is_honest F.history repository.now r
+        → get r.objects (id_of id.now) ≡ Some value
+        → GivesMeant F.reading_may_fail (λ front. front.items ≡ front_of r.kind value) result }
+{
+    let place = object_place(alloc, id)?;
+    let mut front = vec![in alloc; 0; FRONT_LENGTH]?;
+    let files = repository.objects.files();
+    let count = files.read_at(&place, 0, &mut front)?.unwrap_or(0);
+    front.truncate(count);
+    Ok(front)
+}
+
+/// Returns an object's content, if the first bytes of its text are all of it.
+fn whole_content(alloc: Global, front: &[u8]) -> Result<Option<Vec<u8>>, AllocError>
+    ensures { (kind : hash.Kind) (value : Value) → front.now ≡ front_of kind value
+        → IfOk result (λ found. IfSome found (λ content.
+        content.items ≡ content_of kind value)) }
+{
+    if front.len() == FRONT_LENGTH {
+        return Ok(None);
+    }
+    match parse_header(front) {
+        Some((_, start)) => Ok(Some(Vec::from_slice(alloc, &front[start..])?)),
+        None => Ok(None),
+    }
+}
+
+/// Returns the content of a stored commit whose text begins so. It is read only if its text is longer
+/// than that. The faults are those of `is_commit`.
+fn content_after<F: Files>(
+    repository: &Repository<F>,
+    alloc: Global,
+    id: &ObjectId,
+    front: &[u8],
+) -> Result<Vec<u8>, Stopped>
+    ensures { (r : plain.Repository) (commit : CommitValue)
+        → Stands F.is_honest F.history repository.now r
+        → get r.objects (id_of id.now) ≡ Some (StoredCommit commit)
+        → front.now ≡ front_of r.kind (StoredCommit commit) → GivesMeant F.reading_may_fail
+        (λ content. content.items ≡ commit_content r.kind commit) result }
+{
+    match whole_content(alloc, front)? {
+        Some(content) => Ok(content),
+        None => content(repository, alloc, gix_object::Kind::Commit, id),
+    }
+}
+
+/// Returns whether a stored object is a commit. If it has no row, the first bytes of its file are
+/// read; the content of a commit is kept then. It is a fault if a call of the files failed, or if no
+/// memory is left.
+fn is_commit<F: Files>(
+    repository: &Repository<F>,
+    alloc: Global,
+    read: &mut ReadCommits,
+    id: &ObjectId,
+) -> Result<bool, Stopped>
+    ensures { (r : plain.Repository) (value : Value) → Stands F.is_honest F.history repository.now r
+        → get r.objects (id_of id.now) ≡ Some value → AreRead r read.old
+        → GivesMeant F.reading_may_fail (λ is. (is ≡ is_some (plain.as_commit value))
+        × AreRead r read.new) result }
+{
+    if row_of(repository, id).is_some() {
+        return Ok(true);
+    }
+    let front = read_front(repository, alloc, id)?;
+    if !front.starts_with(COMMIT_FRONT) {
+        return Ok(false);
+    }
+    let content = content_after(repository, alloc, id, &front)?;
+    read.insert(*id, content)?;
+    Ok(true)
+}
+
+/// Returns the ids of all stored commits, and the contents of those without rows, each of which is
+/// read once. The faults are those of `is_commit`.
+fn stored_commits<F: Files>(
+    repository: &Repository<F>,
+    alloc: Global,
+) -> Result<StoredCommits, Stopped>
+    ensures { (r : plain.Repository) → Stands F.is_honest F.history repository.now r
+        → GivesMeant F.reading_may_fail
+        (λ stored. AreTheCommits r stored.ids.items × AreRead r stored.read) result }
+{
+    let mut commits = Vec::new(alloc);
+    let mut read = ReadCommits::new(alloc);
+    'ids: for id in repository.objects.ids() {
+        if is_commit(repository, alloc, &mut read, &id)? {
+            commits.push(id)?;
+        }
+    }
+    Ok(StoredCommits { ids: commits, read })
 }
 
 /// Returns what a stored commit says: by its row, if it has one; else by its content, which is read
@@ -124,9 +200,9 @@ fn told<F: Files>(
     Ok(commits)
 }
 
-/// Returns the rows of all stored commits. Of each object the first bytes are read, and the content
-/// of each commit without a row once. It is a fault if a call of the files failed, or if no memory
-/// is left.
+/// Returns the rows of all stored commits. Of each object without a row the first bytes are read, and
+/// of a commit the rest, if there is more. It is a fault if a call of the files failed, or if no
+/// memory is left.
 pub fn all_rows<F: Files>(repository: &Repository<F>, alloc: Global) -> Result<Vec<Row>, Stopped>
     ensures rows { (r : plain.Repository) → Stands F.is_honest F.history repository.now r
         → GivesMeant F.reading_may_fail (λ rows. AreTheRows (model.rows_of r) rows.items)
@@ -134,11 +210,12 @@ pub fn all_rows<F: Files>(repository: &Repository<F>, alloc: Global) -> Result<V
     ensures graph { (r : plain.Repository) → Stands F.is_honest F.history repository.now r
         → IfOk result (λ rows. AreRows rows.items) }
 {
+    let stored = stored_commits(repository, alloc)?;
     let request = Request {
         order: Order::Topological(Parents::All),
-        tips: stored_commits(repository, alloc)?,
+        tips: stored.ids,
         hidden: Vec::new(alloc),
     };
-    let walk = commits(repository, alloc, request, true)?;
+    let walk = commits(repository, alloc, stored.read, request, false)?;
     Ok(rows_of(alloc, told(repository, alloc, &walk.read, &walk.ids)?)?)
 }

@@ -9,7 +9,7 @@ use Rattle.history_model.specs.Objects.{TagValue, Value, StoredBytes, StoredComm
 use Rattle.history_model.specs.Repository.{Repository, HasWholeNames, IsWholeStore, id_at, is_tag, peeled, peeled_value, stands}
 use Rattle.history_layout.proofs.OfferedReads.{tags_stand_for_others}
 use Rattle.history_repository.specs.Held.{IsHeld, held_commit, held_id}
-use Rattle.history_repository.specs.Meant.{peeled_id}
+use Rattle.history_repository.specs.Meant.{HasRoot, peeled_id}
 use Rattle.history_repository.specs.declared.held.Held.{Held}
 use Rattle.history_repository.specs.declared.stored.PeeledCommit.{PeeledCommit}
 use Rattle.history_repository.proofs.WordReads.{stands_so}
@@ -50,10 +50,10 @@ commit_stands r name held is = held_stands r name held is ∙ same_commit held
 
 -- a missing name holds nothing
 pub none_held : (r : Repository) (name : Bytes) → None ≡ id_at r name → IsHeld r name None
-none_held r name none = record { id = none; commit = ap (option_and_then (peeled r)) none }
+none_held r name none = record { id = none; commit = ap (option_and_then (peeled r)) none; rooted = tt }
 
-pub some_held : (r : Repository) (name : Bytes) (id : ObjectId) (commit : PeeledCommit) → Some (id_of id) ≡ id_at r name → Some (peeled_id commit) ≡ peeled r (id_of id) → IsHeld r name (Some (record { id = id; commit = commit }))
-some_held r name id commit at is = record { id = at; commit = is ∙ ap (option_and_then (peeled r)) at }
+pub some_held : (r : Repository) (name : Bytes) (id : ObjectId) (commit : PeeledCommit) → Some (id_of id) ≡ id_at r name → Some (peeled_id commit) ≡ peeled r (id_of id) → HasRoot r commit → IsHeld r name (Some (record { id = id; commit = commit }))
+some_held r name id commit at is rooted = record { id = at; commit = is ∙ ap (option_and_then (peeled r)) at; rooted = rooted }
 
 -- ---- tags
 

@@ -4,6 +4,7 @@ pub mod FieldLemmas
 pub mod HeldLemmas
 pub mod Items
 pub mod Joined
+pub mod KnownLemmas
 pub mod NameLines
 pub mod NameReads
 pub mod Named

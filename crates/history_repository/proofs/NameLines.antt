@@ -215,10 +215,6 @@ one_peeled r [] d i within all = absurd (omega arith)
 one_peeled r (named ∷ names) d zero within all = all.0
 one_peeled r (named ∷ names) d (suc i) within all = one_peeled r names d i (omega arith) all.1
 
-pub peeled_split : (r : Repository) (names : List NamedId) (named : NamedId) → ArePeeled r (names ++ named ∷ []) → ArePeeled r names × IsSome (peeled r (id_of named.id))
-peeled_split r [] named all = (tt, all.0)
-peeled_split r (first ∷ names) named all = let rest = peeled_split r names named all.1 in ((all.0, rest.0), rest.1)
-
 -- the line of one name more
 pub one_shown : (r : Repository) (so_far : List Shown) (names : List NamedId) (named : NamedId) (one : Shown) → map shown_name so_far ≡ map (told_name r) names → one.name.items ≡ named.name.items → one.held.id ≡ named.id
     → Some (held_commit one.held) ≡ peeled r (id_of named.id) → map shown_name (so_far ++ one ∷ []) ≡ map (told_name r) (names ++ named ∷ [])

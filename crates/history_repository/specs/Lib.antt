@@ -4,6 +4,7 @@ pub mod Faults
 pub mod Fields
 pub mod Held
 pub mod KeptRows
+pub mod Known
 pub mod Meanings
 pub mod Meant
 pub mod NameForms

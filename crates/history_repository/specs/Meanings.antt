@@ -73,6 +73,12 @@ commit_in Ambiguous = None
 abbrev pub HasRootIn : Repository → WordMeaning → Type 0
 HasRootIn r meaning = MatchOption (peeled_in meaning) ⊤ (HasRoot r)
 
+-- a word of this meaning was read so, with its commit's root, if that is known
+pub record IsReadAs (r : Repository) (what : model.WordMeaning) (meaning : WordMeaning)
+    : Type 0 where
+  pub means : meaning_of meaning ≡ stands_for r what
+  pub rooted : HasRootIn r meaning
+
 -- whether a word means no commit for this cause
 abbrev pub is_unknown_word : Result Id Cause → Bool
 is_unknown_word (Err UnknownWord) = true

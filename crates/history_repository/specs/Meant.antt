@@ -1,5 +1,5 @@
 -- What was read of an object, and of the commit that it peels to.
-use Rattle.std.specs.Prelude.{◌≡◌, ⊤, Option, Some, None, MatchOption}
+use Rattle.std.specs.Prelude.{◌≡◌, ⊤, Option, Some, None, MatchOption, option_map}
 use Rattle.std.specs.FinMap.{get}
 use Rattle.gix_hash_id.specs.Id.{Id, id_of}
 use Rattle.gix_hash_id.specs.declared.kind.Kind.{Kind}
@@ -44,3 +44,12 @@ HasRoot r commit = MatchOption commit.root ⊤ (IsRootOf r (id_of commit.id))
 
 abbrev pub peeled_id : PeeledCommit → Id
 peeled_id commit = id_of commit.id
+
+-- the object of an id peels to this commit, with its root, if that is known; or to none
+pub record IsPeeledBy (r : Repository) (id : Id) (commit : Option PeeledCommit) : Type 0 where
+  pub peels : option_map peeled_id commit ≡ peeled r id
+  pub rooted : MatchOption commit ⊤ (HasRoot r)
+
+-- this is the commit of an id, with its root, if that is known
+abbrev pub IsRooted : Repository → Id → PeeledCommit → Type 0
+IsRooted r id commit = (peeled_id commit ≡ id) × HasRoot r commit

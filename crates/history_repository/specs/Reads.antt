@@ -7,8 +7,10 @@ use Rattle.history_model.specs.Replies.{reply_text}
 use Rattle.history_model.specs.Causes.{first_cause}
 use Rattle.history_model.specs.Answers.{Answers}
 use Rattle.history_model.specs.declared.Fault.TheVariants.{Memory, File, IdTaken}
+use Rattle.history_repository.specs.Known.{AreMeant}
 use Rattle.history_repository.specs.Meanings.{commit_or_cause}
 use Rattle.history_repository.specs.Meant.{HasContent}
+use Rattle.history_repository.specs.declared.read_objects.ReadObjects.{ReadObjects}
 use Rattle.history_repository.specs.declared.stored.MeantCommit.{MeantCommit}
 use Rattle.history_repository.specs.declared.stopped.Stopped.{Stopped}
 use Rattle.history_repository.specs.declared.stopped.Stopped.TheVariants.{Refused, Fault}
@@ -31,6 +33,13 @@ IsReadingFault MayFail (Fault IdTaken) = ⊥
 abbrev pub GivesMeant : {T : Type 0} → Type 0 → (T → Type 0) → Result T Stopped → Type 0
 GivesMeant MayFail IsMeant (Ok value) = IsMeant value
 GivesMeant MayFail IsMeant (Err stopped) = IsReadingFault MayFail stopped
+
+-- if what was read before is so, what is meant, and all that was read since is so too; or a fault
+-- of reading
+abbrev pub ReadsMore : {T : Type 0} → Type 0 → plain.Repository → ReadObjects → ReadObjects
+    → (T → Type 0) → Result T Stopped → Type 0
+ReadsMore MayFail r before now IsMeant result =
+    AreMeant r before → GivesMeant MayFail (λ value. IsMeant value × AreMeant r now) result
 
 -- ---- words
 

@@ -1,15 +1,14 @@
 //! What a name holds.
 
-ghost use Rattle.std.specs.Prelude.{◌≡◌, ⊤, not, option_map, unwrap_or, IfOk, IsTrue, MatchOption};
+ghost use Rattle.std.specs.Prelude.{◌≡◌, not, option_map, unwrap_or};
 ghost use Rattle.gix_hash_id.specs.Id.{id_of, null_id};
 ghost use Rattle.gix_hash_id.specs.Order.{id_eq};
-ghost use Rattle.history_model.specs.Forms.{is_name};
-ghost use Rattle.history_repository.specs.Meant.{HasRoot};
-ghost use Rattle.history_repository.specs.Reads.{GivesMeant};
+ghost use Rattle.history_repository.specs.Reads.{ReadsMore};
 ghost use Rattle.history_repository.specs.Held.{IsHeld, held_commit, held_id, held_peeled, tagged_commit};
 ghost use Rattle.history_repository.specs.Stands.{Stands};
 ghost use Rattle.history_model.specs.Repository as plain;
 
+use crate::read_objects::ReadObjects;
 use crate::repository::Repository;
 use crate::stopped::Stopped;
 use crate::stored::{PeeledCommit, peeled};
@@ -76,24 +75,21 @@ pub fn id_before(held: Option<Held>, kind: Kind) -> ObjectId
     }
 }
 
-/// Returns what a name holds; `None` if the name doesn't exist. It is a fault if a call of the
-/// files failed, or if no memory is left.
+/// Returns what a name holds; `None` if the name doesn't exist. The object is read only if it wasn't
+/// read before. It is a fault if a call of the files failed, or if no memory is left.
 pub fn read_held<F: Files>(
     repository: &Repository<F>,
     alloc: Global,
+    read: &mut ReadObjects,
     name: &[u8],
 ) -> Result<Option<Held>, Stopped>
-    ensures held { (r : plain.Repository) → Stands F.is_honest F.history repository.now r
-        → IsTrue (is_name name.now)
-        → GivesMeant F.reading_may_fail (IsHeld r name.now) result }
-    ensures rooted { (r : plain.Repository) → Stands F.is_honest F.history repository.now r
-        → IsTrue (is_name name.now)
-        → IfOk result (λ held. MatchOption held ⊤ (λ held. HasRoot r held.commit)) }
+    ensures { (r : plain.Repository) → Stands F.is_honest F.history repository.now r
+        → ReadsMore F.reading_may_fail r read.old read.new (IsHeld r name.now) result }
 {
     let Some(id) = repository.names.find(alloc, name)? else {
         return Ok(None);
     };
     // In a whole repository each name peels to a commit.
-    let commit = peeled(repository, alloc, id)?.ok_or(Fault::File)?;
+    let commit = peeled(repository, alloc, read, id)?.ok_or(Fault::File)?;
     Ok(Some(Held { id, commit }))
 }

@@ -7,6 +7,7 @@ ghost use Rattle.history_repository.specs.Reads.{GivesMeant};
 ghost use Rattle.history_model.specs.Repository as plain;
 
 use crate::held::Held;
+use crate::read_objects::ReadObjects;
 use crate::repository::Repository;
 use crate::stopped::Stopped;
 use crate::stored::peeled;
@@ -25,8 +26,8 @@ pub struct Shown {
     pub held: Held,
 }
 
-/// Returns the names with what they hold. It is a fault if a call of the files failed, or if no
-/// memory is left.
+/// Returns the names with what they hold. An object that several names hold is read once. It is a
+/// fault if a call of the files failed, or if no memory is left.
 pub fn read_shown<F: Files>(
     repository: &Repository<F>,
     alloc: Global,
@@ -36,10 +37,11 @@ pub fn read_shown<F: Files>(
         → ArePeeled r names.items → GivesMeant F.reading_may_fail
         (λ shown. map shown_name shown.items ≡ map (told_name r) names.items) result }
 {
+    let mut read = ReadObjects::new(alloc);
     let mut shown = Vec::new(alloc);
     for named in names {
         let id = named.id;
-        let commit = peeled(repository, alloc, id)?.ok_or(Fault::File)?;
+        let commit = peeled(repository, alloc, &mut read, id)?.ok_or(Fault::File)?;
         let held = Held { id, commit };
         shown.push(Shown {
             name: named.name,

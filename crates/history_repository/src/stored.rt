@@ -1,19 +1,20 @@
 //! The objects that a repository reads.
 
-ghost use Rattle.std.specs.Prelude.{◌≡◌, ⊤, IfOk, MatchOption, Some, map, option_map};
+ghost use Rattle.std.specs.Prelude.{◌≡◌, ⊤, MatchOption, Some, map, option_map};
 ghost use Rattle.std.specs.FinMap.{get};
 ghost use Rattle.history_model.specs.FileMap.{FileMap};
 ghost use Rattle.history_model.specs.Objects.{CommitValue, StoredCommit, StoredFolder, StoredTag, TagValue, Value, commit_content, content_of, entry_at, folder_id, object_kind, tag_content};
 ghost use Rattle.history_files.specs.Reading.{entry_of};
 ghost use Rattle.gix_hash_id.specs.Id.{Id, id_of};
 ghost use Rattle.history_repository.specs.Stands.{Stands};
-ghost use Rattle.history_repository.specs.Reads.{GivesMeant};
+ghost use Rattle.history_repository.specs.Reads.{GivesMeant, ReadsMore};
 ghost use Rattle.std.specs.List.{AllByRecursion};
 ghost use Rattle.history_model.specs.Repository.{HoldsCommit};
-ghost use Rattle.history_repository.specs.Meant.{HasContent, HasRoot, IsMeantBy, IsObject, IsRootOf, peeled_id};
+ghost use Rattle.history_repository.specs.Meant.{HasContent, HasRoot, IsMeantBy, IsObject, IsPeeledBy, IsRootOf, IsRooted, peeled_id};
 ghost use Rattle.history_repository.specs.TreesBefore.{IsTreeBefore};
 ghost use Rattle.history_model.specs.Repository as plain;
 
+use crate::read_objects::ReadObjects;
 use crate::repository::Repository;
 use crate::stopped::Stopped;
 use gix_hash::ObjectId;
@@ -109,25 +110,45 @@ pub struct PeeledCommit {
     pub root: Option<ObjectId>,
 }
 
-/// Returns the commit that a stored object peels to, as `read_meant` does.
+/// Returns the commit that a stored object peels to, as `read_meant` does. The object is read only if
+/// it wasn't read before.
 pub(crate) fn peeled<F: Files>(
     repository: &Repository<F>,
     alloc: Global,
+    read: &mut ReadObjects,
     id: ObjectId,
 ) -> Result<Option<PeeledCommit>, Stopped>
-    ensures peels { (r : plain.Repository) (value : Value)
-        → Stands F.is_honest F.history repository.now r → get r.objects (id_of id) ≡ Some value
-        → GivesMeant F.reading_may_fail
-        (λ commit. option_map peeled_id commit ≡ plain.peeled r (id_of id)) result }
-    ensures rooted { (r : plain.Repository) (value : Value)
-        → Stands F.is_honest F.history repository.now r → get r.objects (id_of id) ≡ Some value
-        → IfOk result (λ commit. MatchOption commit ⊤ (HasRoot r)) }
+    ensures { (r : plain.Repository) (value : Value) → Stands F.is_honest F.history repository.now r
+        → get r.objects (id_of id) ≡ Some value
+        → ReadsMore F.reading_may_fail r read.old read.new (IsPeeledBy r (id_of id)) result }
+{
+    if let Some(commit) = read.known(&id) {
+        return Ok(commit);
+    }
+    let commit = peeled_anew(repository, alloc, read, id)?;
+    read.know(id, commit)?;
+    Ok(commit)
+}
+
+/// Returns the same of an object that is read. Its content is kept, if it is a commit's and contents
+/// are to be kept.
+fn peeled_anew<F: Files>(
+    repository: &Repository<F>,
+    alloc: Global,
+    read: &mut ReadObjects,
+    id: ObjectId,
+) -> Result<Option<PeeledCommit>, Stopped>
+    ensures { (r : plain.Repository) (value : Value) → Stands F.is_honest F.history repository.now r
+        → get r.objects (id_of id) ≡ Some value
+        → ReadsMore F.reading_may_fail r read.old read.new (IsPeeledBy r (id_of id)) result }
 {
     let Some(meant) = read_meant(repository, alloc, id)? else {
         return Ok(None);
     };
     let root = root_read(repository, &meant)?;
-    Ok(Some(PeeledCommit { id: meant.id, root }))
+    let commit = PeeledCommit { id: meant.id, root };
+    read.keep(meant)?;
+    Ok(Some(commit))
 }
 
 /// Returns the root of a commit that is meant, if its content was read.
@@ -213,20 +234,43 @@ pub fn root_peeled<F: Files>(
     }
 }
 
-/// Returns the tree of the first of these parents; `None` without parents. The faults are those of
-/// `content`.
+/// Returns a commit that was peeled, with its root. The commit is read only if it wasn't read before.
+/// The faults are those of `content`.
+pub fn rooted<F: Files>(
+    repository: &Repository<F>,
+    alloc: Global,
+    read: &mut ReadObjects,
+    commit: PeeledCommit,
+) -> Result<PeeledCommit, Stopped>
+    ensures { (r : plain.Repository) → Stands F.is_honest F.history repository.now r
+        → HoldsCommit r (peeled_id commit) → HasRoot r commit
+        → ReadsMore F.reading_may_fail r read.old read.new (IsRooted r (peeled_id commit)) result }
+{
+    if commit.root.is_some() {
+        return Ok(commit);
+    }
+    Ok(peeled(repository, alloc, read, commit.id)?.ok_or(Fault::File)?)
+}
+
+/// Returns the tree of the first of these parents; `None` without parents. The parent is read only
+/// if it wasn't read before. The faults are those of `content`.
 pub fn tree_before<F: Files>(
     repository: &Repository<F>,
     alloc: Global,
+    read: &mut ReadObjects,
     parents: &[PeeledCommit],
 ) -> Result<Option<ObjectId>, Stopped>
     ensures { (r : plain.Repository) → Stands F.is_honest F.history repository.now r
         → AllByRecursion (HoldsCommit r) (map peeled_id parents.now)
         → AllByRecursion (HasRoot r) parents.now
-        → GivesMeant F.reading_may_fail (IsTreeBefore r (map peeled_id parents.now)) result }
+        → ReadsMore F.reading_may_fail r read.old read.new
+        (IsTreeBefore r (map peeled_id parents.now)) result }
 {
     match parents.first() {
-        Some(commit) => Ok(Some(root_peeled(repository, alloc, commit)?)),
+        Some(commit) => {
+            let commit = rooted(repository, alloc, read, *commit)?;
+            Ok(Some(root_peeled(repository, alloc, &commit)?))
+        }
         None => Ok(None),
     }
 }

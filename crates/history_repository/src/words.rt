@@ -5,15 +5,16 @@ ghost use Rattle.std.specs.List.{list_any};
 ghost use Rattle.history_model.specs.Bytes.{begins};
 ghost use Rattle.history_model.specs.Forms.{is_private, refs_front};
 ghost use Rattle.history_model.specs.Words.{is_short_id, ReadsAs, id_meaning, word_meaning};
-ghost use Rattle.history_repository.specs.Meanings.{reads_as, words_cause, commit_in, peeled_in, HasRootIn, is_ambiguous_word, is_not_a_commit, is_unborn_head, is_unknown_word, meaning_of, SpellsPrefix, commit_or_cause, stands_for, IsFirstStanding, IsLookedUp};
+ghost use Rattle.history_repository.specs.Meanings.{reads_as, words_cause, commit_in, peeled_in, is_ambiguous_word, is_not_a_commit, is_unborn_head, is_unknown_word, meaning_of, SpellsPrefix, IsFirstStanding, IsLookedUp, IsReadAs};
 ghost use Rattle.gix_hash_id.specs.Id.{id_of};
 ghost use Rattle.history_repository.specs.Stands.{Stands};
-ghost use Rattle.history_repository.specs.Reads.{GivesMeant, ReadsMeant};
+ghost use Rattle.history_repository.specs.Reads.{GivesMeant, ReadsMeant, ReadsMore};
 ghost use Rattle.history_model.specs.Objects.{Value};
 ghost use Rattle.std.specs.FinMap.{get};
 ghost use Rattle.history_model.specs.Repository as plain;
 
 use crate::naming::is_private;
+use crate::read_objects::ReadObjects;
 use crate::repository::Repository;
 use crate::stopped::Stopped;
 use crate::stored::{MeantCommit, PeeledCommit, peeled, read_meant};
@@ -300,20 +301,20 @@ fn look_up_id<F: Files>(repository: &Repository<F>, word: &[u8]) -> LookedUp
     }
 }
 
-/// Returns what a word means, once its object is read. The faults are those of `first_standing`.
+/// Returns what a word means. Its object is read only if it wasn't read before. The faults are those
+/// of `first_standing`.
 pub fn read_word<F: Files>(
     repository: &Repository<F>,
     alloc: Global,
+    read: &mut ReadObjects,
     word: &[u8],
 ) -> Result<WordMeaning, Stopped>
-    ensures means { (r : plain.Repository) → Stands F.is_honest F.history repository.now r
-        → GivesMeant F.reading_may_fail (λ meaning.
-        meaning_of meaning ≡ commit_or_cause r word.now) result }
-    ensures rooted { (r : plain.Repository) → Stands F.is_honest F.history repository.now r
-        → IfOk result (HasRootIn r) }
+    ensures { (r : plain.Repository) → Stands F.is_honest F.history repository.now r
+        → ReadsMore F.reading_may_fail r read.old read.new
+        (IsReadAs r (word_meaning r word.now)) result }
 {
     match look_up(repository, alloc, word)? {
-        LookedUp::Object(id) => read_stored(repository, alloc, id),
+        LookedUp::Object(id) => read_stored(repository, alloc, read, id),
         LookedUp::Unborn => Ok(WordMeaning::Unborn),
         LookedUp::Unknown => Ok(WordMeaning::Unknown),
         LookedUp::Ambiguous => Ok(WordMeaning::Ambiguous),
@@ -325,17 +326,15 @@ pub fn read_word<F: Files>(
 fn read_stored<F: Files>(
     repository: &Repository<F>,
     alloc: Global,
+    read: &mut ReadObjects,
     id: ObjectId,
 ) -> Result<WordMeaning, Stopped>
-    ensures means { (r : plain.Repository) (value : Value)
-        → Stands F.is_honest F.history repository.now r → get r.objects (id_of id) ≡ Some value
-        → GivesMeant F.reading_may_fail (λ meaning.
-        meaning_of meaning ≡ stands_for r (ReadsAs (id_of id))) result }
-    ensures rooted { (r : plain.Repository) (value : Value)
-        → Stands F.is_honest F.history repository.now r → get r.objects (id_of id) ≡ Some value
-        → IfOk result (HasRootIn r) }
+    ensures { (r : plain.Repository) (value : Value) → Stands F.is_honest F.history repository.now r
+        → get r.objects (id_of id) ≡ Some value
+        → ReadsMore F.reading_may_fail r read.old read.new
+        (IsReadAs r (ReadsAs (id_of id))) result }
 {
-    Ok(match peeled(repository, alloc, id)? {
+    Ok(match peeled(repository, alloc, read, id)? {
         Some(commit) => WordMeaning::Commit(commit),
         None => WordMeaning::NoCommit,
     })

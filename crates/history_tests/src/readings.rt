@@ -1,11 +1,11 @@
-//! How many objects a command reads, a commit and each tree of a path once, and how many an opening.
+//! How many objects a command and an opening read: each once, however much leads to it.
 
 use crate::common::{KINDS, first_command, parts_after};
-use gix_ref_file::Files;
+use gix_ref_file::{Files, MemoryFiles};
 use gix_ref_fuse::Fuse;
 use history::{Command, Kind};
-use history_plans::plan_commit;
-use history_queries::{list_files, show};
+use history_plans::{names_to_pack, plan_commit, plan_moves, plan_tag, test_delete};
+use history_queries::{all_rows, list_files, list_names, log, show};
 use history_repository::Repository;
 use std::alloc::Global;
 use std::process::Abort;
@@ -42,36 +42,140 @@ const SHOWN_COMMIT: (&[u8], u64) = (b"show main\n", 1);
 const LISTED: (&[u8], u64) = (b"files main\n", 4);
 
 /// Three more names on the first branch's commit, one of which holds a tag of it. All are packed.
-const PACKED: &[u8] =
+const PACKED_NAMES: &[u8] =
     b"tag refs/tags/v1 new main\ntagger 1 3 3 +0000\nA\na@b\nmessage 3\ntag\nend\nmove\nto refs/heads/a new main\nto refs/heads/b new main\nactor 1 3 4 +0000\nA\na@b\nmessage 4\nmore\nend\npack\n";
 
 /// The same, each in a file of its own.
-const LOOSE: &[u8] =
+const LOOSE_NAMES: &[u8] =
     b"tag refs/tags/v2 new main\ntagger 1 3 5 +0000\nA\na@b\nmessage 5\nother\nend\nmove\nto refs/heads/c new main\nto refs/heads/d new main\nactor 1 3 6 +0000\nA\na@b\nmessage 4\nmore\nend\n";
 
-/// Plans a commit or answers a query, and returns whether that succeeds.
+/// A second commit on `main`, a tag of it, and a name that holds the tag's commit.
+const LATER: &[u8] =
+    b"commit refs/heads/main any\nput file 5 3\na/b/c\nbye\nauthor 1 3 3 +0000\nA\na@b\ncommitter 1 3 3 +0000\nA\na@b\nmessage 5\nthree\nend\ntag refs/tags/v1 new main\ntagger 1 3 4 +0000\nA\na@b\nmessage 3\ntag\nend\nmove\nto refs/heads/same new main\nactor 1 3 5 +0000\nA\na@b\nmessage 4\nsame\nend\n";
+
+/// The commit, the root, and the folders `a` and `a/b`.
+const AT_ITS_TIP: (&[u8], u64) = (
+    b"commit refs/heads/main at main\nput file 5 3\na/b/c\nhey\nauthor 1 3 6 +0000\nA\na@b\ncommitter 1 3 6 +0000\nA\na@b\nmessage 4\nfour\nend\n",
+    4,
+);
+
+/// The same, and the tag.
+const AT_ITS_TAG: (&[u8], u64) = (
+    b"commit refs/heads/main at v1\nput file 5 3\na/b/c\nhey\nauthor 1 3 6 +0000\nA\na@b\ncommitter 1 3 6 +0000\nA\na@b\nmessage 4\nfour\nend\n",
+    5,
+);
+
+/// The tag, its commit, the root, and the folders `a` and `a/b`: first to measure the paths of the
+/// first graft, whose files the second commit has none of.
+const GRAFTED_BY_TAG: (&[u8], u64) = (
+    b"commit refs/heads/new new\nparent other\ngraft 1 v1 0\nz\n\nauthor 1 3 6 +0000\nA\na@b\ncommitter 1 3 6 +0000\nA\na@b\nmessage 4\nfour\nend\n",
+    7,
+);
+
+/// Both commits, and the root that both edit.
+const MERGED: (&[u8], u64) = (
+    b"commit refs/heads/main at same\nparent other\nremove 1\nx\nauthor 1 3 6 +0000\nA\na@b\ncommitter 1 3 6 +0000\nA\na@b\nmessage 4\nfour\nend\n",
+    3,
+);
+
+/// The commit.
+const TAGGED: (&[u8], u64) = (
+    b"tag refs/tags/v2 new main\ntagger 1 3 6 +0000\nA\na@b\nmessage 3\ntag\nend\n",
+    1,
+);
+
+/// The commit, and the tag that the name holds.
+const TAGGED_AGAIN: (&[u8], u64) = (
+    b"tag refs/tags/v1 at main main\ntagger 1 3 6 +0000\nA\na@b\nmessage 3\nnew\nend\n",
+    2,
+);
+
+/// Both commits, and the tag.
+const MOVED: (&[u8], u64) = (
+    b"move\nto refs/heads/main at v1 other\nto refs/heads/other at other main\nto refs/heads/same any other\nactor 1 3 6 +0000\nA\na@b\nmessage 4\nmove\nend\n",
+    3,
+);
+
+/// The commit.
+const DELETED: (&[u8], u64) = (b"delete refs/heads/main at same\n", 1);
+
+/// The tag, and its commit.
+const TAG_DELETED: (&[u8], u64) = (b"delete refs/tags/v1 at main\n", 2);
+
+/// The three commits that names hold, and the tag.
+const NAMED: (&[u8], u64) = (b"names\n", 3);
+
+/// The same.
+const PACKED: (&[u8], u64) = (b"pack\n", 3);
+
+/// Both commits of `main`.
+const LOGGED: (&[u8], u64) = (b"log breadth all +main\n", 2);
+
+/// The same.
+const LOGGED_TOPOLOGICAL: (&[u8], u64) = (b"log topological all +main +same +main\n", 2);
+
+/// The same, and the tag.
+const LOGGED_BY_TAG: (&[u8], u64) = (b"log date all +v1 +main +v1\n", 3);
+
+/// All three commits.
+const LOGGED_BY_TIME: (&[u8], u64) = (b"log newest all +main -other\n", 3);
+
+/// Both commits of `main`, and of each the root and the folders `a` and `a/b`.
+const LOGGED_AT_PATH: (&[u8], u64) = (b"log topological all +main path 5\na/b/c\n", 8);
+
+/// The same.
+const LOGGED_BY_FIRST: (&[u8], u64) = (b"log breadth first +main path 5\na/b/c\n", 8);
+
+/// The same, and the tag.
+const LOGGED_BY_FIRST_DATE: (&[u8], u64) = (b"log date first +v1 path 5\na/b/c\n", 9);
+
+/// All: three commits, the tag, three roots, the folders `a`, `a/b` (two of each) and `d`, and
+/// three contents.
+const INDEXED: (&[u8], u64) = (b"index\n", 15);
+
+/// Whether a command succeeds, planned or answered.
 fn is_done<F: Files>(repository: &Repository<F>, alloc: Global, command: Command) -> bool {
     match command {
         Command::Commit(command) => plan_commit(repository, alloc, command).is_ok(),
+        Command::Tag(command) => plan_tag(repository, alloc, command).is_ok(),
+        Command::Move(command) => plan_moves(repository, alloc, command).is_ok(),
+        Command::Delete(command) => test_delete(repository, alloc, &command).is_ok(),
+        Command::Pack => names_to_pack(repository, alloc).is_ok(),
         Command::Show(command) => show(repository, alloc, &command).is_ok(),
         Command::Files(word) => list_files(repository, alloc, &word).is_ok(),
+        Command::Names(folder) => list_names(repository, alloc, folder.as_deref()).is_ok(),
+        Command::Log(command) => log(repository, alloc, &command).is_ok(),
+        Command::Index => all_rows(repository, alloc).is_ok(),
         _ => false,
     }
 }
 
 /// Returns the number of objects that a command reads, once it is planned or answered.
-fn readings(rt: &impl Abort, alloc: Global, kind: Kind, input: &[u8]) -> u64 {
-    let (objects, names) = parts_after(rt, alloc, kind, &[BEFORE]);
+fn readings(
+    rt: &impl Abort,
+    repository: &Repository<Fuse<MemoryFiles>>,
+    alloc: Global,
+    input: &[u8],
+) -> u64 {
+    let command = first_command(rt, alloc, input);
+    let before = repository.objects.files().calls();
+    let done = is_done(repository, alloc, command);
+    assert!(rt; done);
+    repository.objects.files().calls().saturating_sub(before)
+}
+
+/// Returns the repository after these inputs, whose calls are counted.
+fn counted(
+    rt: &impl Abort,
+    alloc: Global,
+    kind: Kind,
+    inputs: &[&[u8]],
+) -> Repository<Fuse<MemoryFiles>> {
+    let (objects, names) = parts_after(rt, alloc, kind, inputs);
     let objects = Fuse::failing_at(objects, 0, None);
     let names = Fuse::failing_at(names, 0, None);
-    let command = first_command(rt, alloc, input);
     match Repository::open(alloc, objects, names, kind) {
-        Ok(repository) => {
-            let before = repository.objects.files().calls();
-            let done = is_done(&repository, alloc, command);
-            assert!(rt; done);
-            repository.objects.files().calls().saturating_sub(before)
-        }
+        Ok(repository) => repository,
         Err(_) => panic!(rt; "not opened"),
     }
 }
@@ -80,8 +184,54 @@ fn readings(rt: &impl Abort, alloc: Global, kind: Kind, input: &[u8]) -> u64 {
 fn a_command_reads_each_object_once(rt: HostRuntime) {
     let alloc = rt.alloc();
     for kind in KINDS {
+        let repository = counted(&rt, alloc, kind, &[BEFORE]);
         for (input, wanted) in [CHANGED, BRANCHED, GRAFTED, SHOWN, SHOWN_COMMIT, LISTED] {
-            let met = readings(&rt, alloc, kind, input);
+            let met = readings(&rt, &repository, alloc, input);
+            assert!(rt; met == wanted, "{met} for {wanted}");
+        }
+    }
+}
+
+#[test]
+fn words_of_one_object_read_it_once(rt: HostRuntime) {
+    let alloc = rt.alloc();
+    for kind in KINDS {
+        let repository = counted(&rt, alloc, kind, &[BEFORE, LATER]);
+        for (input, wanted) in [
+            AT_ITS_TIP,
+            AT_ITS_TAG,
+            GRAFTED_BY_TAG,
+            MERGED,
+            TAGGED,
+            TAGGED_AGAIN,
+            MOVED,
+            DELETED,
+            TAG_DELETED,
+            NAMED,
+            PACKED,
+        ] {
+            let met = readings(&rt, &repository, alloc, input);
+            assert!(rt; met == wanted, "{met} for {wanted}");
+        }
+    }
+}
+
+#[test]
+fn a_log_reads_each_object_once(rt: HostRuntime) {
+    let alloc = rt.alloc();
+    for kind in KINDS {
+        let repository = counted(&rt, alloc, kind, &[BEFORE, LATER]);
+        for (input, wanted) in [
+            LOGGED,
+            LOGGED_TOPOLOGICAL,
+            LOGGED_BY_TAG,
+            LOGGED_BY_TIME,
+            LOGGED_AT_PATH,
+            LOGGED_BY_FIRST,
+            LOGGED_BY_FIRST_DATE,
+            INDEXED,
+        ] {
+            let met = readings(&rt, &repository, alloc, input);
             assert!(rt; met == wanted, "{met} for {wanted}");
         }
     }
@@ -100,7 +250,7 @@ fn calls_of_a_pass(objects: usize, folders: usize) -> u64 {
 fn opening_reads_each_object_once(rt: HostRuntime) {
     let alloc = rt.alloc();
     for kind in KINDS {
-        let (objects, names) = parts_after(&rt, alloc, kind, &[BEFORE, PACKED, LOOSE]);
+        let (objects, names) = parts_after(&rt, alloc, kind, &[BEFORE, PACKED_NAMES, LOOSE_NAMES]);
         let Ok(folders) = objects.list(alloc, b"objects") else {
             panic!(rt; "not listed")
         };

@@ -14,15 +14,16 @@ use Rattle.gix_hash_id.specs.declared.object_id.ObjectId.{ObjectId}
 use Rattle.gix_object_lookup.specs.Existing.{Stands}
 use Rattle.gix_object_lookup.specs.Table.{Table}
 use Rattle.gix_object_lines.specs.declared.kind.Kind.TheVariants as kinds
-use Rattle.gix_traverse_graph.specs.Commits.{Commits, Listed, Reached, tip, parent}
+use Rattle.gix_traverse_graph.specs.Commits.{Commits, Listed, Reached, asked_parents, tip, parent}
 use Rattle.gix_traverse_commit_known.specs.Painting.{ReachedFrom}
 use Rattle.gix_traverse_graph.specs.Rows.{Holds}
 use Rattle.gix_traverse_commit_known.specs.Asked.{Answers, request_in}
-use Rattle.gix_traverse_graph.specs.declared.parents.Parents.TheVariants.{All}
+use Rattle.gix_traverse_graph.specs.declared.parents.Parents.{Parents}
+use Rattle.gix_traverse_graph.specs.declared.parents.Parents.TheVariants.{All, First}
 use Rattle.gix_traverse_graph.specs.declared.rows.Row.{Row}
 use Rattle.gix_traverse_graph.specs.declared.sorting.Sorting.TheVariants.{BreadthFirst}
 use Rattle.gix_traverse_graph.proofs.Lists.{at_from_contains, none_at_nil}
-use Rattle.history_walks.specs.Faults.{IsMet, WalkFault}
+use Rattle.history_walks.specs.Faults.{IsMet, IsMetAlong, WalkFault}
 use Rattle.history_walks.specs.ReadCommits.{AreKept, AreOf, Contents, commit_object, ids_of, table_of}
 use Rattle.history_walks.specs.Simply.{asked}
 use Rattle.history_walks.specs.declared.error.WalkError.{WalkError}
@@ -123,16 +124,29 @@ module _ (g : Commits ObjectId) (tips hidden : List ObjectId) where
   fault_of_met may_fail rows table Broken (x, met, unheld, unread) = (x, met_of_both met, unheld, unread)
   fault_of_met may_fail rows table Memory f = tt
 
-  comes : (x : ObjectId) → IsMet g tips hidden x → Listed g (request_in None (asked (tips ++ hidden) [] All BreadthFirst)) x
-  comes x (inl r) = ((reached_as (λ y. (g y).parents) (λ _. ⊤) _ tips (tips ++ hidden) (λ y c. Contains-append_left tips hidden y c) (λ y _ _. (refl, tt)) r).0, λ h. none_reached g h)
-  comes x (inr r) = ((reached_as (λ y. (g y).parents) (λ _. ⊤) _ hidden (tips ++ hidden) (λ y c. Contains-append_right tips hidden y c) (λ y _ _. (refl, tt)) r).0, λ h. none_reached g h)
+  module _ (parents : Parents) where
+    comes : (x : ObjectId) → IsMetAlong parents g tips hidden x → Listed g (request_in None (asked (tips ++ hidden) [] parents BreadthFirst)) x
+    comes x (inl r) = ((reached_as (asked_parents parents g) (λ _. ⊤) _ tips (tips ++ hidden) (λ y c. Contains-append_left tips hidden y c) (λ y _ _. (refl, tt)) r).0, λ h. none_reached g h)
+    comes x (inr r) = ((reached_as (asked_parents parents g) (λ _. ⊤) _ hidden (tips ++ hidden) (λ y c. Contains-append_right tips hidden y c) (λ y _ _. (refl, tt)) r).0, λ h. none_reached g h)
 
-  pub met_kept : (rows : List Row) (table kept : Table) → (ids : List ObjectId) × Answers g (asked (tips ++ hidden) [] All BreadthFirst) ids × AreKept rows table kept (Contains ids) → AreKept rows table kept (IsMet g tips hidden)
-  met_kept rows table kept (ids, answers, all) = record {
-    stand = all.stand;
-    each = λ x met unheld. all.each x ((answers.list.each x).1 (comes x met)) unheld;
-  }
+    listed_by : (ids : List ObjectId) → Answers g (asked (tips ++ hidden) [] parents BreadthFirst) ids → (x : ObjectId) → Listed g (request_in None (asked (tips ++ hidden) [] parents BreadthFirst)) x → Contains ids x
+    listed_by ids answers x l = by_parents parents answers l
+      where
+        by_parents : (parents : Parents) → Answers g (asked (tips ++ hidden) [] parents BreadthFirst) ids → Listed g (request_in None (asked (tips ++ hidden) [] parents BreadthFirst)) x → Contains ids x
+        by_parents All answers l = (answers.list.each x).1 l
+        by_parents First answers l = (answers.list.each x).1 l
+
+    pub met_kept : (rows : List Row) (table kept : Table) → (ids : List ObjectId) × Answers g (asked (tips ++ hidden) [] parents BreadthFirst) ids × AreKept rows table kept (Contains ids) → AreKept rows table kept (IsMetAlong parents g tips hidden)
+    met_kept rows table kept (ids, answers, all) = record {
+      stand = all.stand;
+      each = λ x met unheld. all.each x (listed_by ids answers x (comes x met)) unheld;
+    }
 
 pub kept_same : (g : Commits ObjectId) (lent tips lent_hidden hidden : List ObjectId) (rows : List Row) (table kept : Table) → lent ≡ tips → lent_hidden ≡ hidden → AreKept rows table kept (IsMet g lent lent_hidden) → AreKept rows table kept (IsMet g tips hidden)
 kept_same g lent tips lent_hidden hidden rows table kept same same_hidden all =
     subst (λ (xs : List ObjectId). AreKept rows table kept (IsMet g xs hidden)) same (subst (λ (xs : List ObjectId). AreKept rows table kept (IsMet g lent xs)) same_hidden all)
+
+-- one more that is the table's
+pub one_more_of : (table : Table) (old new : Contents) (id : ObjectId) (content : Vec ℕ Global) → Updates by_id old new id (Some content) → Stands table (id_of id) kinds.Commit content.items → AreOf table (table_of old) → AreOf table (table_of new)
+one_more_of table old new id content put stands are =
+    (one_kept [] table old new [] id content put stands (record { stand = are; each = λ x c unheld. absurd (in_nil x c) })).stand

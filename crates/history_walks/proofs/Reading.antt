@@ -16,13 +16,14 @@ use Rattle.gix_traverse_commit.specs.Simply.{IsMade, Stands, content_of, graph_o
 use Rattle.gix_traverse_commit_known.specs.Told.{AreTold, rows_of}
 use Rattle.gix_traverse_commit_known.specs.declared.accept.All.{All}
 use Rattle.gix_traverse_graph.specs.declared.info.Info.{Info}
+use Rattle.gix_traverse_graph.specs.declared.parents.Parents.{Parents}
 use Rattle.gix_traverse_graph.specs.declared.parents.Parents.TheVariants.{All as AllParents}
 use Rattle.gix_traverse_graph.specs.declared.rows.Row.{Row}
 use Rattle.gix_traverse_commit.specs.declared.simple.Simple.{Simple}
 use Rattle.gix_traverse_commit_known.specs.declared.faults.Error as simple
 use Rattle.gix_traverse_graph.specs.declared.sorting.Sorting.TheVariants.{BreadthFirst}
 use Rattle.history_walks.specs.Asking.{OverTable}
-use Rattle.history_walks.specs.Faults.{IsMet, WalkFault}
+use Rattle.history_walks.specs.Faults.{IsMet, IsMetAlong, WalkFault}
 use Rattle.history_walks.specs.ReadCommits.{AreKept, Contents, table_of}
 use Rattle.history_walks.specs.Simply.{asked}
 use Rattle.history_walks.specs.declared.error.WalkError.{WalkError}
@@ -112,27 +113,27 @@ refused_with honest may_fail table store copy rows same lent tips lent_hidden hi
     (subst (λ r. OverTable (honest store) (rows_of r) (table store) (λ g. WalkFault may_fail (rows_of r) (table store) g lent lent_hidden error)) same refused))
 
 -- a walk in breadth order from the tips and the hidden ones over a store
-module _ {S : Type 0} (honest may_fail : S → Type 0) (table : S → Table) (walk : Simple (Bor S) All) (store : Bor S) (graph : Option (List Row)) (objects : objects_of walk ≡ store) (with_rows : graph_of walk ≡ graph) (starts tips hidden : List ObjectId) (both : starts ≡ tips ++ hidden)
-    (made : IsMade (λ _ _. true) (asked starts [] AllParents BreadthFirst) walk) (result : Result ReadCommits WalkError) where
+module _ {S : Type 0} (honest may_fail : S → Type 0) (table : S → Table) (walk : Simple (Bor S) All) (store : Bor S) (graph : Option (List Row)) (objects : objects_of walk ≡ store) (with_rows : graph_of walk ≡ graph) (parents : Parents) (starts tips hidden : List ObjectId) (both : starts ≡ tips ++ hidden)
+    (made : IsMade (λ _ _. true) (asked starts [] parents BreadthFirst) walk) (result : Result ReadCommits WalkError) where
   abbrev FromBoth : Asked
-  FromBoth = asked (tips ++ hidden) [] AllParents BreadthFirst
+  FromBoth = asked (tips ++ hidden) [] parents BreadthFirst
 
   made_from_both : IsMade (λ _ _. true) FromBoth walk
-  made_from_both = subst (λ (xs : List ObjectId). IsMade (λ _ _. true) (asked xs [] AllParents BreadthFirst) walk) both made
+  made_from_both = subst (λ (xs : List ObjectId). IsMade (λ _ _. true) (asked xs [] parents BreadthFirst) walk) both made
 
   abbrev ReadsAll : Bor S → Option (List Row) → Commits ObjectId → Asked → ReadCommits → Type 0
   ReadsAll o r g a commits = (given : List ObjectId) × Answers g a given × AreKept (rows_of r) (table o.now) (table_of commits.contents) (Contains given)
 
   pub reads_met : OverTable (honest (objects_of walk).now) (rows_of (graph_of walk)) (table (objects_of walk).now) (λ g. (a : Asked) → IsSure (may_fail (objects_of walk).now) a → IsMade (λ _ _. true) a walk → IfOk result (ReadsAll (objects_of walk) (graph_of walk) g a))
-      → OverTable (honest store.now) (rows_of graph) (table store.now) (λ g. IfOk result (λ (commits : ReadCommits). AreKept (rows_of graph) (table store.now) (table_of commits.contents) (IsMet g tips hidden)))
+      → OverTable (honest store.now) (rows_of graph) (table store.now) (λ g. IfOk result (λ (commits : ReadCommits). AreKept (rows_of graph) (table store.now) (table_of commits.contents) (IsMetAlong parents g tips hidden)))
   reads_met reads is g told =
-      ok_then result (ReadsAll store graph g FromBoth) (λ (commits : ReadCommits). AreKept (rows_of graph) (table store.now) (table_of commits.contents) (IsMet g tips hidden)) (λ commits all. met_kept g tips hidden (rows_of graph) (table store.now) (table_of commits.contents) all)
+      ok_then result (ReadsAll store graph g FromBoth) (λ (commits : ReadCommits). AreKept (rows_of graph) (table store.now) (table_of commits.contents) (IsMetAlong parents g tips hidden)) (λ commits all. met_kept g tips hidden parents (rows_of graph) (table store.now) (table_of commits.contents) all)
       (over_same (λ (o : Bor S). honest o.now) (λ (o : Bor S). table o.now) (λ (o : Bor S) (r : Option (List Row)) h. (a : Asked) → IsSure (may_fail o.now) a → IsMade (λ _ _. true) a walk → IfOk result (ReadsAll o r h a)) (objects_of walk) store (graph_of walk) graph objects with_rows reads
-      is g told FromBoth (breadth_sure (may_fail store.now) (tips ++ hidden) [] AllParents) made_from_both)
+      is g told FromBoth (breadth_sure (may_fail store.now) (tips ++ hidden) [] parents) made_from_both)
 
   pub reading_refused : OverTable (honest (objects_of walk).now) (rows_of (graph_of walk)) (table (objects_of walk).now) (λ g. (a : Asked) → IsSure (may_fail (objects_of walk).now) a → IsMade (λ _ _. true) a walk
       → IfErr result (WalkFault (may_fail (objects_of walk).now) (rows_of (graph_of walk)) (table (objects_of walk).now) g a.tips a.hidden)) → OverTable (honest store.now) (rows_of graph) (table store.now) (λ g. IfErr result (WalkFault (may_fail store.now) (rows_of graph) (table store.now) g tips hidden))
   reading_refused refused is g told =
       err_then result (WalkFault (may_fail store.now) (rows_of graph) (table store.now) g (tips ++ hidden) []) (WalkFault (may_fail store.now) (rows_of graph) (table store.now) g tips hidden) (λ error fault. fault_of_met g tips hidden (may_fail store.now) (rows_of graph) (table store.now) error fault)
       (over_same (λ (o : Bor S). honest o.now) (λ (o : Bor S). table o.now) (λ (o : Bor S) (r : Option (List Row)) h. (a : Asked) → IsSure (may_fail o.now) a → IsMade (λ _ _. true) a walk → IfErr result (WalkFault (may_fail o.now) (rows_of r) (table o.now) h a.tips a.hidden))
-      (objects_of walk) store (graph_of walk) graph objects with_rows refused is g told FromBoth (breadth_sure (may_fail store.now) (tips ++ hidden) [] AllParents) made_from_both)
+      (objects_of walk) store (graph_of walk) graph objects with_rows refused is g told FromBoth (breadth_sure (may_fail store.now) (tips ++ hidden) [] parents) made_from_both)

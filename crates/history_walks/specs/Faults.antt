@@ -12,11 +12,12 @@ use Rattle.gix_object_lookup.specs.declared.find.existing_iter.Error as existing
 use Rattle.gix_object_lookup.specs.declared.find.existing_iter.Error.TheVariants as found
 use Rattle.gix_object_lines.specs.declared.decode.Error as decode
 use Rattle.gix_object_lines.specs.declared.kind.Kind.TheVariants as kinds
-use Rattle.gix_traverse_graph.specs.Commits.{Commits}
+use Rattle.gix_traverse_graph.specs.Commits.{Commits, Reached, asked_parents}
 use Rattle.gix_traverse_commit_known.specs.Fetching.{LacksParents}
 use Rattle.gix_traverse_commit_known.specs.Painting.{ReachedFrom}
 use Rattle.gix_traverse_graph.specs.Rows.{Holds}
 use Rattle.gix_traverse_commit_known.specs.Told.{IsNoCommit}
+use Rattle.gix_traverse_graph.specs.declared.parents.Parents.{Parents}
 use Rattle.gix_traverse_graph.specs.declared.parents.Parents.TheVariants.{All}
 use Rattle.gix_traverse_graph.specs.declared.rows.Row.{Row}
 use Rattle.gix_traverse_commit_known.specs.declared.faults.Error as simple
@@ -66,6 +67,13 @@ pub data IsUnread (table : Table) (id : ObjectId) : Type 0 where
 -- the tips or the hidden commits reach it
 abbrev pub IsMet : Commits ObjectId → List ObjectId → List ObjectId → ObjectId → Type 0
 IsMet g tips hidden x = ReachedFrom g tips x ⊎ ReachedFrom g hidden x
+
+-- the same along these parents
+abbrev pub IsMetAlong : Parents → Commits ObjectId → List ObjectId → List ObjectId → ObjectId
+    → Type 0
+IsMetAlong parents g tips hidden x =
+    Reached (asked_parents parents g) (λ _. ⊤) tips x
+    ⊎ Reached (asked_parents parents g) (λ _. ⊤) hidden x
 
 -- why no list is returned: of a commit that the walk comes to and that has no row, the lookup
 -- failed or it can't be read; or no memory is left

@@ -1,23 +1,24 @@
 //! Commits that were read from a store.
 
-ghost use Rattle.std.specs.Prelude.{◌≡◌, ◌++◌, ⊤, true, List, None, Contains, IfOk, IfErr, MatchOption};
+ghost use Rattle.std.specs.Prelude.{◌≡◌, ◌++◌, ⊤, true, List, None, Contains, IfOk, IfErr, MatchOption, OnOk};
 ghost use Rattle.gix_hash_id.specs.Id.{Id, id_of};
 ghost use Rattle.gix_hash_id.specs.declared.object_id.ObjectId.{ObjectId};
 ghost use Rattle.gix_object_lines.specs.declared.kind.Kind.TheVariants as kinds;
 ghost use Rattle.gix_object_lookup.specs.Existing.{Stands};
+ghost use Rattle.gix_object_lookup.specs.Table.{Table};
 ghost use Rattle.gix_traverse_commit_known.specs.Asked.{Answers, Asked, IsSure};
 ghost use Rattle.gix_traverse_commit.specs.Simply.{IsMade, graph_of, objects_of};
 ghost use Rattle.gix_traverse_commit_known.specs.Told.{rows_of};
 ghost use Rattle.history_walks.specs.Asking.{OverTable};
-ghost use Rattle.history_walks.specs.Faults.{IsMet, WalkFault};
+ghost use Rattle.history_walks.specs.Faults.{IsMetAlong, WalkFault};
 ghost use Rattle.history_walks.specs.ReadCommits.{AreKept, AreOf, ids_of, kept_in};
 
 use crate::error::WalkError;
 use gix_hash::{ObjectId, oid};
 use gix_object_lines::Kind;
 use gix_object_lookup::{FindInto, Lookup, find};
-use gix_traverse_commit::{All, Graph, Simple};
-use std::alloc::Global;
+use gix_traverse_commit::{All, Graph, Parents, Simple};
+use std::alloc::{AllocError, Global};
 use std::collections::BTreeMap;
 
 /// The contents of commits, under their ids. A lookup of one fails only if memory runs out.
@@ -36,8 +37,21 @@ impl ReadCommits {
         }
     }
 
-    /// Returns all commits without rows that the tips or the hidden commits reach, each read once
-    /// from the store.
+    /// Adds the content of a commit, which replaces one that was kept of it before. If no memory is
+    /// left, nothing is added.
+    pub fn insert(&mut self, id: ObjectId, content: Vec<u8>) -> Result<(), AllocError>
+        ensures kept { OnOk result
+            (Stands (kept_in self.new) (id_of id) kinds.Commit content.items) }
+        ensures others { (table : Table) → AreOf table (kept_in self.old)
+            → Stands table (id_of id) kinds.Commit content.items
+            → OnOk result (AreOf table (kept_in self.new)) }
+    {
+        self.contents.insert(id, content)?;
+        Ok(())
+    }
+
+    /// Returns all commits without rows that the tips or the hidden commits reach along these
+    /// parents, each read once from the store.
     ///
     /// The error is `Failed` if a lookup failed, `Broken` if one of these commits isn't stored or
     /// can't be read, and `Memory` if no memory is left.
@@ -47,17 +61,19 @@ impl ReadCommits {
         rows: Option<Graph>,
         tips: &[ObjectId],
         hidden: &[ObjectId],
+        parents: Parents,
     ) -> Result<ReadCommits, WalkError>
         ensures reads { OverTable (S.is_honest store.now) (rows_of rows) (S.table store.now) (λ g.
             IfOk result (λ commits. AreKept (rows_of rows) (S.table store.now)
-            (kept_in commits) (IsMet g tips.now hidden.now))) }
+            (kept_in commits) (IsMetAlong parents g tips.now hidden.now))) }
         ensures refused { OverTable (S.is_honest store.now) (rows_of rows) (S.table store.now) (λ g.
             IfErr result (WalkFault (S.may_fail store.now) (rows_of rows) (S.table store.now) g
             tips.now hidden.now)) }
     {
         let mut starts = Vec::from_slice(alloc, tips)?;
         starts.extend_from_slice(hidden)?;
-        read_all(alloc, Simple::new(starts, store)?.commit_graph(rows))
+        let walk = Simple::new(starts, store)?.commit_graph(rows);
+        read_all(alloc, walk.parents(parents))
     }
 
     /// Returns the content of the commit of this id, if it is kept.

@@ -46,7 +46,7 @@ pub(crate) fn listed_by_time<S: FindInto>(
         IfErr result (WalkFault (S.may_fail store.now) (rows_of rows) (S.table store.now) g
         tips.items hidden.items)) }
 {
-    let commits = ReadCommits::reached(alloc, store, copied(&rows)?, &tips, &hidden)?;
+    let commits = ReadCommits::reached(alloc, store, copied(&rows)?, &tips, &hidden, Parents::All)?;
     listed(alloc, commits, rows, tips, hidden, Parents::All, sorting)
 }
 

@@ -20,7 +20,7 @@ returns-in_err-lines g c = λ r order h is.
     let named = each_named order.to (all_named (map name_of order.to) (sym (names_told r order) ∙ names)) in
     let stopped = err_from_is_err_and c.from_residual-in_err-lines.result c.from_residual-in_err-lines.ensures.1 in
     subst (PlansMoves g.F.Files.reading_may_fail r order) (sym (stopped.1 ∙ ap Err stopped.2)) (fault_planned g.F.Files.reading_may_fail r order c.in_err-lines.field-0.0
-    (gave_fault g.F.Files.reading_may_fail (λ lines. AreLines r order.to lines.items) c.read_lines.result c.in_err-lines.field-0.0 c.in_err-lines.was (c.read_lines.ensures r order.to h is.to named)))
+    (gave_fault g.F.Files.reading_may_fail (λ lines. AreLines r order.to lines.items) c.read_lines.result c.in_err-lines.field-0.0 c.in_err-lines.was (c.read_lines.ensures r order.to h is.to)))
 
 pub returns-in_err-meanings_in : goal.returns-in_err-meanings_in
 returns-in_err-meanings_in g c = λ r order h is.
@@ -32,7 +32,7 @@ returns-in_err-test_words g c = λ r order h is.
     let w = h.whole.whole.names in
     let names = names_told r order ∙ ap names_cause (sym (names_sent c.args.command.to.items order.to is.to)) ∙ ap (λ tos. names_cause (map to_name tos)) (sym c.deref.ensures.value) ∙ c.in_ok-test_names.ensures in
     let named = each_named order.to (all_named (map name_of order.to) (sym (names_told r order) ∙ names)) in
-    let lines = c.in_ok-lines.ensures r order.to h is.to named in
+    let lines = c.in_ok-lines.ensures r order.to h is.to in
     let words = words_told r order c.in_ok-lines.lines.items lines ∙ ap words_cause (sym (ap (map meaning_of) c.deref-3.ensures.value ∙ c.in_ok-meanings_in.ensures ∙ ap (flat_map line_meanings) c.deref-2.ensures.value)) in
     let stopped = err_from_is_err_and c.from_residual-in_err-test_words.result c.from_residual-in_err-test_words.ensures.1 in
     refusal_planned g.F.Files.reading_may_fail r order c.from_residual-in_err-test_words.result c.in_err-test_words.field-0.0 (stopped.1 ∙ ap Err stopped.2) (by_words r order names c.in_err-test_words.field-0.0 (words ∙ c.in_err-test_words.ensures))
@@ -42,7 +42,7 @@ returns-in_err-test_held g c = λ r order h is.
     let w = h.whole.whole.names in
     let names = names_told r order ∙ ap names_cause (sym (names_sent c.args.command.to.items order.to is.to)) ∙ ap (λ tos. names_cause (map to_name tos)) (sym c.deref.ensures.value) ∙ c.in_ok-test_names.ensures in
     let named = each_named order.to (all_named (map name_of order.to) (sym (names_told r order) ∙ names)) in
-    let lines = c.in_ok-lines.ensures r order.to h is.to named in
+    let lines = c.in_ok-lines.ensures r order.to h is.to in
     let words = words_told r order c.in_ok-lines.lines.items lines ∙ ap words_cause (sym (ap (map meaning_of) c.deref-3.ensures.value ∙ c.in_ok-meanings_in.ensures ∙ ap (flat_map line_meanings) c.deref-2.ensures.value)) ∙ c.in_ok-test_words.ensures in
     let held = held_told r order c.in_ok-lines.lines.items lines ∙ ap lines_cause (sym c.deref-4.ensures.value) in
     let stopped = err_from_is_err_and c.from_residual-in_err-test_held.result c.from_residual-in_err-test_held.ensures.1 in
@@ -53,7 +53,7 @@ returns-in_err-test_places g c = λ r order h is.
     let w = h.whole.whole.names in
     let names = names_told r order ∙ ap names_cause (sym (names_sent c.args.command.to.items order.to is.to)) ∙ ap (λ tos. names_cause (map to_name tos)) (sym c.deref.ensures.value) ∙ c.in_ok-test_names.ensures in
     let named = each_named order.to (all_named (map name_of order.to) (sym (names_told r order) ∙ names)) in
-    let lines = c.in_ok-lines.ensures r order.to h is.to named in
+    let lines = c.in_ok-lines.ensures r order.to h is.to in
     let words = words_told r order c.in_ok-lines.lines.items lines ∙ ap words_cause (sym (ap (map meaning_of) c.deref-3.ensures.value ∙ c.in_ok-meanings_in.ensures ∙ ap (flat_map line_meanings) c.deref-2.ensures.value)) ∙ c.in_ok-test_words.ensures in
     let held = held_told r order c.in_ok-lines.lines.items lines ∙ ap lines_cause (sym c.deref-4.ensures.value) ∙ c.in_ok-test_held.ensures in
     let stopped = err_from_is_err_and c.from_residual-in_err-test_places.result c.from_residual-in_err-test_places.ensures.1 in
@@ -65,7 +65,7 @@ returns-in_err-actor g c = λ r order h is.
     let w = h.whole.whole.names in
     let names = names_told r order ∙ ap names_cause (sym (names_sent c.args.command.to.items order.to is.to)) ∙ ap (λ tos. names_cause (map to_name tos)) (sym c.deref.ensures.value) ∙ c.in_ok-test_names.ensures in
     let named = each_named order.to (all_named (map name_of order.to) (sym (names_told r order) ∙ names)) in
-    let lines = c.in_ok-lines.ensures r order.to h is.to named in
+    let lines = c.in_ok-lines.ensures r order.to h is.to in
     let words = words_told r order c.in_ok-lines.lines.items lines ∙ ap words_cause (sym (ap (map meaning_of) c.deref-3.ensures.value ∙ c.in_ok-meanings_in.ensures ∙ ap (flat_map line_meanings) c.deref-2.ensures.value)) ∙ c.in_ok-test_words.ensures in
     let held = held_told r order c.in_ok-lines.lines.items lines ∙ ap lines_cause (sym c.deref-4.ensures.value) ∙ c.in_ok-test_held.ensures in
     let places = (c.in_ok-test_places.ensures r order h (subst (λ ls. AreLines r order.to ls) (sym c.deref-5.ensures.value) lines) named).0 in
@@ -78,7 +78,7 @@ returns-then-have_there g c = λ r order h is.
     let w = h.whole.whole.names in
     let names = names_told r order ∙ ap names_cause (sym (names_sent c.args.command.to.items order.to is.to)) ∙ ap (λ tos. names_cause (map to_name tos)) (sym c.deref.ensures.value) ∙ c.in_ok-test_names.ensures in
     let named = each_named order.to (all_named (map name_of order.to) (sym (names_told r order) ∙ names)) in
-    let lines = c.in_ok-lines.ensures r order.to h is.to named in
+    let lines = c.in_ok-lines.ensures r order.to h is.to in
     let words = words_told r order c.in_ok-lines.lines.items lines ∙ ap words_cause (sym (ap (map meaning_of) c.deref-3.ensures.value ∙ c.in_ok-meanings_in.ensures ∙ ap (flat_map line_meanings) c.deref-2.ensures.value)) ∙ c.in_ok-test_words.ensures in
     let held = held_told r order c.in_ok-lines.lines.items lines ∙ ap lines_cause (sym c.deref-4.ensures.value) ∙ c.in_ok-test_held.ensures in
     let places = (c.in_ok-test_places.ensures r order h (subst (λ ls. AreLines r order.to ls) (sym c.deref-5.ensures.value) lines) named).0 in
@@ -95,7 +95,7 @@ returns g c = λ r order h is.
     let w = h.whole.whole.names in
     let names = names_told r order ∙ ap names_cause (sym (names_sent c.args.command.to.items order.to is.to)) ∙ ap (λ tos. names_cause (map to_name tos)) (sym c.deref.ensures.value) ∙ c.in_ok-test_names.ensures in
     let named = each_named order.to (all_named (map name_of order.to) (sym (names_told r order) ∙ names)) in
-    let lines = c.in_ok-lines.ensures r order.to h is.to named in
+    let lines = c.in_ok-lines.ensures r order.to h is.to in
     let words = words_told r order c.in_ok-lines.lines.items lines ∙ ap words_cause (sym (ap (map meaning_of) c.deref-3.ensures.value ∙ c.in_ok-meanings_in.ensures ∙ ap (flat_map line_meanings) c.deref-2.ensures.value)) ∙ c.in_ok-test_words.ensures in
     let held = held_told r order c.in_ok-lines.lines.items lines ∙ ap lines_cause (sym c.deref-4.ensures.value) ∙ c.in_ok-test_held.ensures in
     let places = (c.in_ok-test_places.ensures r order h (subst (λ ls. AreLines r order.to ls) (sym c.deref-5.ensures.value) lines) named).0 in

@@ -6,16 +6,15 @@ use Rattle.gix_hash_id.specs.Id.{id_of}
 use Rattle.history_model.specs.Forms.{is_name}
 use Rattle.history_model.specs.declared.Cause.TheVariants.{Collides}
 use Rattle.history_names.specs.AllNames.{TellsMeeting}
-use Rattle.history_plans.specs.Bases.{IsExpected, expected_meanings}
+use Rattle.history_plans.specs.Bases.{expected_meanings}
 use Rattle.history_plans.specs.CommitCauses.{held_causes, place_causes, word_causes}
 use Rattle.history_repository.specs.Face.{names_part}
 use Rattle.history_repository.specs.Held.{IsHeld}
-use Rattle.history_repository.specs.Meanings.{commit_or_cause, meaning_of}
+use Rattle.history_repository.specs.Meanings.{commit_or_cause}
 use Rattle.history_plans.specs.Tagging.{IsTagBase, target_causes}
 use Rattle.history_repository.specs.declared.stopped.Stopped.TheVariants.{Refused}
 use Rattle.history_plans.proofs.Collisions.{one_collides, standing_free}
 use Rattle.history_repository.proofs.HeldLemmas.{held_stands}
-use Rattle.history_repository.proofs.ReadingFaults.{gave_fault}
 use Rattle.history_plans.proofs.PlaceLemmas.{place_collides}
 use Rattle.history_plans.proofs.TagLemmas.{all_commits, fault_based, held_so, place_so, words_so}
 use Rattle.history_plans.proofs.Tested.{ends_told, none_joined, told_behind, told_in_front}
@@ -28,20 +27,22 @@ returns-in_err-expected g c = λ r order h name expect word named.
     let MayFail = g.F.Files.reading_may_fail in
     let stopped = err_from_is_err_and c.from_residual.result c.from_residual.ensures.1 in
     fault_based MayFail r order c.from_residual.result c.in_err-expected.field-0.0 (stopped.1 ∙ ap Err stopped.2)
-    (gave_fault MayFail (IsExpected r order.expect) c.read_expected.result c.in_err-expected.field-0.0 c.in_err-expected.was (c.read_expected.ensures r order.expect h expect))
+    (c.in_err-expected.ensures.reads r order.expect h expect (c.new-read.ensures r))
 
 pub returns-in_err-meaning : goal.returns-in_err-meaning
 returns-in_err-meaning g c = λ r order h name expect word named.
     let MayFail = g.F.Files.reading_may_fail in
     let stopped = err_from_is_err_and c.from_residual-in_err-meaning.result c.from_residual-in_err-meaning.ensures.1 in
     fault_based MayFail r order c.from_residual-in_err-meaning.result c.in_err-meaning.field-0.0 (stopped.1 ∙ ap Err stopped.2)
-    (gave_fault MayFail (λ meaning. meaning_of meaning ≡ commit_or_cause r c.args.word.now) c.read_word.result c.in_err-meaning.field-0.0 c.in_err-meaning.was (c.read_word.ensures.means r h))
+    (c.in_err-meaning.ensures r h (c.in_ok-expected.ensures.kept r h (c.new-read.ensures r)))
 
 pub returns-in_err-test_words : goal.returns-in_err-test_words
 returns-in_err-test_words g c = λ r order h name expect word named.
     let MayFail = g.F.Files.reading_may_fail in
-    let expects = c.in_ok-expected.ensures r order.expect h expect in
-    let reads = c.in_ok-meaning.ensures.means r h ∙ ap (commit_or_cause r) word in
+    let known = c.new-read.ensures r in
+    let expects = c.in_ok-expected.ensures.reads r order.expect h expect known in
+    let read = c.in_ok-meaning.ensures r h (c.in_ok-expected.ensures.kept r h known) in
+    let reads = read.0.means ∙ ap (commit_or_cause r) word in
     let words = words_so r order c.in_ok-expected.expected c.in_ok-meaning.meaning expects reads in
     let stopped = err_from_is_err_and c.from_residual-in_err-test_words.result c.from_residual-in_err-test_words.ensures.1 in
     let told = Refused c.in_err-test_words.field-0.0 in
@@ -53,15 +54,17 @@ returns-in_err-held g c = λ r order h name expect word named.
     let MayFail = g.F.Files.reading_may_fail in
     let stopped = err_from_is_err_and c.from_residual-in_err-held.result c.from_residual-in_err-held.ensures.1 in
     fault_based MayFail r order c.from_residual-in_err-held.result c.in_err-held.field-0.0 (stopped.1 ∙ ap Err stopped.2)
-    (gave_fault MayFail (IsHeld r c.args.name.now) c.read_held.result c.in_err-held.field-0.0 c.in_err-held.was (c.read_held.ensures.held r h (ap is_name name ∙ named)))
+    (c.in_err-held.ensures r h (c.in_ok-meaning.ensures r h (c.in_ok-expected.ensures.kept r h (c.new-read.ensures r))).1)
 
 pub returns-in_err-test : goal.returns-in_err-test
 returns-in_err-test g c = λ r order h name expect word named.
     let MayFail = g.F.Files.reading_may_fail in
-    let expects = c.in_ok-expected.ensures r order.expect h expect in
-    let reads = c.in_ok-meaning.ensures.means r h ∙ ap (commit_or_cause r) word in
+    let known = c.new-read.ensures r in
+    let expects = c.in_ok-expected.ensures.reads r order.expect h expect known in
+    let read = c.in_ok-meaning.ensures r h (c.in_ok-expected.ensures.kept r h known) in
+    let reads = read.0.means ∙ ap (commit_or_cause r) word in
     let words = words_so r order c.in_ok-expected.expected c.in_ok-meaning.meaning expects reads in
-    let held_is = subst (λ (n : Bytes). IsHeld r n c.in_ok-held.held) name (c.in_ok-held.ensures.held r h (ap is_name name ∙ named)) in
+    let held_is = subst (λ (n : Bytes). IsHeld r n c.in_ok-held.held) name (c.in_ok-held.ensures r h read.1).0 in
     let held = held_so r order c.in_ok-expected.expected c.in_ok-held.held c.commit_held.result expects held_is c.commit_held.ensures in
     let stopped = err_from_is_err_and c.from_residual-in_err-test.result c.from_residual-in_err-test.ensures.1 in
     let told = Refused c.in_err-test.field-0.0 in
@@ -72,10 +75,12 @@ returns-in_err-test g c = λ r order h name expect word named.
 pub returns-then-branch : goal.returns-then-branch
 returns-then-branch g c = λ r order h name expect word named.
     let MayFail = g.F.Files.reading_may_fail in
-    let expects = c.in_ok-expected.ensures r order.expect h expect in
-    let reads = c.in_ok-meaning.ensures.means r h ∙ ap (commit_or_cause r) word in
+    let known = c.new-read.ensures r in
+    let expects = c.in_ok-expected.ensures.reads r order.expect h expect known in
+    let read = c.in_ok-meaning.ensures r h (c.in_ok-expected.ensures.kept r h known) in
+    let reads = read.0.means ∙ ap (commit_or_cause r) word in
     let words = words_so r order c.in_ok-expected.expected c.in_ok-meaning.meaning expects reads in
-    let held_is = subst (λ (n : Bytes). IsHeld r n c.in_ok-held.held) name (c.in_ok-held.ensures.held r h (ap is_name name ∙ named)) in
+    let held_is = subst (λ (n : Bytes). IsHeld r n c.in_ok-held.held) name (c.in_ok-held.ensures r h read.1).0 in
     let held = held_so r order c.in_ok-expected.expected c.in_ok-held.held c.commit_held.result expects held_is c.commit_held.ensures in
     let tree = (g.F.Files.history (names_part c.args.repository.now)).tree in
     let new = held_stands r order.name c.in_ok-held.held held_is ∙ c.is_none.ensures ∙ ap not c.if-is_none.true in
@@ -92,10 +97,12 @@ returns-in_err-commit g c = λ r order h name expect word named.
 pub returns : goal.returns
 returns g c = λ r order h name expect word named.
     let MayFail = g.F.Files.reading_may_fail in
-    let expects = c.in_ok-expected.ensures r order.expect h expect in
-    let reads = c.in_ok-meaning.ensures.means r h ∙ ap (commit_or_cause r) word in
+    let known = c.new-read.ensures r in
+    let expects = c.in_ok-expected.ensures.reads r order.expect h expect known in
+    let read = c.in_ok-meaning.ensures r h (c.in_ok-expected.ensures.kept r h known) in
+    let reads = read.0.means ∙ ap (commit_or_cause r) word in
     let words = words_so r order c.in_ok-expected.expected c.in_ok-meaning.meaning expects reads in
-    let held_is = subst (λ (n : Bytes). IsHeld r n c.in_ok-held.held) name (c.in_ok-held.ensures.held r h (ap is_name name ∙ named)) in
+    let held_is = subst (λ (n : Bytes). IsHeld r n c.in_ok-held.held) name (c.in_ok-held.ensures r h read.1).0 in
     let held = held_so r order c.in_ok-expected.expected c.in_ok-held.held c.commit_held.result expects held_is c.commit_held.ensures in
     let tree = (g.F.Files.history (names_part c.args.repository.now)).tree in
     let free : one_collides r order.name ≡ false = elim c.else-is_none.branch [

@@ -1,28 +1,39 @@
-use Rattle.std.proofs.Common.{◌≡◌, ◌∙◌, ap, refl, subst, sym, unwrap_or, [], List, ℕ}
-use Rattle.std.specs.Prelude.{Err}
-use Rattle.std.proofs.lemmas.Bool.Decides.{Decides-eqb}
-use Rattle.std.proofs.lemmas.Slice.Eq.{slice_eq-Decides}
+use Rattle.std.proofs.Common.{◌∙◌, Some, ap, sym}
 use Rattle.gix_hash_id.specs.Id.{id_of}
-use Rattle.gix_ref_file.specs.Tree.{bytes_at, overwritten, part}
-use Rattle.history_model.specs.Places.{object_place}
-use Rattle.history_model.specs.Objects.{value_text}
-use Rattle.history_repository.specs.Face.{objects_part}
-use Rattle.history_repository.proofs.StoredValues.{error_told, text_stands}
-use Rattle.history_queries.proofs.Fronts.{front_told, unread_front}
+use Rattle.history_files.specs.Laws.{table_of}
+use Rattle.history_queries.specs.Indexing.{front_of}
+use Rattle.history_repository.proofs.KnownLemmas.{content_there}
+use Rattle.history_repository.proofs.ReadingFaults.{fault_told}
+use Rattle.history_queries.proofs.AllTold.{row_commit}
+use Rattle.history_queries.proofs.Fronts.{commit_told, front_told}
 use Rattle.history_queries.proofs.rows.is_commit.Goals as goal
 
-pub returns-in_err-read_at : goal.returns-in_err-read_at
-returns-in_err-read_at g c = λ r value stands at.
-    error_told _ _ c.from_residual-in_err-read_at.result c.in_err-read_at.field-0.0 c.from_residual-in_err-read_at.ensures.1 (λ same. c.in_err-read_at.ensures.failed (ap Err same))
+pub returns-then-is_some : goal.returns-then-is_some
+returns-then-is_some g c = λ r value stands at read.
+    (sym (row_commit _ _ c.args.repository.now r stands c.args.id.now value c.row_of.result at c.row_of.ensures (sym c.is_some.ensures ∙ c.if-is_some.true)), read)
+
+pub returns-in_err-front : goal.returns-in_err-front
+returns-in_err-front g c = λ r value stands at read.
+    fault_told g.F.Files.reading_may_fail _ c.from_residual.result _ c.from_residual.ensures.1 (c.in_err-front.ensures r value stands at)
+
+pub returns-then-not-starts_with : goal.returns-then-not-starts_with
+returns-then-not-starts_with g c = λ r value stands at read.
+    let told = front_told r.kind value c.deref.result.now (c.deref.ensures.value ∙ c.in_ok-front.ensures r value stands at) in
+    (sym (sym c.starts_with.ensures ∙ c.if-not-starts_with.true) ∙ told, read)
+
+pub returns-in_err-content : goal.returns-in_err-content
+returns-in_err-content g c = λ r value stands at read.
+    let front = c.in_ok-front.ensures r value stands at in
+    let told = front_told r.kind value c.deref.result.now (c.deref.ensures.value ∙ front) in
+    let commit = commit_told value (sym told ∙ sym c.starts_with.ensures ∙ c.if-not-starts_with.false) in
+    fault_told g.F.Files.reading_may_fail _ c.from_residual-in_err-content.result _ c.from_residual-in_err-content.ensures.1
+    (c.in_err-content.ensures r commit.0 stands (at ∙ ap Some commit.1) (c.deref-2.ensures.value ∙ front ∙ ap (front_of r.kind) commit.1))
 
 pub returns : goal.returns
-returns g c = λ r value stands at.
-    let history = g.F.Files.history in
-    let own = c.args.repository.now in
-    let place = c.deref.ensures.value ∙ c.in_ok-place.ensures in
-    let text : bytes_at (history c.files.result.now).tree c.deref.result.now ≡ value_text r.kind value =
-    ap (λ files. bytes_at (history files).tree c.deref.result.now) c.files.ensures
-    ∙ ap (bytes_at (history (objects_part own)).tree) place
-    ∙ ap (λ o. unwrap_or o []) (text_stands g.F.Files.is_honest history own r stands (id_of c.args.id.now) value at) in
-    let read = c.in_ok-read_at.ensures.bytes (subst g.F.Files.is_honest (sym c.files.ensures) stands.honest_objects) in
-    front_told r.kind value _ c.eq.result (c.as_slice.ensures ∙ read ∙ ap (λ (bytes : List ℕ). overwritten unread_front (part bytes 0 7)) text) (slice_eq-Decides Decides-eqb _ _ c.eq.result c.eq.ensures)
+returns g c = λ r value stands at read.
+    let front = c.in_ok-front.ensures r value stands at in
+    let told = front_told r.kind value c.deref.result.now (c.deref.ensures.value ∙ front) in
+    let is = sym told ∙ sym c.starts_with.ensures ∙ c.if-not-starts_with.false in
+    let commit = commit_told value is in
+    let content = c.in_ok-content.ensures r commit.0 stands (at ∙ ap Some commit.1) (c.deref-2.ensures.value ∙ front ∙ ap (front_of r.kind) commit.1) in
+    (sym is, c.in_ok-insert.ensures.others (table_of r) read (content_there r (id_of c.args.id.now) commit.0 c.in_ok-content.content.items (at ∙ ap Some commit.1) content))

@@ -1,0 +1,6 @@
+use Rattle.std.proofs.Common.{refl}
+use Rattle.history_repository.proofs.KnownLemmas.{one_kept}
+use Rattle.history_repository.proofs.read_objects.ReadObjects.keeping.Goals as goal
+
+pub returns : goal.returns
+returns c = λ r. let are = c.new-read.ensures r in one_kept r c.new-read.result c.result refl are.contents are
