@@ -68,8 +68,8 @@ while_removed : (k : Bytes) (t x : Tree) → MayLeave (to_remove_folder k) t x �
 while_removed k t x (inl same) = subst (ClearsWay k t) (sym same) (clears_nothing k t)
 while_removed k t x (inr (n, may, is)) = subst (ClearsWay k t) (sym is) (folder_removed t k (is_there t k may))
 
-pub removed_gone : (k : Bytes) (t x : Tree) → x ≡ remove t k → get x k ≢ Some folder
-removed_gone k t x is stands = let wrong : None ≡ Some folder = sym (removed_none t k) ∙ ap (λ y. get y k) (sym is) ∙ stands in cc wrong
+pub removed_gone : (k : Bytes) (t x : Tree) → x ≡ remove t k → get x k ≡ None
+removed_gone k t x is = ap (λ y. get y k) is ∙ removed_none t k
 
 -- ---- folders below go, one after another
 pub record ClearsBelow (path : Bytes) (old new : Tree) : Type 0 where
@@ -167,7 +167,7 @@ one_of p (k ∷ ks) some = by_case (p k) refl (one_of p ks)
         (r.0, ap (λ b. same_path r.0 k || b) r.1 ∙ or_true (same_path r.0 k), r.2)
 
 module _ (place : Bytes) (old now : Tree) (names : List Bytes) (rooted : IsRooted old) (there : get old place ≡ Some folder) (listed : names ≡ names_at old place) (clears : ClearsBelow place old now)
-    (none : NoFileBelow place old) (gone : (i : ℕ) → i < length names → get now (under place (get_or names i [])) ≢ Some folder) where
+    (gone : (i : ℕ) → i < length names → get now (under place (get_or names i [])) ≡ None) where
   place_is : IsTrue (is_path place)
   place_is = (rooted place (subst IsSome (sym there) refl)).0
 
@@ -189,18 +189,25 @@ module _ (place : Bytes) (old now : Tree) (names : List Bytes) (rooted : IsRoote
   names_are = listed ∙ ap (λ b. cond b (filter_map (name_in place) (keys old)) []) (ap is_folder (node_is old place place_is ∙ there))
 
   none_in : (k : Bytes) → IsSome (get now k) → parent k ≡ place → ⊥
-  none_in k stands here = by_node (get now k) refl stands
+  none_in k stands here =
+      let was = stood (get now k) refl stands in
+      let r = found place (keys old) k [] (sym (contains_key-keys old k) ∙ was) here in
+      let same : k ≡ under place (get_or names r.0 []) = in_folder k (rooted k was).0 ∙ (λ j. under (here j) ((sym r.2 ∙ ap (λ (ns : List Bytes). get_or ns r.0 []) (sym names_are)) j)) in
+      let none = gone r.0 (subst (λ (ns : List Bytes). r.0 < length ns) (sym names_are) r.1) in
+      none_stands (get now k) (ap (get now) same ∙ none) stands
     where
-      by_node : (o : Option Node) → get now k ≡ o → IsSome o → ⊥
-      by_node None is stood = cc
-      by_node (Some (file bytes)) is stood =
-          let wrong : Some bytes ≡ None = sym (ap bytes_of (node_below now k here ∙ is)) ∙ clears.files k ∙ none k (after_last is_slash k, above_it k here) in
-          cc wrong
-      by_node (Some folder) is stood =
-          let was : IsSome (get old k) = subst IsSome (sym (clears.folders k is)) refl in
-          let r = found place (keys old) k [] (sym (contains_key-keys old k) ∙ was) here in
-          let same : k ≡ under place (get_or names r.0 []) = in_folder k (rooted k was).0 ∙ (λ j. under (here j) ((sym r.2 ∙ ap (λ (ns : List Bytes). get_or ns r.0 []) (sym names_are)) j)) in
-          gone r.0 (subst (λ (ns : List Bytes). r.0 < length ns) (sym names_are) r.1) (ap (get now) (sym same) ∙ is)
+      none_stands : (o : Option Node) → o ≡ None → IsSome o → ⊥
+      none_stands None none there = cc
+      none_stands (Some n) none there = cc none
+
+      some_bytes : (o : Option Node) (bytes : Bytes) → bytes_of o ≡ Some bytes → IsSome o
+      some_bytes None bytes is = cc
+      some_bytes (Some n) bytes is = refl
+
+      stood : (o : Option Node) → get now k ≡ o → IsSome o → IsSome (get old k)
+      stood None is there = cc
+      stood (Some (file bytes)) is there = some_bytes (get old k) bytes (sym (ap bytes_of (node_below old k here)) ∙ sym (clears.files k) ∙ ap bytes_of (node_below now k here ∙ is))
+      stood (Some folder) is there = subst IsSome (sym (clears.folders k is)) refl
 
   empty : IsTrue (is_empty_at now place)
   empty = by_test (list_any (λ path. same_path (parent path) place) (keys now)) refl

@@ -1,4 +1,5 @@
 pub mod Above
+pub mod Blocked
 pub mod Clearings
 pub mod FilesBelow
 pub mod FoldersKept

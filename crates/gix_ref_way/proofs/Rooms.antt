@@ -21,12 +21,16 @@ pub among_rest : (path other : Bytes) (paths : List Bytes) → Contains paths ot
 among_rest path other paths among = Contains-append_right (path ∷ []) paths other among
 
 -- ---- folders of some paths alone
+is_one : (o : Option Node) → is_folder o ≡ true → o ≡ Some folder
+is_one None e = cc
+is_one (Some (file bytes)) e = cc
+is_one (Some folder) e = refl
+
 pub only_same : (paths : List Bytes) (old new : Tree) → SameFolders old new → FoldersOnlyOf paths old new
-only_same paths old new same = record { came = λ place is. inl (stood place is); went = λ place is. inl (same_stay old new same place is) }
-  where
-    stood : (place : Bytes) → IsFolderAt place new → IsFolderAt place old
-    stood [] is = refl
-    stood (b ∷ place) is = sym (same (b ∷ place)) ∙ is
+only_same paths old new same = record {
+  came = λ place is. inl (is_one (get old place) (sym (same place) ∙ ap is_folder is));
+  went = λ place is. inl (same_stay old new same place is);
+}
 
 pub only_weaker : (few more : List Bytes) (old new : Tree) → ((path : Bytes) → Contains few path → Contains more path) → FoldersOnlyOf few old new → FoldersOnlyOf more old new
 only_weaker few more old new all only = record {
@@ -73,15 +77,9 @@ way_only path old new above keeps = adds_weaker old new (adds_both old new above
   went = λ place is. went x place (both.1 place is);
 })
   where
-    stood : (o : Option Node) → is_folder o ≡ true → o ≡ Some folder
-    stood None e = cc
-    stood (Some (file bytes)) e = cc
-    stood (Some folder) e = refl
-
-    came : (x : Tree) (place : Bytes) → FoldersAbove path old.tree x → IsFolderAt place x → IsFolderAt place old.tree ⊎ ((other : Bytes) × Contains (path ∷ []) other × IsAbove place other)
-    came x [] above is = inl refl
-    came x (b ∷ place) above is = elim (above (b ∷ place) (stood (get x (b ∷ place)) is)) [
-      | inl was ↦ inl (ap is_folder was)
+    came : (x : Tree) (place : Bytes) → FoldersAbove path old.tree x → get x place ≡ Some folder → (get old.tree place ≡ Some folder) ⊎ ((other : Bytes) × Contains (path ∷ []) other × IsAbove place other)
+    came x place above is = elim (above place is) [
+      | inl was ↦ inl was
       | inr over ↦ inr (path, among_first path [], over)
     ]
 
@@ -136,8 +134,8 @@ module _ (path : Bytes) (paths : List Bytes) (old new : Tree) (held : may_hold_f
 
   own_at : (place : Bytes) → path ≡ place → not (is_folder (node_at old place)) ≡ true → not (is_folder (node_at new place)) ≡ true
   own_at [] e f = f
-  own_at (byte ∷ place) e f = no_folder (is_folder (get new (byte ∷ place))) (λ stands. elim (only.came (byte ∷ place) stands) [
-    | inl stood ↦ was_none (is_folder (get old (byte ∷ place))) f stood
+  own_at (byte ∷ place) e f = no_folder (is_folder (get new (byte ∷ place))) (λ stands. elim (only.came (byte ∷ place) (is_one (get new (byte ∷ place)) stands)) [
+    | inl was ↦ was_none (is_folder (get old (byte ∷ place))) f (ap is_folder was)
     | inr (other, among, above) ↦ (apart other among).1 (subst (λ p. IsAbove p other) (sym e) above)
   ])
 

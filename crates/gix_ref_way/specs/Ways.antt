@@ -87,8 +87,8 @@ IsFolderAt place tree = IsTrue (is_folder (node_at tree place))
 
 -- A folder came only above one of these paths, and went only at one of them or below.
 pub record FoldersOnlyOf (paths : List Bytes) (old new : Tree) : Type 0 where
-  pub came : (place : Bytes) → IsFolderAt place new
-      → IsFolderAt place old ⊎ ((path : Bytes) × Contains paths path × IsAbove place path)
+  pub came : (place : Bytes) → get new place ≡ Some folder
+      → (get old place ≡ Some folder) ⊎ ((path : Bytes) × Contains paths path × IsAbove place path)
   pub went : (place : Bytes) → IsFolderAt place old
       → IsFolderAt place new ⊎ ((path : Bytes) × Contains paths path × IsAtOrBelow path place)
 

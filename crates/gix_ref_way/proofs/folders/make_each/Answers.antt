@@ -1,6 +1,7 @@
-use Rattle.std.proofs.Common.{◌≡◌, ◌∙◌, ⊎_elim, inl, inr, arith, length-take, take, Err}
+use Rattle.std.proofs.Common.{◌≡◌, ◌∙◌, ap, sym, arith, length-take, take, Err}
 use Rattle.std.proofs.lemmas.Result.{err_from_is_err_and}
-use Rattle.gix_ref_file.specs.declared.files.FileError.TheVariants.{Failed}
+use Rattle.std.specs.Prelude.{is_some}
+use Rattle.gix_ref_way.specs.declared.error.Halt.TheVariants.{Blocked, Failed}
 use Rattle.gix_ref_way.proofs.Stored.{now_same, same_joined}
 use Rattle.gix_ref_way.proofs.Above.{above_slash, above_joined}
 use Rattle.gix_ref_way.proofs.FoldersKept.{keeps_joined}
@@ -24,17 +25,30 @@ pub returns-in_err-make_folder-clause-stay : goal.returns-in_err-make_folder-cla
 returns-in_err-make_folder-clause-stay g c = λ honest.
     keeps_joined _ _ _ (c.loop-end.invariant.stay honest) (c.make_folder.ensures.stay (c.loop-end.invariant.honest honest))
 
+pub returns-in_err-make_folder-clause-blocked : goal.returns-in_err-make_folder-clause-blocked
+returns-in_err-make_folder-clause-blocked g c = λ honest blocked.
+    let so_far = c.loop-end.invariant in
+    let path = c.args.path.now in
+    let end = c.loop-end.end in
+    let error = err_from_is_err_and c.from_residual.result c.from_residual.ensures.1 in
+    let is_blocked : c.make_folder.result ≡ Err Blocked = cc (error.1, error.2) in
+    let same = now_same _ _ (so_far.moments honest) (take end path) in (
+      take end path,
+      above_slash path end c.loop-end-test.true c.if-byte-eq47.true,
+      ap is_some (sym same) ∙ c.make_folder.ensures.blocked (so_far.honest honest) is_blocked,
+    )
+
 pub returns-in_err-make_folder-clause-failed : goal.returns-in_err-make_folder-clause-failed
-returns-in_err-make_folder-clause-failed g c = λ honest none whole failed.
+returns-in_err-make_folder-clause-failed g c = λ honest whole failed.
     let so_far = c.loop-end.invariant in
     let path = c.args.path.now in
     let end = c.loop-end.end in
     let above = above_slash path end c.loop-end-test.true c.if-byte-eq47.true in
     let error = err_from_is_err_and c.from_residual.result c.from_residual.ensures.1 in
     let same : c.make_folder.result ≡ Err Failed = cc (error.1, error.2) in
-    ⊎_elim (λ risen. inl (risen_later _ _ _ _ so_far.later risen (omega arith))) inr
+    risen_later _ _ _ _ so_far.later
     (c.make_folder.ensures.failed (so_far.honest honest) (path_above (take end path) path above whole)
-    (stands_in_made end path (take end path) _ (omega (arith, length-take end path)) above (so_far.made honest none)) same)
+    (stands_in_made end path (take end path) _ (omega (arith, length-take end path)) above (so_far.made honest)) same) (omega arith)
 
 pub loop-end-preserved : goal.loop-end-preserved
 loop-end-preserved g c =
@@ -50,9 +64,7 @@ loop-end-preserved g c =
         stay = λ honest. keeps_joined _ _ _ (so_far.stay honest) (w.make_folder.ensures.stay (so_far.honest honest));
         later = omega (arith, so_far.later, w.make_folder.ensures.later);
         unfailed = w.in_ok-make_folder.ensures.unfailed ∙ so_far.unfailed;
-        made = λ honest none.
-            let absent = now_same _ _ (so_far.moments honest) (take end path) ∙ none (take end path) (above_slash path end c.loop-end-test.true w.if-byte-eq47.true) in
-            one_made end path _ _ (so_far.made honest none) (w.in_ok-make_folder.ensures.kept (so_far.honest honest)) (w.in_ok-make_folder.ensures.made (so_far.honest honest) absent);
+        made = λ honest. one_made end path _ _ (so_far.made honest) (w.in_ok-make_folder.ensures.kept (so_far.honest honest)) (w.in_ok-make_folder.ensures.made (so_far.honest honest));
       })
       | else-byte-eq47 w ↦ rw w.files-is (record {
         honest = so_far.honest;
@@ -61,6 +73,6 @@ loop-end-preserved g c =
         stay = so_far.stay;
         later = so_far.later;
         unfailed = so_far.unfailed;
-        made = λ honest none. none_made end path _ (so_far.made honest none) w.if-byte-eq47.false;
+        made = λ honest. none_made end path _ (so_far.made honest) w.if-byte-eq47.false;
       })
     ]

@@ -1,6 +1,6 @@
 use Rattle.std.proofs.Common.{◌≡◌, ◌≤◌}
 use Rattle.gix_ref_file.specs.History.{Adds}
-use Rattle.gix_ref_way.specs.Ways.{SameFiles, FoldersAbove, KeepsFolders, NoFileAbove}
+use Rattle.gix_ref_way.specs.Ways.{SameFiles, FoldersAbove, KeepsFolders}
 use Rattle.gix_ref_way.proofs.FoldersMade.{HasFoldersBefore}
 use Rattle.gix_ref_way.proofs.folders.make_each.Given as goal
 
@@ -15,5 +15,5 @@ invariant-loop-end g l =
       stay : g.F.Files.is_honest l.fn.files → Adds (KeepsFolders (history l.fn.files).tree) (history l.fn.files) (history l.files);
       later : g.F.Files.failures l.fn.files ≤ g.F.Files.failures l.files;
       unfailed : g.F.Files.failures l.files ≡ g.F.Files.failures l.fn.files;
-      made : g.F.Files.is_honest l.fn.files → NoFileAbove l.fn.path (history l.fn.files).tree → HasFoldersBefore l.end l.fn.path (history l.files).tree;
+      made : g.F.Files.is_honest l.fn.files → HasFoldersBefore l.end l.fn.path (history l.files).tree;
     }
