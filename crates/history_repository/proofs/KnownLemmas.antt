@@ -1,6 +1,7 @@
 -- What was read of objects, and of one more.
 use Rattle.std.proofs.Common.{◌≡◌, ◌∙◌, ap, refl, sym, subst, Bool, true, false, cond, Option, Some, None, [], List, ℕ, Vec}
-use Rattle.std.specs.BTreeMap.{BTreeMap, Updates, get}
+use Rattle.std.specs.BTreeMap.{Updates, get, is_at}
+use Rattle.std.specs.Map.{lookup}
 use Rattle.std.specs.Ordering.{is_eq}
 use Rattle.std.specs.declared.cmp.Ordering.{Ordering}
 use Rattle.std.specs.declared.alloc.Global.{Global}
@@ -31,7 +32,7 @@ by_id x y = id_cmp (id_of x) (id_of y)
 -- nothing was read
 pub none_known : (r : Repository) (read : ReadObjects) → read.peeled.entries ≡ [] → ((id : Id) → kept_in (contents_in read) id ≡ None) → AreMeant r read
 none_known r read empty none = record {
-  objects = λ id commit is. let e : meant_in read id ≡ None = ap (λ es. get by_id (record { entries = es }) id) empty in let z : ⊥ = cc in absurd z;
+  objects = λ id commit is. let e : meant_in read id ≡ None = ap (lookup (is_at (λ key. id_cmp (id_of id) (id_of key)))) empty in let z : ⊥ = cc in absurd z;
   contents = λ x content there. let e = none (id_of x) in let z : ⊥ = cc in absurd z;
 }
 

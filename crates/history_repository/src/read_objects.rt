@@ -80,8 +80,9 @@ impl ReadObjects {
         if !self.keeps {
             return Ok(());
         }
-        if let Some(content) = meant.content {
-            self.contents.insert(meant.id, content)?;
+        let MeantCommit { id, content } = meant;
+        if let Some(content) = content {
+            self.contents.insert(id, content)?;
         }
         Ok(())
     }

@@ -1,6 +1,6 @@
 //! The objects that a repository reads.
 
-ghost use Rattle.std.specs.Prelude.{◌≡◌, ⊤, MatchOption, Some, map, option_map};
+ghost use Rattle.std.specs.Prelude.{◌≡◌, ⊤, IfSome, MatchOption, Some, map, option_map};
 ghost use Rattle.std.specs.FinMap.{get};
 ghost use Rattle.history_model.specs.FileMap.{FileMap};
 ghost use Rattle.history_model.specs.Objects.{CommitValue, StoredCommit, StoredFolder, StoredTag, TagValue, Value, commit_content, content_of, entry_at, folder_id, object_kind, tag_content};
@@ -111,7 +111,7 @@ pub struct PeeledCommit {
 }
 
 /// Returns the commit that a stored object peels to, as `read_meant` does. The object is read only if
-/// it wasn't read before.
+/// it wasn't read before and has no row.
 pub(crate) fn peeled<F: Files>(
     repository: &Repository<F>,
     alloc: Global,
@@ -130,8 +130,20 @@ pub(crate) fn peeled<F: Files>(
     Ok(commit)
 }
 
-/// Returns the same of an object that is read. Its content is kept, if it is a commit's and contents
-/// are to be kept.
+/// Returns the commit of this id with its root, if it has a row. No object is read.
+fn rowed<F: Files>(repository: &Repository<F>, id: ObjectId) -> Option<PeeledCommit>
+    ensures { (r : plain.Repository) → Stands F.is_honest F.history repository.now r
+        → IfSome result (λ commit. IsPeeledBy r (id_of id) (Some commit)) }
+{
+    let row = repository.rows()?.commit_by_id(&id)?;
+    Some(PeeledCommit {
+        id,
+        root: Some(row.tree),
+    })
+}
+
+/// Returns the same of an object that is read, unless it has a row. Its content is kept, if it is a
+/// commit's and contents are to be kept.
 fn peeled_anew<F: Files>(
     repository: &Repository<F>,
     alloc: Global,
@@ -142,6 +154,9 @@ fn peeled_anew<F: Files>(
         → get r.objects (id_of id) ≡ Some value
         → ReadsMore F.reading_may_fail r read.old read.new (IsPeeledBy r (id_of id)) result }
 {
+    if let Some(commit) = rowed(repository, id) {
+        return Ok(Some(commit));
+    }
     let Some(meant) = read_meant(repository, alloc, id)? else {
         return Ok(None);
     };

@@ -4,11 +4,11 @@ use crate::common::{KINDS, first_command, parts_after};
 use gix_ref_file::paths::joined;
 use gix_ref_file::{Files, MemoryFiles};
 use gix_ref_fuse::Fuse;
-use history::{Command, Kind};
+use history::{Command, Graph, Kind};
 use history_plans::{names_to_pack, plan_commit, plan_moves, plan_tag, test_delete};
 use history_queries::{all_rows, list_files, list_names, log, show};
 use history_repository::Repository;
-use std::alloc::Global;
+use std::alloc::{AllocError, Global};
 use std::process::Abort;
 
 /// A branch with a file two folders deep, and another with a file one folder deep.
@@ -66,14 +66,13 @@ const AT_ITS_TAG: (&[u8], u64) = (
     5,
 );
 
-/// The tag, its commit, the root, and the folders `a` and `a/b`: first to measure the paths of the
-/// first graft, whose files the second commit has none of.
+/// Both commits, the tag, both roots, and the folders `a` and `a/b` to measure their paths.
 const GRAFTED_BY_TAG: (&[u8], u64) = (
     b"commit refs/heads/new new\nparent other\ngraft 1 v1 0\nz\n\nauthor 1 3 6 +0000\nA\na@b\ncommitter 1 3 6 +0000\nA\na@b\nmessage 4\nfour\nend\n",
     7,
 );
 
-/// Both commits, and the root that both edit.
+/// Both commits, and the root of the first.
 const MERGED: (&[u8], u64) = (
     b"commit refs/heads/main at same\nparent other\nremove 1\nx\nauthor 1 3 6 +0000\nA\na@b\ncommitter 1 3 6 +0000\nA\na@b\nmessage 4\nfour\nend\n",
     3,
@@ -103,7 +102,7 @@ const DELETED: (&[u8], u64) = (b"delete refs/heads/main at same\n", 1);
 /// The tag, and its commit.
 const TAG_DELETED: (&[u8], u64) = (b"delete refs/tags/v1 at main\n", 2);
 
-/// The three commits that names hold, and the tag.
+/// The two commits that names hold, and the tag.
 const NAMED: (&[u8], u64) = (b"names\n", 3);
 
 /// The same.
@@ -133,6 +132,24 @@ const LOGGED_BY_FIRST_DATE: (&[u8], u64) = (b"log date first +v1 path 5\na/b/c\n
 /// All: three commits, the tag, three roots, the folders `a`, `a/b` (two of each) and `d`, and
 /// three contents.
 const INDEXED: (&[u8], u64) = (b"index\n", 15);
+
+/// The root, and the folders `a` and `a/b`.
+const CHANGED_OVER_ROWS: (&[u8], u64) = (AT_ITS_TIP.0, 3);
+
+/// None.
+const LOGGED_OVER_ROWS: (&[u8], u64) = (LOGGED_BY_TIME.0, 0);
+
+/// Of each commit of `main` the root and the folders `a` and `a/b`.
+const LOGGED_AT_PATH_OVER_ROWS: (&[u8], u64) = (LOGGED_AT_PATH.0, 6);
+
+/// The same, and the tag.
+const LOGGED_BY_TAG_OVER_ROWS: (&[u8], u64) = (LOGGED_BY_FIRST_DATE.0, 7);
+
+/// The tag.
+const NAMED_OVER_ROWS: (&[u8], u64) = (NAMED.0, 1);
+
+/// All but the three commits.
+const INDEXED_AGAIN: (&[u8], u64) = (INDEXED.0, 12);
 
 /// Whether a command succeeds, planned or answered.
 fn is_done<F: Files>(repository: &Repository<F>, alloc: Global, command: Command) -> bool {
@@ -269,4 +286,28 @@ fn opening_reads_each_object_once(rt: HostRuntime) {
             Err(_) => panic!(rt; "not opened"),
         }
     }
+}
+
+#[test]
+fn commits_that_have_rows_are_not_read(rt: HostRuntime) -> Result<(), AllocError> {
+    let alloc = rt.alloc();
+    for kind in KINDS {
+        let mut repository = counted(&rt, alloc, kind, &[BEFORE, LATER]);
+        let Ok(rows) = all_rows(&repository, alloc) else {
+            panic!(rt; "no rows")
+        };
+        repository.rows = Some(Graph::from_rows(rows)?);
+        for (input, wanted) in [
+            CHANGED_OVER_ROWS,
+            LOGGED_OVER_ROWS,
+            LOGGED_AT_PATH_OVER_ROWS,
+            LOGGED_BY_TAG_OVER_ROWS,
+            NAMED_OVER_ROWS,
+            INDEXED_AGAIN,
+        ] {
+            let met = readings(&rt, &repository, alloc, input);
+            assert!(rt; met == wanted, "{met} for {wanted}");
+        }
+    }
+    Ok(())
 }
