@@ -98,7 +98,7 @@ def graft_readings():
     unsigned = b"author 0 3 1 +0000\n\na@b\ncommitter 1 3 1 +0000\nA\na@b\nmessage 3\none\nend\n"
     for kind in KINDS:
         for sources, count in [((b"s",), 5), ((b"",), 5), ((b"s/a",), 5), ((b"s/a/x",), 5), ((b"s/a/x/f",), 5), ((b"t",), 2), ((b"nope",), 2),
-                               ((b"s", b"s/b"), 10)]:
+                               ((b"s", b"s/b"), 9)]:
             edits = b"".join(graft(b"d/%d" % number, b"main", it) for number, it in enumerate(sources))
             reading(kind, made, b"commit refs/heads/app new\n" + edits + unsigned, count)
 

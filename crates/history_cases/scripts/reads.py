@@ -1,11 +1,11 @@
 """Which objects a command must look up, derived over the plain repository's whole file maps: the counts of readings by hand are held
 against this.
 
-Each word looks up once the object that its name holds, or whose id it begins, since that may be a commit, a tag or neither. Besides, a
-command looks up once each commit, tree and content that its answer is made of, but for a commit that was looked up as a word's object or
-has a row. A log with paths looks up besides the trees that it compares: of a commit, and of its first parent, unless that is the commit
-that comes next. `index` reads the first bytes of each object, and then each commit that has no row. A graft looks up the commit after a
-tag, the trees on the way to its source, and each different tree below it once."""
+A command looks up once each object that its words mean, that is the object that a name holds, or whose id a word begins, since that may
+be a commit, a tag or neither; and each commit, tree and content that its answer is made of. Of these a log, a `commit` and `index` look
+up no commit that has a row. A log with paths looks up besides the trees that it compares: of a commit, and of its first parent, unless
+that is the commit that comes next. `index` reads the first bytes of each object, which are all of a commit that is short. A graft looks
+up the trees on the way to its source, and each different tree below it once."""
 
 from plain import Plain, Reader
 
@@ -50,36 +50,37 @@ def of_log(plain, command):
 
 
 def of_grafts(plain, edits):
-    """Of each graft the commit after its word's tag, the trees in which the names of its source are looked up, and each different tree below
-    it once."""
+    """Of each graft the trees in which the names of its source are looked up, and each different tree below it once."""
     found = []
     for _, _, target, source in edits:
-        held = of_word(plain, target)
-        commit = plain.peeled(held[0])
-        files, front = plain.commits[commit]["files"], source + b"/" if source else b""
+        files, front = plain.commits[plain.peeled(of_word(plain, target)[0])]["files"], source + b"/" if source else b""
         below = {it[len(front):]: file for it, file in files.items() if it.startswith(front)}
-        found += [*([] if commit in held else [commit]), *(of_folders(plain, files, [source]) if source else []), *(set(of_folders(plain, below)) if below else [])]
+        found += [*(of_folders(plain, files, [source]) if source else []), *(set(of_folders(plain, below)) if below else [])]
     return found
+
+
+def once(rows, found):
+    """These objects, each once, but for those that have rows."""
+    return [it for it in dict.fromkeys(found) if it not in rows]
 
 
 def objects(plain, rows, command):
     """The objects that a command looks up, as often as it does."""
     name, *parts = command
     if name == "index":
-        return [*plain.objects, *(it for it in plain.commits if it not in rows)]
-    if name == "commit":
-        # One with grafts alone, on a new name, without parents, and refused before it stores anything.
-        return [it for edit in parts[3] for it in of_word(plain, edit[2])] + of_grafts(plain, parts[3])
-    words = [target for _, target in parts[3]] if name == "log" else [parts[0]]
+        return once(rows, plain.objects)
+    # One with grafts alone, on a new name, without parents, and refused before it stores anything.
+    words = [edit[2] for edit in parts[3]] if name == "commit" else [target for _, target in parts[3]] if name == "log" else [parts[0]]
     held = [it for word in words for it in of_word(plain, word)]
+    commits = [plain.peeled(it) for it in held]
+    if name == "commit":
+        return once(rows, held + commits) + of_grafts(plain, parts[3])
     if name == "log":
-        return held + of_walk(plain, rows, map(plain.peeled, held)) + of_log(plain, command)
-    commit = plain.peeled(held[0])
-    files, path = plain.commits[commit]["files"], parts[1] if name == "show" else None
+        return once(rows, held + of_walk(plain, rows, commits)) + of_log(plain, command)
+    files, path = plain.commits[commits[0]]["files"], parts[1] if name == "show" else None
     content = [files[path][1]] if path in files else []
-    paths = [path] if path else None
-    behind_tag = [it for it in [commit] if it not in held]
-    return [*held, *behind_tag, *(of_folders(plain, files, paths) if name == "files" or path else []), *content]
+    trees = of_folders(plain, files, [path] if path else None) if name == "files" or path else []
+    return once((), held + commits) + trees + content
 
 
 def names(command):
