@@ -1,5 +1,5 @@
 -- What a file that was read says: that it is sound, or why it isn't.
-use Rattle.std.proofs.Common.{◌≡◌, ◌⊎◌, inl, inr, Bool, true, false, cond, ◌&&◌, ◌||◌, [], Option, Some, None, option_map, unwrap_or, is_some, refl, sym, ◌∙◌, ap, subst, bytes_eq, Vec, ℕ, Result, Ok, Err}
+use Rattle.std.proofs.Common.{◌≡◌, inl, inr, Bool, true, false, cond, ◌&&◌, ◌||◌, [], Option, Some, None, option_map, unwrap_or, is_some, refl, sym, ◌∙◌, ap, subst, bytes_eq, Vec, ℕ, Result, Ok, Err}
 use Rattle.std.specs.Prelude.{IsTrue, IfErr, IfOk, OnOk}
 use Rattle.std.specs.List.{list_any}
 use Rattle.std.specs.declared.alloc.Global.{Global}
@@ -20,8 +20,8 @@ use Rattle.history_check_names.specs.Logs.{HasFault, SpellsLog}
 use Rattle.history_check_names.specs.Sound.{IsApart, IsSoundFile}
 use Rattle.history_check_names.specs.Packed.{has_name, has_record, is_packed_text}
 use Rattle.history_check_names.specs.PackedRead.{IsPackedFault, ReadsPacked, names_in}
-use Rattle.history_check_names.specs.Stored.{is_of_wrong_kind, is_tag_of, may_be_held}
-use Rattle.history_check_objects.specs.Stored.{Fact, Facts, facts_in, kind_in}
+use Rattle.history_check_names.specs.Stored.{is_of_wrong_kind, may_be_held}
+use Rattle.history_check_objects.specs.Stored.{Facts, kind_in}
 use Rattle.history_check_names.specs.declared.error.NamesError.{NamesError}
 use Rattle.history_check_names.specs.declared.error.NamesError.TheVariants.{NoHead, BadHead, Stray, Unfinished, BadName, PrivateName, Symbolic, Missing, WrongKind, BadPacked, BadPeeled, Collides, BadLog, LongLogLine, LogWithoutName, File, Memory}
 use Rattle.history_check_names.specs.declared.log.LogFault.{LogFault}

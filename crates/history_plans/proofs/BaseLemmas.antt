@@ -315,20 +315,17 @@ all_more {X} P xs more x all one is = subst (λ (ys : List X). AllByRecursion P 
     go (y ∷ ys) all = (all.0, go ys all.1)
 
 -- it holds of each of them
-pub all_at : {X : Type 0} (P : X → Type 0) (xs : List X) (i : ℕ) (x : X) → i < length xs → x ≡ get_or xs i x → AllByRecursion P xs → P x
-all_at P xs i x less is all = subst P (sym is) (go xs i less all)
-  where
-    go : (xs : List X) (i : ℕ) → i < length xs → AllByRecursion P xs → P (get_or xs i x)
-    go [] i less all = absurd (omega arith)
-    go (y ∷ ys) zero less all = all.0
-    go (y ∷ ys) (suc i) less all = go ys i (omega arith) all.1
+pub all_at : {X : Type 0} (P : X → Type 0) (xs : List X) (i : ℕ) (d : X) → i < length xs → AllByRecursion P xs → P (get_or xs i d)
+all_at P [] i d less all = absurd (omega arith)
+all_at P (x ∷ xs) zero d less all = all.0
+all_at P (x ∷ xs) (suc i) d less all = all_at P xs i d (omega arith) all.1
 
 -- what is the same of each so far is the same of one more
-pub mapped_added : {X Y Z : Type 0} (f : Y → Z) (k : X → Z) (xs : List X) (i : ℕ) (x : X) (y : Y) (ys more : List Y) → i < length xs → x ≡ get_or xs i x → f y ≡ k x → map f ys ≡ map k (take i xs) → more ≡ ys ++ y ∷ []
+pub mapped_added : {X Y Z : Type 0} (f : Y → Z) (k : X → Z) (xs : List X) (i : ℕ) (d : X) (y : Y) (ys more : List Y) → i < length xs → f y ≡ k (get_or xs i d) → map f ys ≡ map k (take i xs) → more ≡ ys ++ y ∷ []
     → map f more ≡ map k (take (i + 1) xs)
-mapped_added f k xs i x y ys more less is same so_far added =
+mapped_added f k xs i d y ys more less same so_far added =
     ap (map f) added ∙ map-append f ys (y ∷ []) ∙ (λ j. so_far j ++ same j ∷ [])
-    ∙ sym (ap (map k) (take_more xs i x less ∙ ap (λ z. take i xs ++ z ∷ []) (sym is)) ∙ map-append k (take i xs) (x ∷ []))
+    ∙ sym (ap (map k) (take_more xs i d less) ∙ map-append k (take i xs) (get_or xs i d ∷ []))
 
 -- ---- ids that occur twice
 

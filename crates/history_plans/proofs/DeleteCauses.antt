@@ -26,7 +26,6 @@ use Rattle.history_repository.specs.declared.stopped.Stopped.{Stopped}
 use Rattle.history_plans.proofs.FirstCauses.{find_after_none, find_in_front}
 use Rattle.history_repository.proofs.WordCauses.{any_map, commit_told, words_told as all_words_told}
 use Rattle.history_repository.proofs.HeldLemmas.{commit_stands}
-use Rattle.gix_ref_file.specs.declared.files.FileError.TheVariants as files
 use Rattle.history_model.specs.Repository as plain
 use Rattle.history_plans.specs.declared.base.Expected.TheVariants as expected
 use Rattle.history_repository.specs.declared.words.WordMeaning as meant

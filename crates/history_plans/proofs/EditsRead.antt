@@ -18,7 +18,7 @@ use Rattle.history_objects.specs.Stores.{AreObjectsOf}
 use Rattle.history_texts.specs.declared.object.NewObject.{NewObject}
 use Rattle.history_word.specs.Commands.{AreEdits, IsEdit}
 use Rattle.history_word.specs.declared.command.Edit.{Edit}
-use Rattle.history_plans.specs.Files.{AreReadAs, HasSource, IsChangeOf, IsFoundFor, TellsRead, grafts_badly, kept_edit}
+use Rattle.history_plans.specs.Files.{AreReadAs, HasSource, IsChangeOf, TellsRead, grafts_badly, kept_edit}
 use Rattle.history_plans.specs.declared.editing.Changes.{Changes}
 use Rattle.history_plans.specs.declared.editing.PathChange.{PathChange}
 use Rattle.history_repository.specs.declared.stored.PeeledCommit.{PeeledCommit}

@@ -16,7 +16,6 @@ use Rattle.history_names.proofs.Locks.{lock_is_lock}
 use Rattle.history_plans.specs.Halves.{FitsAmong}
 use Rattle.std.proofs.lemmas.Bool.{or_cases, or_parts, and_parts}
 use Rattle.history_model.proofs.WholePaths.{begins_front, begins_parts}
-use Rattle.gix_ref_file.specs.declared.files.FileError.TheVariants as files
 use Rattle.history_model.specs.Repository as plain
 
 -- ---- the places of the files of names

@@ -18,7 +18,7 @@ use Rattle.gix_traverse_graph.proofs.Listing.{has_listed}
 use Rattle.gix_traverse_graph.proofs.Lists.{at_append, at_from_contains, at_from_take, contains_from_at}
 use Rattle.history_model.specs.Answers.{commits_of, parents_at}
 use Rattle.history_model.specs.Forms.{IsWritten}
-use Rattle.history_model.specs.Objects.{Actor, CommitValue, Value, StoredCommit, StoredTag, StoredBytes, StoredFolder}
+use Rattle.history_model.specs.Objects.{Actor, CommitValue, Value, StoredCommit}
 use Rattle.history_model.specs.Repository.{Repository, HoldsCommit, IsWholeStore, as_commit, commit_at}
 use Rattle.history_model.proofs.IdLemmas.{id_itself, one_id}
 use Rattle.history_model.proofs.WholeGrowth.{holds_value}

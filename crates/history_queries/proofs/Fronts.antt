@@ -1,5 +1,5 @@
 -- How a commit's text begins, and that of no other object; and texts of which the first bytes are all.
-use Rattle.std.proofs.Common.{◌≡◌, ◌∙◌, ◌<◌, ◌≤◌, ap, refl, sym, subst, arith, tests, Bool, true, false, ◌==◌, ℕ, [], List, length, take, drop, Option, None, Some, codes}
+use Rattle.std.proofs.Common.{◌≡◌, ◌∙◌, ◌≤◌, ap, refl, sym, arith, tests, Bool, true, false, ℕ, [], length, take, drop, Option, None, Some, codes}
 use Rattle.std.specs.Prelude.{is_some, nat_le, option_map, unwrap_or}
 use Rattle.std.proofs.lemmas.List.{length-take-le, take_all, take_at}
 use Rattle.gix_hash_id.specs.declared.kind.Kind.{Kind}
@@ -44,14 +44,14 @@ front_read text buffer read front room count is filled told size =
 
 -- ---- a front that is all of its text
 
-within : (text : Bytes) (short : Bool) → nat_le (length text) 1024 ≡ short → (length (take 1024 text) == 1024) ≡ false → length text ≤ 1024
+within : (text : Bytes) (short : Bool) → nat_le (length text) 1024 ≡ short → (length (take 1024 text) ≡ 1024 → ⊥) → length text ≤ 1024
 within text true is other = grind (arith, tests, is)
-within text false is other = let long : 1024 ≤ length text = grind (arith, tests, is) in let full = length-take-le 1024 text long in absurd (grind (arith, tests, full, other))
+within text false is other = let long : 1024 ≤ length text = grind (arith, tests, is) in absurd (other (length-take-le 1024 text long))
 
-pub front_whole : (kind : Kind) (value : Value) (front : Bytes) → front ≡ front_of kind value → (length front == 1024) ≡ false → front ≡ value_text kind value
+pub front_whole : (kind : Kind) (value : Value) (front : Bytes) → front ≡ front_of kind value → (length front ≡ 1024 → ⊥) → front ≡ value_text kind value
 front_whole kind value front is other =
     let text = value_text kind value in
-    is ∙ take_all 1024 text (within text (nat_le (length text) 1024) refl (ap (λ f. length f == 1024) (sym is) ∙ other))
+    is ∙ take_all 1024 text (within text (nat_le (length text) 1024) refl (λ full. other (ap length is ∙ full)))
 
 -- what follows its header is its content
 pub content_told : (kind : Kind) (value : Value) (front : Bytes) (object : ObjectKind) (content : Bytes) → front ≡ value_text kind value → front ≡ object_text object content → content ≡ content_of kind value

@@ -155,8 +155,8 @@ fn log_text(alloc: Global, ids: &[ObjectId]) -> Result<Vec<u8>, AllocError>
 /// Returns what the words of a log's items read as: those of the tips, and those of the hidden
 /// commits.
 ///
-/// All of the words are read, each object once, and none is refused. It is a fault if a call of the files failed, or
-/// if no memory is left.
+/// All of the words are read, each object once, and none is refused. It is a fault if a call of the
+/// files failed, or if no memory is left.
 fn read_ends<F: Files>(
     repository: &Repository<F>,
     alloc: Global,

@@ -144,9 +144,9 @@ fn parents_along(order: &Order) -> Parents
     }
 }
 
-/// Returns the commits that are known, and with them, if all are to be kept, those without rows that
-/// tips or hidden commits reach along the order's parents: each of these is read once. The tips, the
-/// hidden ones, what is known and the faults are those of `commits`.
+/// Returns the commits that are known, and with them, if all are to be kept, those without rows
+/// that tips or hidden commits reach along the order's parents: each of these is read once. The
+/// tips, the hidden ones, what is known and the faults are those of `commits`.
 fn read_ahead<F: Files>(
     repository: &Repository<F>,
     alloc: Global,

@@ -82,8 +82,8 @@ fn whole_content(alloc: Global, front: &[u8]) -> Result<Option<Vec<u8>>, AllocEr
     }
 }
 
-/// Returns the content of a stored commit whose text begins so. It is read only if its text is longer
-/// than that. The faults are those of `is_commit`.
+/// Returns the content of a stored commit whose text begins so. It is read only if its text is
+/// longer than that. The faults are those of `is_commit`.
 fn content_after<F: Files>(
     repository: &Repository<F>,
     alloc: Global,
@@ -103,8 +103,8 @@ fn content_after<F: Files>(
 }
 
 /// Returns whether a stored object is a commit. If it has no row, the first bytes of its file are
-/// read; the content of a commit is kept then. It is a fault if a call of the files failed, or if no
-/// memory is left.
+/// read; the content of a commit is kept then. It is a fault if a call of the files failed, or if
+/// no memory is left.
 fn is_commit<F: Files>(
     repository: &Repository<F>,
     alloc: Global,
@@ -200,8 +200,8 @@ fn told<F: Files>(
     Ok(commits)
 }
 
-/// Returns the rows of all stored commits. Of each object without a row the first bytes are read, and
-/// of a commit the rest, if there is more. It is a fault if a call of the files failed, or if no
+/// Returns the rows of all stored commits. Of each object without a row the first bytes are read,
+/// and of a commit the rest, if there is more. It is a fault if a call of the files failed, or if no
 /// memory is left.
 pub fn all_rows<F: Files>(repository: &Repository<F>, alloc: Global) -> Result<Vec<Row>, Stopped>
     ensures rows { (r : plain.Repository) → Stands F.is_honest F.history repository.now r

@@ -1,5 +1,5 @@
 -- The two parts that were surveyed, as one repository.
-use Rattle.std.proofs.Common.{◌≡◌, ◌⊎◌, ℕ, ◌<◌, ◌^◌, ◌&&◌, not, nat_le, length-append, take, drop, unwrap_or, true, cond, [], ◌∷◌, ◌++◌, length, refl, sym, ◌∙◌, ap, subst, arith, inl, inr, codes, Option, Some, None, is_some, option_map}
+use Rattle.std.proofs.Common.{◌≡◌, ℕ, ◌&&◌, not, nat_le, length-append, take, drop, unwrap_or, true, [], ◌∷◌, ◌++◌, length, refl, sym, ◌∙◌, ap, subst, arith, inl, inr, codes, Option, Some, None, is_some, option_map}
 use Rattle.std.specs.FinMap.{contains_key, empty, get}
 use Rattle.std.proofs.lemmas.Bool.{and_parts}
 use Rattle.std.proofs.lemmas.List.{append_cancel_left, append_cancel_right, take-append-le, take_all}
@@ -52,10 +52,10 @@ same_branch a b e = append_cancel_left (codes "ref: ") a b (append_cancel_right 
 -- ---- what a tag's first line says
 
 -- the id in `object <hex>`, with which a tag begins
-target_in : Kind → Bytes → Option Id
+abbrev target_in : Kind → Bytes → Option Id
 target_in kind content = id_from_hex kind (take (hex_len kind) (drop 7 content))
 
-fact_read : Kind → ObjectKind → Bytes → Fact
+abbrev fact_read : Kind → ObjectKind → Bytes → Fact
 fact_read kind kinds.Tag content = record { kind = kinds.Tag; target = target_in kind content }
 fact_read kind kinds.Commit content = record { kind = kinds.Commit; target = None }
 fact_read kind kinds.Tree content = record { kind = kinds.Tree; target = None }
@@ -80,6 +80,7 @@ front_taken n h a b c d e f same =
     ∙ take_all n h (omega (arith, same))
 
 target_read : (kind : Kind) (tag : TagValue) → is_id kind tag.target ≡ true → target_in kind (tag_content tag) ≡ Some tag.target
+unfolding target_in
 target_read kind tag is =
     ap (id_from_hex kind) (front_taken (hex_len kind) (hex tag.target) (10 ∷ []) (line (codes "type commit")) (line (codes "tag " ++ tag.name)) (line (codes "tagger " ++ actor_text tag.tagger)) (line []) tag.message
     (length-hex tag.target ∙ id_length kind tag.target is))
@@ -107,6 +108,7 @@ same_ids kind tree a b in_a in_b own_a own_b id = go (get a id) refl (get b id) 
 
 -- the fact read from the text of a value is the value's fact
 fact_told : (kind : Kind) (v : Value) → IsWrittenValue kind v → fact_read kind (object_kind v) (content_of kind v) ≡ fact_of v
+unfolding fact_read
 fact_told kind (StoredCommit commit) written = refl
 fact_told kind (StoredTag tag) written = ap (λ o. record { kind = kinds.Tag; target = o }) (target_read kind tag (tag_id kind tag written.0))
 fact_told kind (StoredBytes bytes) written = refl

@@ -1,4 +1,4 @@
-use Rattle.std.proofs.Common.{◌≡◌, ℕ, ◌++◌, List, Option, map, sym, ◌∙◌, ap, subst, Err, option_map, option_to_list}
+use Rattle.std.proofs.Common.{ℕ, ◌++◌, List, Option, map, sym, ◌∙◌, ap, subst, Err, option_map, option_to_list}
 use Rattle.std.specs.Prelude.{Vec, ⊤, option_and_then}
 use Rattle.history_word.specs.Commands.{AreEdits}
 use Rattle.history_word.specs.declared.command.Edit.{Edit}
@@ -18,7 +18,6 @@ use Rattle.history_model.specs.Commands.{Commit}
 use Rattle.history_model.specs.Repository.{HoldsCommit}
 use Rattle.history_layout.proofs.OfferedReads.{parents_are_commits}
 use Rattle.history_repository.specs.Held.{IsHeld}
-use Rattle.history_repository.specs.declared.words.WordMeaning.{WordMeaning}
 use Rattle.history_repository.specs.declared.stopped.Stopped.TheVariants.{Refused, Fault}
 use Rattle.history_plans.proofs.BaseLemmas.{gives_told, others_meant, parent_meanings, source_ids_told, sources_rooted, words_so, held_told, ids_told, parents_rooted, parents_told, parents_so, sources_held}
 use Rattle.history_plans.proofs.Tested.{told_in_front, told_behind, none_joined, stopped_by, ends_told}

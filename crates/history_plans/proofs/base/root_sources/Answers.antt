@@ -1,4 +1,4 @@
-use Rattle.std.proofs.Common.{◌∙◌, List, Option, ap, map, option_map, subst, sym}
+use Rattle.std.proofs.Common.{◌∙◌, List, None, Option, ap, map, option_map, subst, sym}
 use Rattle.std.specs.List.{AllByRecursion}
 use Rattle.std.proofs.lemmas.List.{take_all}
 use Rattle.history_plans.specs.Bases.{IsHeldSource, IsRootedSource}
@@ -15,10 +15,10 @@ loop-source-init g c = λ r h held known.
 pub loop-source-preserved : goal.loop-source-preserved
 loop-source-preserved g c = λ r h held known.
     let so_far = c.loop-source.invariant r h held known in
-    let own = all_at (IsHeldSource r) c.args.sources.now c.loop-source.source-index c.source-item.result c.loop-source-test.true c.source-item.is held in
+    let own = all_at (IsHeldSource r) c.args.sources.now c.loop-source.source-index None c.loop-source-test.true held in
     let read = c.in_ok-root_source.ensures r h own so_far.1 in (
       (
-        mapped_added (option_map peeled_id) (option_map peeled_id) c.args.sources.now c.loop-source.source-index c.source-item.result c.in_ok-root_source.field-0 c.loop-source.roots.items c.push.new.self.items c.loop-source-test.true c.source-item.is
+        mapped_added (option_map peeled_id) (option_map peeled_id) c.args.sources.now c.loop-source.source-index None c.in_ok-root_source.field-0 c.loop-source.roots.items c.push.new.self.items c.loop-source-test.true
             read.0.0 so_far.0.0 c.in_ok-push.ensures.items,
         all_more (IsRootedSource r) c.loop-source.roots.items c.push.new.self.items c.in_ok-root_source.field-0 so_far.0.1 read.0.1 c.in_ok-push.ensures.items,
       ),
@@ -27,7 +27,7 @@ loop-source-preserved g c = λ r h held known.
 
 pub returns-in_err-root_source : goal.returns-in_err-root_source
 returns-in_err-root_source g c = λ r h held known.
-    let own = all_at (IsHeldSource r) c.args.sources.now c.loop-source.source-index c.source-item.result c.loop-source-test.true c.source-item.is held in
+    let own = all_at (IsHeldSource r) c.args.sources.now c.loop-source.source-index None c.loop-source-test.true held in
     fault_told g.F.Files.reading_may_fail _ c.from_residual.result _ c.from_residual.ensures.1 (c.in_err-root_source.ensures r h own (c.loop-source.invariant r h held known).1)
 
 pub returns : goal.returns

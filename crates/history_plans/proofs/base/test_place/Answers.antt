@@ -1,4 +1,4 @@
-use Rattle.std.proofs.Common.{◌≡◌, sym, ◌∙◌, ap, subst, Err, true, false, Option, None, Some}
+use Rattle.std.proofs.Common.{sym, ◌∙◌, ap, subst, Err, true, false, Option, None, Some}
 use Rattle.std.proofs.lemmas.Result.{err_from_is_err_and}
 use Rattle.std.specs.Prelude.{⊤}
 use Rattle.history_model.specs.Bytes.{Bytes}

@@ -1,4 +1,4 @@
-use Rattle.std.proofs.Common.{◌≡◌, ◌∙◌, ap, not, sym, bytes_eq, true, false}
+use Rattle.std.proofs.Common.{◌∙◌, ap, sym, bytes_eq, true, false}
 use Rattle.std.proofs.lemmas.Bool.Decides.{Decides-eqb}
 use Rattle.std.proofs.lemmas.Slice.Eq.{slice_eq-Decides}
 use Rattle.history_model.proofs.PlaceLemmas.{text_itself, texts_apart}

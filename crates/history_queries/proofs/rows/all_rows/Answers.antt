@@ -1,12 +1,9 @@
-use Rattle.std.proofs.Common.{◌≡◌, ◌∙◌, ap, sym, subst, arith, Err, List, []}
+use Rattle.std.proofs.Common.{◌∙◌, ap, sym, subst, Err, List}
 use Rattle.std.proofs.lemmas.Result.{err_from_is_err_and}
-use Rattle.gix_hash_id.specs.Id.{id_of}
 use Rattle.gix_hash_id.specs.declared.object_id.ObjectId.{ObjectId}
 use Rattle.gix_traverse_graph.specs.declared.parents.Parents.TheVariants.{All}
 use Rattle.history_model.specs.Answers.{rows_of}
 use Rattle.history_walks.specs.Rows.{AreTheRows}
-use Rattle.history_walks.specs.Telling.{AreAllTold}
-use Rattle.history_walks.specs.declared.told.Told.{Told}
 use Rattle.history_walks.specs.declared.listing.Order.TheVariants.{Topological}
 use Rattle.history_walks.specs.declared.listing.Request.{Request}
 use Rattle.history_queries.specs.Indexing.{AreToldOf}

@@ -19,13 +19,13 @@ returns-in_err-front g c = λ r value stands at read.
 pub returns-then-not-starts_with : goal.returns-then-not-starts_with
 returns-then-not-starts_with g c = λ r value stands at read.
     let told = front_told r.kind value c.deref.result.now (c.deref.ensures.value ∙ c.in_ok-front.ensures r value stands at) in
-    (sym (sym c.starts_with.ensures ∙ c.if-not-starts_with.true) ∙ told, read)
+    (sym (sym c.starts_with.ensures.value ∙ c.if-not-starts_with.true) ∙ told, read)
 
 pub returns-in_err-content : goal.returns-in_err-content
 returns-in_err-content g c = λ r value stands at read.
     let front = c.in_ok-front.ensures r value stands at in
     let told = front_told r.kind value c.deref.result.now (c.deref.ensures.value ∙ front) in
-    let commit = commit_told value (sym told ∙ sym c.starts_with.ensures ∙ c.if-not-starts_with.false) in
+    let commit = commit_told value (sym told ∙ sym c.starts_with.ensures.value ∙ c.if-not-starts_with.false) in
     fault_told g.F.Files.reading_may_fail _ c.from_residual-in_err-content.result _ c.from_residual-in_err-content.ensures.1
     (c.in_err-content.ensures r commit.0 stands (at ∙ ap Some commit.1) (c.deref-2.ensures.value ∙ front ∙ ap (front_of r.kind) commit.1))
 
@@ -33,7 +33,7 @@ pub returns : goal.returns
 returns g c = λ r value stands at read.
     let front = c.in_ok-front.ensures r value stands at in
     let told = front_told r.kind value c.deref.result.now (c.deref.ensures.value ∙ front) in
-    let is = sym told ∙ sym c.starts_with.ensures ∙ c.if-not-starts_with.false in
+    let is = sym told ∙ sym c.starts_with.ensures.value ∙ c.if-not-starts_with.false in
     let commit = commit_told value is in
     let content = c.in_ok-content.ensures r commit.0 stands (at ∙ ap Some commit.1) (c.deref-2.ensures.value ∙ front ∙ ap (front_of r.kind) commit.1) in
     (sym is, c.in_ok-insert.ensures.others (table_of r) read (content_there r (id_of c.args.id.now) commit.0 c.in_ok-content.content.items (at ∙ ap Some commit.1) content))

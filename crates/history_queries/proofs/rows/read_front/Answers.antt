@@ -1,5 +1,6 @@
-use Rattle.std.proofs.Common.{◌≡◌, ◌∙◌, ap, arith, length, sym, subst, unwrap_or, [], List, ℕ}
+use Rattle.std.proofs.Common.{◌≡◌, ◌∙◌, ap, arith, drop, length, sym, subst, take, unwrap_or, ◌++◌, [], List, ℕ}
 use Rattle.std.specs.Prelude.{Err}
+use Rattle.std.proofs.lemmas.List.{take_at}
 use Rattle.gix_hash_id.specs.Id.{id_of}
 use Rattle.gix_ref_file.specs.Tree.{bytes_at, bytes_of, node_at, overwritten, part}
 use Rattle.history_model.specs.Objects.{value_text}
@@ -17,13 +18,16 @@ returns g c = λ r value stands at.
     let history = g.F.Files.history in
     let own = c.args.repository.now in
     let place = c.deref.ensures.value ∙ c.in_ok-place.ensures in
-    let text : bytes_at (history c.files.result.now).tree c.deref.result.now ≡ value_text r.kind value =
-    ap (λ files. bytes_at (history files).tree c.deref.result.now) c.files.ensures
+    let text : bytes_at (history c.files-files.result.now).tree c.deref.result.now ≡ value_text r.kind value =
+    ap (λ files. bytes_at (history files).tree c.deref.result.now) c.files-files.ensures
     ∙ ap (bytes_at (history (objects_part own)).tree) place
     ∙ ap (λ o. unwrap_or o []) (text_stands g.F.Files.is_honest history own r stands (id_of c.args.id.now) value at) in
-    let honest = subst g.F.Files.is_honest (sym c.files.ensures) stands.honest_objects in
+    let honest = subst g.F.Files.is_honest (sym c.files-files.ensures) stands.honest_objects in
     let buffer = c.deref_mut.result.now in
-    front_read (value_text r.kind value) buffer c.read_at.new.buffer c.truncate.new.self.items 1024 c.unwrap_or-count.result c.truncate.ensures.items
+    let read = c.read_at.new.buffer in
+    let filled : take c.in_ok-front.front.len (read ++ drop (length read) c.in_ok-front.front.items) ≡ read =
+    take_at read (drop (length read) c.in_ok-front.front.items) c.in_ok-front.front.len (omega (arith, c.in_ok-read_at.ensures.len, c.deref_mut.ensures.len)) in
+    front_read (value_text r.kind value) buffer read c.truncate.new.self.items 1024 c.unwrap_or-count.result (c.truncate.ensures.items ∙ ap (take c.unwrap_or-count.result) filled)
     (c.in_ok-read_at.ensures.bytes honest ∙ ap (λ (bytes : List ℕ). overwritten buffer (part bytes 0 (length buffer))) text)
-    (c.unwrap_or-count.ensures ∙ ap (λ o. unwrap_or o 0) (c.in_ok-read_at.ensures.count honest) ∙ counted (bytes_of (node_at (history c.files.result.now).tree c.deref.result.now)) (length buffer) ∙ ap (λ (bytes : List ℕ). length (part bytes 0 (length buffer))) text)
+    (c.unwrap_or-count.ensures ∙ ap (λ o. unwrap_or o 0) (c.in_ok-read_at.ensures.count honest) ∙ counted (bytes_of (node_at (history c.files-files.result.now).tree c.deref.result.now)) (length buffer) ∙ ap (λ (bytes : List ℕ). length (part bytes 0 (length buffer))) text)
     (omega (arith, c.deref_mut.ensures.len, c.in_ok-front.ensures.len))

@@ -1,6 +1,5 @@
 use Rattle.std.proofs.Common.{◌≡◌, ◌∙◌, ap, sym, subst, Contains, IfSome, option_map}
 use Rattle.gix_traverse_commit_known.specs.Told.{rows_of as graph_rows}
-use Rattle.history_repository.specs.Face.{rows_in}
 use Rattle.history_queries.proofs.rows.row_of.Goals as goal
 
 pub returns : goal.returns

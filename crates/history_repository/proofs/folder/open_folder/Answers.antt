@@ -21,7 +21,7 @@ pub returns-in-Ok-clause-stands : goal.returns-in-Ok-clause-stands
 returns-in-Ok-clause-stands g c = λ objects names.
     let files = c.in-Ok.ensures.files.0 in
     subst (λ (kind : Kind). IfOk c.open_names.result (λ opened. (r : Repository) × IsOpenedAs kind (trees_of g.F.Files.history c.args.objects c.args.names) opened r)) c.in-Ok.ensures.files.1
-    (subst (λ own. IfOk c.open_names.result (λ opened. (r : Repository) × IsOpenedAs (kind_of_objects c.in-Ok.objects) (trees_of g.F.Files.history own c.args.names) opened r)) files
+    (subst (λ own. IfOk c.open_names.result (λ opened. (r : Repository) × IsOpenedAs (kind_of_objects c.in-Ok.opened.objects) (trees_of g.F.Files.history own c.args.names) opened r)) files
     (c.open_names.ensures.stands (subst g.F.Files.is_honest (sym files) objects) names))
 
 pub returns-in-Err-clause-accepted : goal.returns-in-Err-clause-accepted

@@ -14,9 +14,9 @@ pub returns-in_err-meant : goal.returns-in_err-meant
 returns-in_err-meant g c r value stands at known =
     fault_told g.F.Files.reading_may_fail _ c.from_residual.result _ c.from_residual.ensures.1 (c.in_err-meant.ensures r value stands at)
 
-pub returns-in_default : goal.returns-in_default
-returns-in_default g c r value stands at known =
-    (record { peels = sym (subst (IsMeantBy r (id_of c.args.id)) c.in_default.is (c.in_ok-meant.ensures r value stands at)); rooted = tt }, known)
+pub returns-in_default-2 : goal.returns-in_default-2
+returns-in_default-2 g c r value stands at known =
+    (record { peels = sym (subst (IsMeantBy r (id_of c.args.id)) c.in_default-2.is (c.in_ok-meant.ensures r value stands at)); rooted = tt }, known)
 
 pub returns-in_err-root : goal.returns-in_err-root
 returns-in_err-root g c r value stands at known =

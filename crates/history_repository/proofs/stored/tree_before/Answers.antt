@@ -27,7 +27,7 @@ returns-in_err-root_peeled-in-Some g c = λ r h all rooted known.
     let has = (subst (λ (parents : List PeeledCommit). AllByRecursion (HasRoot r) parents) first.1 rooted).0 in
     let is = (c.in_ok-commit-in-Some.ensures r h holds has known).0 in
     let held = held_commit r h.whole.whole.store (peeled_id (c.in-Some.commit).now) holds in
-    fault_told g.F.Files.reading_may_fail _ c.from_residual-2.result _ c.from_residual-2.ensures.1 (c.in_err-root_peeled-in-Some.ensures r held.0 h (ap (get r.objects) is.0 ∙ held.1) is.1)
+    fault_told g.F.Files.reading_may_fail _ c.from_residual-in_err-root_peeled-in-Some.result _ c.from_residual-in_err-root_peeled-in-Some.ensures.1 (c.in_err-root_peeled-in-Some.ensures r held.0 h (ap (get r.objects) is.0 ∙ held.1) is.1)
 
 pub returns-in_ok-root_peeled-in-Some : goal.returns-in_ok-root_peeled-in-Some
 returns-in_ok-root_peeled-in-Some g c = λ r h all rooted known.

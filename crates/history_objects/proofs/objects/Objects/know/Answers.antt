@@ -1,4 +1,4 @@
-use Rattle.std.proofs.Common.{◌≡◌, ◌∙◌, ◌||◌, List, ap, refl}
+use Rattle.std.proofs.Common.{◌∙◌, ◌||◌, List, ap, refl}
 use Rattle.std.specs.FinMap.{contains_key}
 use Rattle.gix_hash_id.specs.declared.object_id.ObjectId.{ObjectId}
 use Rattle.history_texts.specs.IdLists.{is_one_of}
