@@ -5,8 +5,12 @@ use Rattle.std.proofs.lemmas.List.{append-nil}
 use Rattle.gix_object_tree.specs.Entry.{Item}
 use Rattle.gix_object_tree.specs.Mode.{is_tree_value}
 use Rattle.gix_object_lookup.specs.Table.{Table}
-use Rattle.gix_object_nodes.specs.Files.{Path, Leaf, FileMap, Trees, SameFiles, is_null, through, leaf_of, tree_under, unless_tree, named, files_of_entry, files_of_tree, behind, put, put_at}
-use Rattle.gix_object_editor.specs.Stored.{HasStored}
+use Rattle.gix_object_nodes.specs.Files.{Path, Leaf, FileMap, Trees, is_null, through, leaf_of, tree_under, unless_tree, named, files_of_entry, files_of_tree, behind, put, put_at}
+use Rattle.gix_hash_id.specs.declared.object_id.ObjectId.{ObjectId}
+use Rattle.gix_object_tree.specs.declared.tree.mode.EntryKind.{EntryKind}
+use Rattle.gix_object_editor.specs.declared.tree.editor.state.Editor.{Editor}
+use Rattle.gix_object_editor.specs.Editor.{files_of, leaf_of_kind}
+use Rattle.gix_object_editor.specs.Outcomes.{Puts, Grafts}
 use Rattle.gix_object_editor.proofs.Raised.{begins_behind}
 
 put_below : (trees : Trees) (p rest : Path) (leaf : Leaf) (files : FileMap) → put trees p leaf files (p ++ rest) ≡ files_of_entry trees rest leaf
@@ -30,18 +34,18 @@ file_alone trees leaf file some =
     ap (λ b. if b then None else unless_tree (tree_under trees leaf) leaf) some
     ∙ ap (λ b. unless_tree (if b then trees leaf.id else None) leaf) file
 
-module _ {X E : Type 0} (table : Table) (new old : Trees → FileMap) (p : Path) (leaf : Leaf) where
-  pub folder_put : (r : Result X E) → OnOk r ((trees : Trees) → HasStored table trees → SameFiles (new trees) (put trees p leaf (old trees)))
-      → OnOk r ((trees : Trees) → HasStored table trees → is_tree_value leaf.mode.value ≡ true → is_null leaf.id ≡ false → (items : List Item) → trees leaf.id ≡ Some items
-      → SameFiles (λ rest. new trees (p ++ rest)) (files_of_tree trees items))
-  folder_put (Ok x) h = λ trees has tree some items stored rest. h trees has (p ++ rest) ∙ put_below trees p rest leaf (old trees) ∙ folder_files trees leaf items rest tree some stored
-  folder_put (Err e) h = tt
-
-  pub file_put : (r : Result X E) → OnOk r ((trees : Trees) → HasStored table trees → SameFiles (new trees) (put trees p leaf (old trees)))
-      → OnOk r ((trees : Trees) → HasStored table trees → is_tree_value leaf.mode.value ≡ false → is_null leaf.id ≡ false → new trees p ≡ Some leaf)
-  file_put (Ok x) h = λ trees has file some.
-      h trees has p ∙ ap (λ q. put trees p leaf (old trees) q) (sym (append-nil p)) ∙ put_below trees p [] leaf (old trees) ∙ file_alone trees leaf file some
-  file_put (Err e) h = tt
+-- what is put is grafted
+pub grafts_put : {S X E : Type 0} (is_honest : S → Type 0) (table : S → Table) (p : Path) (kind : EntryKind) (id : ObjectId) (old new : Editor S) (r : Result X E)
+    → OnOk r (Puts is_honest table p (leaf_of_kind kind id) old new) → OnOk r (Grafts is_honest table p kind id old new)
+grafts_put is_honest table p kind id old new (Err e) h = tt
+grafts_put is_honest table p kind id old new (Ok x) h =
+    let leaf : Leaf = leaf_of_kind kind id in
+    let puts : Puts is_honest table p leaf old new = h in
+    record {
+      folder = λ honest trees has tree some items stored rest. puts.files honest trees has (p ++ rest) ∙ put_below trees p rest leaf (files_of trees old) ∙ folder_files trees leaf items rest tree some stored;
+      file = λ honest trees has file some.
+          puts.files honest trees has p ∙ ap (λ q. put trees p leaf (files_of trees old) q) (sym (append-nil p)) ∙ put_below trees p [] leaf (files_of trees old) ∙ file_alone trees leaf file some;
+    }
 
 -- a refusal that is one of two
 pub or_other : {X E : Type 0} (r : Result X E) (P Q : E → Type 0) → IfErr r P → IfErr r (λ e. Q e ⊎ P e)

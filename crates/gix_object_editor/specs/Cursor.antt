@@ -17,6 +17,11 @@ use Rattle.gix_object_editor.specs.Editor.{files_of, LeadsInto, EditFault, IsCha
 abbrev pub StandsAt : {S : Type 0} → Cursor S → Path → Type 0
 StandsAt cursor path = LeadsTo (slots_of cursor.editor.now.nodes.items) path cursor.at.0 []
 
+-- the cursor stays where it was, on the editor that it was lent
+pub record Stays {S : Type 0} (old new : Cursor S) : Type 0 where
+  pub stands : (base : Path) → StandsAt old base → StandsAt new base
+  pub lent : new.editor.ghost_name ≡ old.editor.ghost_name
+
 -- what an editor is left as if no cursor is returned, and why
 pub record IsLeft {S : Type 0} (honest may_fail : Type 0) (table : Table) (path : Path)
     (old left : Editor S) (error : Error) : Type 0 where

@@ -1,5 +1,5 @@
 -- An editor as its files.
-use Rattle.std.specs.Prelude.{ℕ, ◌≡◌, ◌≢◌, ◌⊎◌, true, false, List, [], ◌∷◌, ◌++◌, map, Option, Some, None, Result, OnOk, OnErr, IsTrue, ⊤}
+use Rattle.std.specs.Prelude.{ℕ, ◌≡◌, ◌≢◌, ◌⊎◌, true, false, List, [], ◌∷◌, ◌++◌, map, Option, Some, None, Result, OnErr, IsTrue, ⊤}
 use Rattle.std.specs.Borrow.{Bor}
 use Rattle.gix_hash_id.specs.Id.{Id, id_of}
 use Rattle.gix_hash_id.specs.declared.kind.Kind.{Kind}
@@ -109,11 +109,7 @@ EachEntryHas has editor = EachHas has (slots_of editor.nodes.items)
 abbrev pub OverStored : Type 0 → Table → (Trees → Type 0) → Type 0
 OverStored honest table P = honest → (trees : Trees) → HasStored table trees → P trees
 
--- the same if the call succeeds, and if it is refused
-abbrev pub OkOverStored : {X E : Type 0} → Type 0 → Table → Result X E → (Trees → Type 0) → Type 0
-OkOverStored honest table result P = honest
-    → OnOk result ((trees : Trees) → HasStored table trees → P trees)
-
+-- the same if the call is refused
 abbrev pub ErrOverStored : {X E : Type 0} → Type 0 → Table → Result X E → (Trees → Type 0) → Type 0
 ErrOverStored honest table result P = honest
     → OnErr result ((trees : Trees) → HasStored table trees → P trees)

@@ -6,4 +6,6 @@ pub mod Written
 pub mod Entries
 pub mod Laid
 pub mod Lending
+pub mod Grown
+pub mod Outcomes
 pub mod Cursor

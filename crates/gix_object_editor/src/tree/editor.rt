@@ -1,18 +1,17 @@
 //! Edits of a tree and the trees below it.
 
-ghost use Rattle.std.specs.Prelude.{◌≡◌, ◌≤◌, ◌+◌, ◌++◌, ◌⊎◌, List, length, map, option_map, IfOk, IfErr, OnOk, OnErr, Err, IsFalse, IsTrue, Some, None, true, false};
+ghost use Rattle.std.specs.Prelude.{◌≡◌, map, option_map, IfOk, IfErr, OnOk, OnErr, Err, ⊤};
 ghost use Rattle.std.specs.Borrow.{sem};
 ghost use Rattle.gix_hash_id.specs.Id.{id_of};
-ghost use Rattle.gix_object_tree.specs.Entry.{Item, item_of, own_item};
-ghost use Rattle.gix_object_tree.specs.Mode.{is_tree_value, kind_value};
-ghost use Rattle.gix_object_nodes.specs.Files.{Path, Leaf, Trees, IsEmptyTree, is_null, leaf_of, SameFiles, NamesAreFull, HasNoneBelow, HasSomeBelow, no_trees, removed, put, files_of_tree, entry_of_tree};
-ghost use Rattle.gix_object_editor.specs.Stored.{HasStored};
+ghost use Rattle.gix_object_tree.specs.Entry.{item_of, own_item};
+ghost use Rattle.gix_object_nodes.specs.Files.{IsEmptyTree, NamesAreFull, HasSomeBelow, no_trees};
 ghost use Rattle.gix_object_nodes.specs.Nodes.{slots_of, entry_at};
-ghost use Rattle.gix_object_editor.specs.Editor.{files_of, names_of, leaf_of_kind, LeadsThrough, LeadsInto, EditFault, GraftFault, LeafFault, IsFilled, IsFolder, IsChanged, ChangesNone, entry_over, entry_met, IsMadeAt, KeepsEntries, PutsEntry, MakesFoldersAbove, ClearsEntries, IsAsRead, IsAbove, IsOpenedAt, EachEntryHas, IsNonLeaf, asked_by, ErrOverStored, OkOverStored, OverStored};
-ghost use Rattle.gix_object_editor.specs.Asked.{front_of, Asks};
-ghost use Rattle.gix_object_editor.specs.declared.tree.editor.error.Error.TheVariants.{EmptyPathComponent, EmptyTree};
-ghost use Rattle.gix_object_editor.specs.Entries.{Property, PassesDown, MayStand, ItemsHave};
+ghost use Rattle.gix_object_editor.specs.Editor.{files_of, names_of, leaf_of_kind, IsNonLeaf};
+ghost use Rattle.gix_object_editor.specs.Asked.{front_of};
+ghost use Rattle.gix_object_editor.specs.declared.tree.editor.error.Error.TheVariants.{EmptyTree};
+ghost use Rattle.gix_object_editor.specs.Entries.{MayStand};
 ghost use Rattle.gix_object_tree.specs.WellFormed.{IsWellFormed};
+ghost use Rattle.gix_object_editor.specs.Outcomes.{IsKept, Removes, HadNoneBelow, Puts, Grafts, HasRoot, KeepsEach, AsksInto, FaultOfEdit, FaultOfGraft, FaultOfLeaf, Finds};
 
 mod cursor;
 mod edits;
@@ -48,18 +47,8 @@ impl<S: FindInto> Editor<S> {
     where
         S: Drop,
         requires { IsWellFormed (map own_item root.now.entries.items) }
-        ensures files { IfOk result (λ editor. (trees : Trees)
-            → SameFiles (files_of trees editor) (files_of_tree trees
-            (map own_item root.now.entries.items))) }
-        ensures entries { IfOk result (λ editor. (trees : Trees)
-            → SameFiles (entry_over trees editor) (entry_of_tree trees
-            (map own_item root.now.entries.items))) }
+        ensures root { IfOk result (HasRoot (map own_item root.now.entries.items)) }
         ensures store { IfOk result (λ editor. editor.store ≡ store) }
-        ensures each { IfOk result (λ editor. (has : Property)
-            → ItemsHave has (map own_item root.now.entries.items) → EachEntryHas has editor) }
-        ensures as_read { IfOk result (λ editor. (trees : Trees) → IsAsRead trees editor) }
-        ensures unchanged { IfOk result (λ editor. (tree : Path) → IsChanged editor tree → ⊥) }
-        ensures uncounted { IfOk result (λ editor. editor.lookups ≡ 0) }
     {
         let nodes = opened_root(alloc, root)?;
         Ok(Editor {
@@ -73,17 +62,7 @@ impl<S: FindInto> Editor<S> {
     /// Without memory nothing changes.
     pub fn set_root(&mut self, alloc: Global, root: &Tree) -> Result<(), AllocError>
         requires { IsWellFormed (map own_item root.now.entries.items) }
-        ensures files { OnOk result ((trees : Trees)
-            → SameFiles (files_of trees self.new)
-            (files_of_tree trees (map own_item root.now.entries.items))) }
-        ensures entries { OnOk result ((trees : Trees)
-            → SameFiles (entry_over trees self.new)
-            (entry_of_tree trees (map own_item root.now.entries.items))) }
-        ensures each { OnOk result ((has : Property)
-            → ItemsHave has (map own_item root.now.entries.items) → EachEntryHas has self.new) }
-        ensures as_read { OnOk result ((trees : Trees) → IsAsRead trees self.new) }
-        ensures still { OnOk result ((tree : Path) → IsChanged self.new tree → ⊥) }
-        ensures uncounted { OnOk result (self.new.lookups ≡ 0) }
+        ensures root { OnOk result (HasRoot (map own_item root.now.entries.items) self.new) }
         ensures unchanged { OnErr result (self.new ≡ self.old) }
         ensures store { self.new.store ≡ self.old.store }
     {
@@ -114,15 +93,7 @@ impl<S: FindInto> Editor<S> {
     pub fn get<'a>(&'a self, path: &[&'a [u8]]) -> Option<EntryRef<'a>>
         ensures answer { option_map item_of result ≡ entry_at (slots_of self.now.nodes.items) 0
             (names_of path.now) }
-        ensures file { (trees : Trees) (leaf : Leaf) (item : Item)
-            → files_of trees self.now (names_of path.now) ≡ Some leaf
-            → option_map item_of result ≡ Some item → leaf_of item ≡ leaf }
-        ensures stands { (trees : Trees) (item : Item) → option_map item_of result ≡ Some item
-            → entry_over trees self.now (names_of path.now) ≡ Some (leaf_of item) }
-        ensures there { (trees : Trees) (item : Item) → option_map item_of result ≡ Some item
-            → is_null item.id ≡ false → trees item.id ≡ None
-            → (files_of trees self.now (names_of path.now) ≡ Some (leaf_of item))
-            ⊎ IsOpenedAt self.now (names_of path.now) }
+        ensures found { Finds self.now (names_of path.now) (option_map item_of result) }
     {
         entry_from(self.nodes.as_slice(), NodeId(0), path)
     }
@@ -133,44 +104,14 @@ impl<S: FindInto> Editor<S> {
     /// if a tree on the path can't be read, `MalformedTree` if one isn't well-formed, and `Memory`
     /// if no memory is left. The files are then unchanged.
     pub fn remove(&mut self, alloc: Global, path: &[&[u8]]) -> Result<(), Error>
-        ensures removed { OkOverStored (S.is_honest self.old.store) (S.table self.old.store) result
-            (λ trees. SameFiles (files_of trees self.new)
-            (removed (names_of path.now) (files_of trees self.old))) }
-        ensures unchanged { ErrOverStored (S.is_honest self.old.store)
-            (S.table self.old.store) result
-            (λ trees. SameFiles (files_of trees self.new) (files_of trees self.old)) }
-        ensures entries { OkOverStored (S.is_honest self.old.store) (S.table self.old.store) result
-            (λ trees. SameFiles (entry_over trees self.new)
-            (removed (names_of path.now) (entry_over trees self.old))) }
-        ensures same_entries { ErrOverStored (S.is_honest self.old.store)
-            (S.table self.old.store) result
-            (λ trees. SameFiles (entry_over trees self.new) (entry_over trees self.old)) }
-        ensures named { OnOk result (NamesAreFull (names_of path.now)) }
-        ensures refused { IfErr result (EditFault (S.is_honest self.old.store)
-            (S.may_fail self.old.store) (S.table self.old.store) (names_of path.now)
-            (LeadsThrough (λ trees. files_of trees self.new) (names_of path.now))) }
-        ensures each { S.is_honest self.old.store → (has : Property)
-            → PassesDown (S.table self.old.store) has → EachEntryHas has self.old
-            → EachEntryHas has self.new }
-        ensures as_read { OverStored (S.is_honest self.old.store) (S.table self.old.store)
-            (λ trees. IsAsRead trees self.old → IsAsRead trees self.new) }
-        ensures changed { (tree : Path) → IsChanged self.new tree → IsChanged self.old tree
-            ⊎ IsAbove tree (names_of path.now) }
-        ensures nothing { OverStored (S.is_honest self.old.store) (S.table self.old.store)
-            (λ trees. entry_over trees self.old (names_of path.now) ≡ None
-            → OnOk result (ChangesNone self.old self.new)) }
-        ensures made { IsMadeAt self.old (names_of path.now)
-            → OnOk result (ChangesNone self.old self.new) }
-        ensures still { OnErr result ((tree : Path) → IsChanged self.new tree
-            → IsChanged self.old tree) }
-        ensures full { IfErr result (λ error. (error ≡ EmptyPathComponent)
-            ⊎ NamesAreFull (names_of path.now)) }
-        ensures counted { self.new.lookups ≤ self.old.lookups + length path.now }
-        ensures asked { Asks (S.is_honest self.old.store) (S.may_fail self.old.store)
-            (S.table self.old.store)
-            (asked_by self.old
-            (front_of (names_of path.now))) self.old.lookups self.new.lookups result }
-        ensures store { self.new.store ≡ self.old.store }
+        ensures removed { OnOk result (Removes S.is_honest S.table (names_of path.now) self.old
+            self.new) }
+        ensures refused { FaultOfEdit S.is_honest S.may_fail S.table (names_of path.now)
+            (names_of path.now) self.old self.new result }
+        ensures asked { AsksInto S.is_honest S.may_fail S.table (front_of (names_of path.now))
+            self.old self.new result }
+        ensures each { KeepsEach S.is_honest S.table (λ has. ⊤) self.old self.new }
+        ensures kept { IsKept S.is_honest S.table path.now self.old self.new result }
     {
         self.remove_from(alloc, NodeId(0), path)
     }
@@ -180,49 +121,17 @@ impl<S: FindInto> Editor<S> {
     /// Refused as `remove` is, for the trees on the path and for a folder at its end. Returns
     /// `CannotRemoveNonLeaf` with the last name if a file is below the path.
     pub fn remove_leaf(&mut self, alloc: Global, path: &[&[u8]]) -> Result<(), Error>
-        ensures removed { OkOverStored (S.is_honest self.old.store) (S.table self.old.store) result
-            (λ trees. SameFiles (files_of trees self.new)
-            (removed (names_of path.now) (files_of trees self.old))) }
-        ensures leaf { OkOverStored (S.is_honest self.old.store) (S.table self.old.store) result
-            (λ trees. HasNoneBelow (names_of path.now) (files_of trees self.old)) }
-        ensures unchanged { ErrOverStored (S.is_honest self.old.store)
-            (S.table self.old.store) result
-            (λ trees. SameFiles (files_of trees self.new) (files_of trees self.old)) }
-        ensures entries { OkOverStored (S.is_honest self.old.store) (S.table self.old.store) result
-            (λ trees. SameFiles (entry_over trees self.new)
-            (removed (names_of path.now) (entry_over trees self.old))) }
-        ensures same_entries { ErrOverStored (S.is_honest self.old.store)
-            (S.table self.old.store) result
-            (λ trees. SameFiles (entry_over trees self.new) (entry_over trees self.old)) }
-        ensures named { OnOk result (NamesAreFull (names_of path.now)) }
-        ensures refused { IfErr result (LeafFault (S.is_honest self.old.store)
-            (S.may_fail self.old.store) (S.table self.old.store) (names_of path.now)
-            (LeadsInto (λ trees. files_of trees self.new) (names_of path.now))
-            (IsFolder (λ trees. IsFilled trees self.new) (λ trees. files_of trees self.new)
-            (names_of path.now))) }
-        ensures each { S.is_honest self.old.store → (has : Property)
-            → PassesDown (S.table self.old.store) has → EachEntryHas has self.old
-            → EachEntryHas has self.new }
-        ensures as_read { OverStored (S.is_honest self.old.store) (S.table self.old.store)
-            (λ trees. IsAsRead trees self.old → IsAsRead trees self.new) }
-        ensures changed { (tree : Path) → IsChanged self.new tree → IsChanged self.old tree
-            ⊎ IsAbove tree (names_of path.now) }
-        ensures nothing { OverStored (S.is_honest self.old.store) (S.table self.old.store)
-            (λ trees. entry_over trees self.old (names_of path.now) ≡ None
-            → OnOk result (ChangesNone self.old self.new)) }
-        ensures made { IsMadeAt self.old (names_of path.now)
-            → OnOk result (ChangesNone self.old self.new) }
-        ensures still { OnErr result ((tree : Path) → IsChanged self.new tree
-            → IsChanged self.old tree) }
-        ensures full { IfErr result (λ error. (error ≡ EmptyPathComponent)
-            ⊎ NamesAreFull (names_of path.now)) }
+        ensures removed { OnOk result (Removes S.is_honest S.table (names_of path.now) self.old
+            self.new) }
+        ensures leaf { OnOk result (HadNoneBelow S.is_honest S.table (names_of path.now) self.old) }
+        ensures refused { FaultOfLeaf S.is_honest S.may_fail S.table (names_of path.now)
+            (names_of path.now) self.old self.new result }
         ensures folder { IfErr result (λ error. IsNonLeaf error
             → HasSomeBelow (names_of path.now) (files_of no_trees self.new)) }
-        ensures counted { self.new.lookups ≤ self.old.lookups + length path.now }
-        ensures asked { Asks (S.is_honest self.old.store) (S.may_fail self.old.store)
-            (S.table self.old.store)
-            (asked_by self.old (names_of path.now)) self.old.lookups self.new.lookups result }
-        ensures store { self.new.store ≡ self.old.store }
+        ensures asked { AsksInto S.is_honest S.may_fail S.table (names_of path.now) self.old
+            self.new result }
+        ensures each { KeepsEach S.is_honest S.table (λ has. ⊤) self.old self.new }
+        ensures kept { IsKept S.is_honest S.table path.now self.old self.new result }
     {
         self.remove_leaf_from(alloc, NodeId(0), path)
     }
@@ -239,59 +148,15 @@ impl<S: FindInto> Editor<S> {
         kind: EntryKind,
         id: ObjectId,
     ) -> Result<(), Error>
-        ensures put { OkOverStored (S.is_honest self.old.store) (S.table self.old.store) result
-            (λ trees. SameFiles (files_of trees self.new)
-            (put trees (names_of path.now) (leaf_of_kind kind id) (files_of trees self.old))) }
-        ensures unchanged { ErrOverStored (S.is_honest self.old.store)
-            (S.table self.old.store) result
-            (λ trees. SameFiles (files_of trees self.new) (files_of trees self.old)) }
-        ensures entries { OkOverStored (S.is_honest self.old.store) (S.table self.old.store) result
-            (λ trees. KeepsEntries trees (names_of path.now) self.old self.new) }
-        ensures entry { OkOverStored (S.is_honest self.old.store) (S.table self.old.store) result
-            (λ trees. is_null (id_of id) ≡ false
-            → PutsEntry trees (names_of path.now) (leaf_of_kind kind id) self.new) }
-        ensures folders { OkOverStored (S.is_honest self.old.store) (S.table self.old.store) result
-            (λ trees. is_null (id_of id) ≡ false
-            → MakesFoldersAbove trees (id_of id).kind (names_of path.now) self.old self.new) }
-        ensures gone { OkOverStored (S.is_honest self.old.store) (S.table self.old.store) result
-            (λ trees. is_null (id_of id) ≡ true
-            → ClearsEntries trees (names_of path.now) self.old self.new) }
-        ensures same_entries { ErrOverStored (S.is_honest self.old.store)
-            (S.table self.old.store) result
-            (λ trees. SameFiles (entry_over trees self.new) (entry_over trees self.old)) }
-        ensures named { OnOk result (NamesAreFull (names_of path.now)) }
-        ensures refused { IfErr result (EditFault (S.is_honest self.old.store)
-            (S.may_fail self.old.store) (S.table self.old.store) (names_of path.now)
-            (LeadsThrough (λ trees. files_of trees self.new) (names_of path.now))) }
-        ensures each { S.is_honest self.old.store → (has : Property)
-            → PassesDown (S.table self.old.store) has
-            → MayStand has (names_of path.now) (leaf_of_kind kind id)
-            → EachEntryHas has self.old → EachEntryHas has self.new }
-        ensures as_read { OverStored (S.is_honest self.old.store) (S.table self.old.store)
-            (λ trees. IsAsRead trees self.old → IsAsRead trees self.new) }
-        ensures changed { (tree : Path) → IsChanged self.new tree → IsChanged self.old tree
-            ⊎ IsAbove tree (names_of path.now) }
-        ensures nothing { OverStored (S.is_honest self.old.store) (S.table self.old.store)
-            (λ trees. is_null (id_of id) ≡ true
-            → entry_met trees self.old (names_of path.now) ≡ None
-            → OnOk result (ChangesNone self.old self.new)) }
-        ensures made { is_null (id_of id) ≡ true → IsMadeAt self.old (names_of path.now)
-            → OnOk result (ChangesNone self.old self.new) }
-        ensures already { OverStored (S.is_honest self.old.store) (S.table self.old.store)
-            (λ trees. is_null (id_of id) ≡ false
-            → entry_over trees self.old (names_of path.now) ≡ Some (leaf_of_kind kind id)
-            → (IsOpenedAt self.old (names_of path.now) → ⊥)
-            → OnOk result (ChangesNone self.old self.new)) }
-        ensures still { OnErr result ((tree : Path) → IsChanged self.new tree
-            → IsChanged self.old tree) }
-        ensures full { IfErr result (λ error. (error ≡ EmptyPathComponent)
-            ⊎ NamesAreFull (names_of path.now)) }
-        ensures counted { self.new.lookups ≤ self.old.lookups + length path.now }
-        ensures asked { Asks (S.is_honest self.old.store) (S.may_fail self.old.store)
-            (S.table self.old.store)
-            (asked_by self.old
-            (front_of (names_of path.now))) self.old.lookups self.new.lookups result }
-        ensures store { self.new.store ≡ self.old.store }
+        ensures put { OnOk result (Puts S.is_honest S.table (names_of path.now)
+            (leaf_of_kind kind id) self.old self.new) }
+        ensures refused { FaultOfEdit S.is_honest S.may_fail S.table (names_of path.now)
+            (names_of path.now) self.old self.new result }
+        ensures asked { AsksInto S.is_honest S.may_fail S.table (front_of (names_of path.now))
+            self.old self.new result }
+        ensures each { KeepsEach S.is_honest S.table (λ has. MayStand has (names_of path.now)
+            (leaf_of_kind kind id)) self.old self.new }
+        ensures kept { IsKept S.is_honest S.table path.now self.old self.new result }
     {
         self.upsert_from(alloc, NodeId(0), path, kind, id)
     }
@@ -311,71 +176,20 @@ impl<S: FindInto> Editor<S> {
         kind: EntryKind,
         id: ObjectId,
     ) -> Result<(), Error>
-        ensures put { OkOverStored (S.is_honest self.old.store) (S.table self.old.store) result
-            (λ trees. SameFiles (files_of trees self.new)
-            (put trees (names_of path.now) (leaf_of_kind kind id) (files_of trees self.old))) }
-        ensures folder { OkOverStored (S.is_honest self.old.store) (S.table self.old.store) result
-            (λ trees. is_tree_value (kind_value kind) ≡ true → is_null (id_of id) ≡ false
-            → (items : List Item) → trees (id_of id) ≡ Some items
-            → SameFiles (λ rest. files_of trees self.new (names_of path.now ++ rest))
-            (files_of_tree trees items)) }
-        ensures file { OkOverStored (S.is_honest self.old.store) (S.table self.old.store) result
-            (λ trees. is_tree_value (kind_value kind) ≡ false → is_null (id_of id) ≡ false
-            → files_of trees self.new (names_of path.now) ≡ Some (leaf_of_kind kind id)) }
-        ensures unchanged { ErrOverStored (S.is_honest self.old.store)
-            (S.table self.old.store) result
-            (λ trees. SameFiles (files_of trees self.new) (files_of trees self.old)) }
-        ensures entries { OkOverStored (S.is_honest self.old.store) (S.table self.old.store) result
-            (λ trees. KeepsEntries trees (names_of path.now) self.old self.new) }
-        ensures entry { OkOverStored (S.is_honest self.old.store) (S.table self.old.store) result
-            (λ trees. is_null (id_of id) ≡ false
-            → PutsEntry trees (names_of path.now) (leaf_of_kind kind id) self.new) }
-        ensures folders { OkOverStored (S.is_honest self.old.store) (S.table self.old.store) result
-            (λ trees. is_null (id_of id) ≡ false
-            → MakesFoldersAbove trees (id_of id).kind (names_of path.now) self.old self.new) }
-        ensures gone { OkOverStored (S.is_honest self.old.store) (S.table self.old.store) result
-            (λ trees. is_null (id_of id) ≡ true
-            → ClearsEntries trees (names_of path.now) self.old self.new) }
-        ensures same_entries { ErrOverStored (S.is_honest self.old.store)
-            (S.table self.old.store) result
-            (λ trees. SameFiles (entry_over trees self.new) (entry_over trees self.old)) }
-        ensures named { OnOk result (NamesAreFull (names_of path.now)) }
-        ensures refused { IfErr result (GraftFault (S.is_honest self.old.store)
-            (S.may_fail self.old.store) (S.table self.old.store) (names_of path.now) (id_of id)
-            (LeadsThrough (λ trees. files_of trees self.new) (names_of path.now))) }
+        ensures put { OnOk result (Puts S.is_honest S.table (names_of path.now)
+            (leaf_of_kind kind id) self.old self.new) }
+        ensures grafted { OnOk result (Grafts S.is_honest S.table (names_of path.now) kind id
+            self.old self.new) }
+        ensures refused { FaultOfGraft S.is_honest S.may_fail S.table (names_of path.now) (id_of id)
+            (names_of path.now) self.old self.new result }
         ensures empty { NamesAreFull (names_of path.now) → IsEmptyTree (id_of id)
             → result ≡ Err EmptyTree }
         ensures untouched { result ≡ Err EmptyTree → self.new ≡ self.old }
-        ensures each { S.is_honest self.old.store → (has : Property)
-            → PassesDown (S.table self.old.store) has
-            → ((IsEmptyTree (id_of id) → ⊥)
-            → MayStand has (names_of path.now) (leaf_of_kind kind id))
-            → EachEntryHas has self.old → EachEntryHas has self.new }
-        ensures as_read { OverStored (S.is_honest self.old.store) (S.table self.old.store)
-            (λ trees. IsAsRead trees self.old → IsAsRead trees self.new) }
-        ensures changed { (tree : Path) → IsChanged self.new tree → IsChanged self.old tree
-            ⊎ IsAbove tree (names_of path.now) }
-        ensures nothing { OverStored (S.is_honest self.old.store) (S.table self.old.store)
-            (λ trees. is_null (id_of id) ≡ true
-            → entry_met trees self.old (names_of path.now) ≡ None
-            → OnOk result (ChangesNone self.old self.new)) }
-        ensures made { is_null (id_of id) ≡ true → IsMadeAt self.old (names_of path.now)
-            → OnOk result (ChangesNone self.old self.new) }
-        ensures already { OverStored (S.is_honest self.old.store) (S.table self.old.store)
-            (λ trees. is_null (id_of id) ≡ false
-            → entry_over trees self.old (names_of path.now) ≡ Some (leaf_of_kind kind id)
-            → (IsOpenedAt self.old (names_of path.now) → ⊥)
-            → OnOk result (ChangesNone self.old self.new)) }
-        ensures still { OnErr result ((tree : Path) → IsChanged self.new tree
-            → IsChanged self.old tree) }
-        ensures full { IfErr result (λ error. (error ≡ EmptyPathComponent)
-            ⊎ NamesAreFull (names_of path.now)) }
-        ensures counted { self.new.lookups ≤ self.old.lookups + length path.now }
-        ensures asked { Asks (S.is_honest self.old.store) (S.may_fail self.old.store)
-            (S.table self.old.store)
-            (asked_by self.old
-            (front_of (names_of path.now))) self.old.lookups self.new.lookups result }
-        ensures store { self.new.store ≡ self.old.store }
+        ensures asked { AsksInto S.is_honest S.may_fail S.table (front_of (names_of path.now))
+            self.old self.new result }
+        ensures each { KeepsEach S.is_honest S.table (λ has. (IsEmptyTree (id_of id) → ⊥)
+            → MayStand has (names_of path.now) (leaf_of_kind kind id)) self.old self.new }
+        ensures kept { IsKept S.is_honest S.table path.now self.old self.new result }
     {
         check_graft(path, id)?;
         self.upsert(alloc, path, kind, id)

@@ -2,12 +2,10 @@
 
 ghost use Rattle.std.specs.Prelude.{◌≡◌, ◌<◌, ◌≤◌, ◌+◌, ◌∷◌, [], length, IsTrue, IsFalse, IfErr, OnOk, None, false};
 ghost use Rattle.gix_object_nodes.specs.Files.{Bytes, Path, Trees};
-ghost use Rattle.gix_object_editor.specs.Stored.{HasStored, IsOpened};
-ghost use Rattle.gix_object_editor.specs.Entries.{Property, EachHas, PassesDown};
-ghost use Rattle.gix_object_nodes.specs.Marks.{marks_of, AreMarksKept, AreAsRead};
 ghost use Rattle.gix_object_nodes.specs.Nodes.{slots_of, files_of_node, IsForest, AreFilled, HasFileBelow, IsFolderAt};
 ghost use Rattle.gix_object_editor.specs.Refusals.{FolderFault};
 ghost use Rattle.gix_object_editor.specs.Asked.{unopened_into, Asks};
+ghost use Rattle.gix_object_editor.specs.Grown.{IsForestOf, OpensMore, KeepsTrees};
 
 use crate::tree::editor::Error;
 use crate::tree::editor::forest::open;
@@ -25,19 +23,12 @@ pub(crate) fn refuse_folder<S: FindInto>(
     at: NodeId,
     name: &[u8],
 ) -> Result<(), Error>
-    requires forest { IsForest (slots_of nodes.old.items) (length nodes.old.items) }
+    requires forest { IsForestOf nodes.old.items }
     requires within { at.0 < length nodes.old.items }
-    ensures opened { IsOpened (S.is_honest store.now) (S.table store.now)
-        (slots_of nodes.old.items) (slots_of nodes.new.items) (length nodes.old.items)
-        (length nodes.new.items) }
-    ensures marks { AreMarksKept false (slots_of nodes.old.items) (slots_of nodes.new.items)
-        (marks_of nodes.old.items) (marks_of nodes.new.items) (length nodes.old.items)
-        (length nodes.new.items) }
-    ensures as_read { S.is_honest store.now → (trees : Trees) → HasStored (S.table store.now) trees
-        → AreAsRead trees (slots_of nodes.old.items) (marks_of nodes.old.items)
-        → AreAsRead trees (slots_of nodes.new.items) (marks_of nodes.new.items) }
-    ensures each { S.is_honest store.now → (has : Property) → PassesDown (S.table store.now) has
-        → EachHas has (slots_of nodes.old.items) → EachHas has (slots_of nodes.new.items) }
+    ensures opened { OpensMore (S.is_honest store.now) (S.table store.now)
+        nodes.old.items nodes.new.items }
+    ensures kept { KeepsTrees (S.is_honest store.now) (S.table store.now)
+        nodes.old.items nodes.new.items }
     ensures plain { OnOk result (IsFolderAt (slots_of nodes.new.items) at.0 name.now None) }
     ensures counted { lookups.new ≤ lookups.old + 1 }
     ensures asked { Asks (S.is_honest store.now) (S.may_fail store.now) (S.table store.now)

@@ -1,16 +1,17 @@
 //! Walking down opened trees, and opening more of them.
 
-ghost use Rattle.std.specs.Prelude.{◌≡◌, ◌<◌, ◌≤◌, ◌+◌, ◌∷◌, ◌++◌, ◌⊎◌, ℕ, length, map, drop, slice_index_or, if◌then◌else◌, is_ok, IfOk, IfErr, OnOk, OnErr, IsSome, Some, None, [], false};
-ghost use Rattle.gix_hash_id.specs.Id.{Id, id_of};
+ghost use Rattle.std.specs.Prelude.{◌≡◌, ◌<◌, ◌≤◌, ◌+◌, ◌∷◌, ◌++◌, ◌⊎◌, ℕ, length, drop, slice_index_or, if◌then◌else◌, is_ok, IfOk, IfErr, OnOk, OnErr, IsSome, Some, None, [], false};
+ghost use Rattle.gix_hash_id.specs.Id.{Id};
 ghost use Rattle.gix_object_nodes.specs.Files.{Bytes, Path, Trees};
-ghost use Rattle.gix_object_editor.specs.Stored.{HasStored, IsOpened};
-ghost use Rattle.gix_object_nodes.specs.Nodes.{slot_in, slots_of, child_of, IsForest, IsFolderAt, IsNoFolder, IsUnopened, IsStoppedAt, Way, onto, LeadsTo};
-ghost use Rattle.gix_object_editor.specs.Entries.{Property, EachHas, PassesDown};
-ghost use Rattle.gix_object_nodes.specs.Marks.{marks_of, mark_below, AreMarksKept, AreAsRead};
+ghost use Rattle.gix_object_editor.specs.Stored.{HasStored};
+ghost use Rattle.gix_object_nodes.specs.Nodes.{slot_in, slots_of, child_of, IsFolderAt, IsNoFolder, IsStoppedAt, Way, onto, LeadsTo};
+ghost use Rattle.gix_object_nodes.specs.Marks.{marks_of, mark_below};
 ghost use Rattle.gix_object_editor.specs.Refusals.{OpeningFault};
 ghost use Rattle.gix_object_editor.specs.Asked.{front_of, found_into, unopened_into, AsksUpTo, AsksAll, StopsAt};
 ghost use Rattle.gix_object_nodes.specs.declared.node.NodeId.{NodeId};
 ghost use Rattle.gix_object_nodes.specs.declared.node.Slot.{Slot};
+ghost use Rattle.gix_object_editor.specs.Grown.{IsForestOf, OpensMore, KeepsTrees, HasSlotsOf, KeepsOthers, first_of, IsUnopenedFor};
+ghost use Rattle.gix_object_editor.specs.Editor.{names_of};
 
 use crate::tree::editor::Error;
 use crate::tree::editor::load::load;
@@ -31,15 +32,13 @@ pub(crate) fn attach(
     ensures number { IfOk result (λ child. child.0 ≡ length nodes.old.items) }
     ensures here { IfOk result (λ child. slots_of nodes.new.items at.0 name.now ≡ Some
         (record slot { child = Some child })) }
-    ensures others { (i : ℕ) (m : Bytes) → i < length nodes.old.items
-        → (i ≡ at.0 → m ≡ name.now → ⊥)
-        → slots_of nodes.new.items i m ≡ slots_of nodes.old.items i m }
+    ensures others { KeepsOthers nodes.old.items at.0 name.now
+        nodes.new.items }
     ensures behind { OnOk result ((m : Bytes)
         → slots_of nodes.new.items (length nodes.old.items) m ≡ slot_in tree m) }
     ensures len { length nodes.new.items ≡
         (if is_ok result then length nodes.old.items + 1 else length nodes.old.items) }
-    ensures err { OnErr result ((i : ℕ) (m : Bytes)
-        → slots_of nodes.new.items i m ≡ slots_of nodes.old.items i m) }
+    ensures err { OnErr result (HasSlotsOf nodes.old.items nodes.new.items) }
     ensures marks { (i : ℕ) → i < length nodes.old.items
         → marks_of nodes.new.items i ≡ marks_of nodes.old.items i }
     ensures unchanged { OnOk result (marks_of nodes.new.items
@@ -72,19 +71,12 @@ pub(crate) fn open<S: FindInto>(
     at: NodeId,
     name: &[u8],
 ) -> Result<Option<NodeId>, Error>
-    requires forest { IsForest (slots_of nodes.old.items) (length nodes.old.items) }
+    requires forest { IsForestOf nodes.old.items }
     requires within { at.0 < length nodes.old.items }
-    ensures opened { IsOpened (S.is_honest store.now) (S.table store.now)
-        (slots_of nodes.old.items) (slots_of nodes.new.items) (length nodes.old.items)
-        (length nodes.new.items) }
-    ensures marks { AreMarksKept false (slots_of nodes.old.items) (slots_of nodes.new.items)
-        (marks_of nodes.old.items) (marks_of nodes.new.items) (length nodes.old.items)
-        (length nodes.new.items) }
-    ensures as_read { S.is_honest store.now → (trees : Trees) → HasStored (S.table store.now) trees
-        → AreAsRead trees (slots_of nodes.old.items) (marks_of nodes.old.items)
-        → AreAsRead trees (slots_of nodes.new.items) (marks_of nodes.new.items) }
-    ensures each { S.is_honest store.now → (has : Property) → PassesDown (S.table store.now) has
-        → EachHas has (slots_of nodes.old.items) → EachHas has (slots_of nodes.new.items) }
+    ensures opened { OpensMore (S.is_honest store.now) (S.table store.now)
+        nodes.old.items nodes.new.items }
+    ensures kept { KeepsTrees (S.is_honest store.now) (S.table store.now)
+        nodes.old.items nodes.new.items }
     ensures found { IfOk result (IsFolderAt (slots_of nodes.new.items) at.0 name.now) }
     ensures blocked { IfOk result (λ found. found ≡ None
         → IsNoFolder (slots_of nodes.new.items at.0 name.now)) }
@@ -106,10 +98,8 @@ pub(crate) fn open<S: FindInto>(
         → StopsAt (S.is_honest store.now) (S.may_fail store.now) (S.table store.now)
         (unopened_into trees (slots_of nodes.old.items) at.0
         (name.now ∷ rest)) lookups.old lookups.new error) }
-    ensures refused { IfErr result (λ error. (s : Slot)
-        × (slots_of nodes.new.items at.0 name.now ≡ Some s) × IsUnopened s
-        × OpeningFault (S.is_honest store.now) (S.may_fail store.now) (S.table store.now)
-        (id_of s.oid) error) }
+    ensures refused { IfErr result (λ error. IsUnopenedFor (S.is_honest store.now)
+        (S.may_fail store.now) (S.table store.now) nodes.new.items at.0 name.now error) }
 {
     let Some(slot) = slot_at(nodes.as_slice(), at, name) else {
         return Ok(None);
@@ -135,32 +125,25 @@ pub(crate) fn walk<S: FindInto>(
     from: NodeId,
     path: &[&[u8]],
 ) -> Result<(NodeId, usize), Error>
-    requires forest { IsForest (slots_of nodes.old.items) (length nodes.old.items) }
+    requires forest { IsForestOf nodes.old.items }
     requires within { from.0 < length nodes.old.items }
     requires named { 0 < length path.now }
-    ensures opened { IsOpened (S.is_honest store.now) (S.table store.now)
-        (slots_of nodes.old.items) (slots_of nodes.new.items) (length nodes.old.items)
-        (length nodes.new.items) }
-    ensures marks { AreMarksKept false (slots_of nodes.old.items) (slots_of nodes.new.items)
-        (marks_of nodes.old.items) (marks_of nodes.new.items) (length nodes.old.items)
-        (length nodes.new.items) }
-    ensures as_read { S.is_honest store.now → (trees : Trees) → HasStored (S.table store.now) trees
-        → AreAsRead trees (slots_of nodes.old.items) (marks_of nodes.old.items)
-        → AreAsRead trees (slots_of nodes.new.items) (marks_of nodes.new.items) }
-    ensures each { S.is_honest store.now → (has : Property) → PassesDown (S.table store.now) has
-        → EachHas has (slots_of nodes.old.items) → EachHas has (slots_of nodes.new.items) }
+    ensures opened { OpensMore (S.is_honest store.now) (S.table store.now)
+        nodes.old.items nodes.new.items }
+    ensures kept { KeepsTrees (S.is_honest store.now) (S.table store.now)
+        nodes.old.items nodes.new.items }
     ensures within { IfOk result (λ end. (end.0.0 < length nodes.new.items)
         × (end.1 < length path.now)) }
     ensures below { IfOk result (λ end. from.0 ≤ end.0.0) }
     ensures leads { IfOk result (λ end. (way : Path) → Way (slots_of nodes.old.items) way from.0
-        → LeadsTo (slots_of nodes.new.items) (onto way (map (λ n. n.now) path.now)) end.0.0
-        (map (λ n. n.now) (drop end.1 path.now))) }
+        → LeadsTo (slots_of nodes.new.items) (onto way (names_of path.now)) end.0.0
+        (names_of (drop end.1 path.now))) }
     ensures stopped { IfOk result (λ end. end.1 + 1 < length path.now
         → IsFolderAt (slots_of nodes.new.items) end.0.0
-        (slice_index_or (map (λ n. n.now) path.now) end.1 []) None) }
+        (slice_index_or (names_of path.now) end.1 []) None) }
     ensures blocked { IfOk result (λ end. end.1 + 1 < length path.now
         → IsNoFolder (slots_of nodes.new.items end.0.0
-        (slice_index_or (map (λ n. n.now) path.now) end.1 []))) }
+        (slice_index_or (names_of path.now) end.1 []))) }
     ensures before { IfOk result (λ end. (m : Bytes) (c : ℕ)
         → child_of (slots_of nodes.new.items end.0.0 m) ≡ Some c → c < length nodes.old.items) }
     ensures counted { lookups.new + 1 ≤ lookups.old + length path.now }
@@ -168,22 +151,22 @@ pub(crate) fn walk<S: FindInto>(
         → IfOk result (λ end. (trees : Trees) → HasStored (S.table store.now) trees → (more : Path)
         → end.1 + 1 ≡ length path.now → AsksUpTo (S.table store.now)
         (unopened_into trees (slots_of nodes.old.items) from.0
-        (front_of (map (λ n. n.now) path.now) ++ more))
+        (front_of (names_of path.now) ++ more))
         (unopened_into trees (slots_of nodes.new.items) end.0.0 more) lookups.old lookups.new) }
     ensures asked_all { S.is_honest store.now
         → IfOk result (λ end. (trees : Trees) → HasStored (S.table store.now) trees → (more : Path)
         → end.1 + 1 < length path.now → AsksAll (S.table store.now)
         (unopened_into trees (slots_of nodes.old.items) from.0
-        (front_of (map (λ n. n.now) path.now) ++ more)) lookups.old lookups.new) }
+        (front_of (names_of path.now) ++ more)) lookups.old lookups.new) }
     ensures stops { S.is_honest store.now
         → IfErr result (λ error. (trees : Trees) → HasStored (S.table store.now) trees
         → (more : Path)
         → StopsAt (S.is_honest store.now) (S.may_fail store.now) (S.table store.now)
         (unopened_into trees (slots_of nodes.old.items) from.0
-        (front_of (map (λ n. n.now) path.now) ++ more)) lookups.old lookups.new error) }
+        (front_of (names_of path.now) ++ more)) lookups.old lookups.new error) }
     ensures refused { IfErr result (λ error. (id : Id)
         × ((way : Path) → Way (slots_of nodes.old.items) way from.0
-        → IsStoppedAt (slots_of nodes.new.items) (onto way (map (λ n. n.now) path.now)) id)
+        → IsStoppedAt (slots_of nodes.new.items) (onto way (names_of path.now)) id)
         × OpeningFault (S.is_honest store.now) (S.may_fail store.now)
         (S.table store.now) id error) }
 {
@@ -208,48 +191,37 @@ pub(crate) fn folder_below<S: FindInto>(
     at: NodeId,
     names: &[&[u8]],
 ) -> Result<Option<NodeId>, Error>
-    requires forest { IsForest (slots_of nodes.old.items) (length nodes.old.items) }
+    requires forest { IsForestOf nodes.old.items }
     requires within { at.0 < length nodes.old.items }
     requires named { 0 < length names.now }
     requires stopped { 1 < length names.now
         → IsFolderAt (slots_of nodes.old.items) at.0
-        (slice_index_or (map (λ n. n.now) names.now) 0 []) None }
-    ensures opened { IsOpened (S.is_honest store.now) (S.table store.now)
-        (slots_of nodes.old.items) (slots_of nodes.new.items) (length nodes.old.items)
-        (length nodes.new.items) }
-    ensures marks { AreMarksKept false (slots_of nodes.old.items) (slots_of nodes.new.items)
-        (marks_of nodes.old.items) (marks_of nodes.new.items) (length nodes.old.items)
-        (length nodes.new.items) }
-    ensures as_read { S.is_honest store.now → (trees : Trees) → HasStored (S.table store.now) trees
-        → AreAsRead trees (slots_of nodes.old.items) (marks_of nodes.old.items)
-        → AreAsRead trees (slots_of nodes.new.items) (marks_of nodes.new.items) }
-    ensures each { S.is_honest store.now → (has : Property) → PassesDown (S.table store.now) has
-        → EachHas has (slots_of nodes.old.items) → EachHas has (slots_of nodes.new.items) }
+        (first_of names.now) None }
+    ensures opened { OpensMore (S.is_honest store.now) (S.table store.now)
+        nodes.old.items nodes.new.items }
+    ensures kept { KeepsTrees (S.is_honest store.now) (S.table store.now)
+        nodes.old.items nodes.new.items }
     ensures found { IfOk result (IsFolderAt (slots_of nodes.new.items) at.0
-        (slice_index_or (map (λ n. n.now) names.now) 0 [])) }
+        (first_of names.now)) }
     ensures blocked { length names.now ≡ 1 → IfOk result (λ found. found ≡ None
         → IsNoFolder (slots_of nodes.new.items at.0
-        (slice_index_or (map (λ n. n.now) names.now) 0 []))) }
+        (first_of names.now))) }
     ensures last { IfOk result (λ found. IsSome found → length names.now ≡ 1) }
-    ensures same { 1 < length names.now → (i : ℕ) (m : Bytes)
-        → slots_of nodes.new.items i m ≡ slots_of nodes.old.items i m }
+    ensures same { 1 < length names.now → HasSlotsOf nodes.old.items nodes.new.items }
     ensures counted { lookups.new ≤ lookups.old + 1 }
     ensures unasked { 1 < length names.now → lookups.new ≡ lookups.old }
     ensures asked { S.is_honest store.now
         → OnOk result ((trees : Trees) → HasStored (S.table store.now) trees → length names.now ≡ 1
         → AsksAll (S.table store.now) (unopened_into trees (slots_of nodes.old.items) at.0
-        (slice_index_or (map (λ n. n.now) names.now) 0 [] ∷ []))
+        (first_of names.now ∷ []))
         lookups.old lookups.new) }
     ensures stops { S.is_honest store.now
         → IfErr result (λ error. (trees : Trees) → HasStored (S.table store.now) trees
         → StopsAt (S.is_honest store.now) (S.may_fail store.now) (S.table store.now)
         (unopened_into trees (slots_of nodes.old.items) at.0
-        (slice_index_or (map (λ n. n.now) names.now) 0 [] ∷ [])) lookups.old lookups.new error) }
-    ensures refused { IfErr result (λ error. (s : Slot)
-        × (slots_of nodes.new.items at.0 (slice_index_or
-        (map (λ n. n.now) names.now) 0 []) ≡ Some s) × IsUnopened s
-        × OpeningFault (S.is_honest store.now) (S.may_fail store.now) (S.table store.now)
-        (id_of s.oid) error) }
+        (first_of names.now ∷ [])) lookups.old lookups.new error) }
+    ensures refused { IfErr result (λ error. IsUnopenedFor (S.is_honest store.now)
+        (S.may_fail store.now) (S.table store.now) nodes.new.items at.0 (first_of names.now) error) }
     ensures alone { OnErr result (length names.now ≡ 1) }
 {
     if names.len() > 1 {

@@ -35,8 +35,8 @@ returns-in_ok-new-in-None-clause-base g c = λ honest kind files base.
     let none = c.new-entries.ensures.items in
     subst (λ m. EditsFiles table kind (own_folders m) m c.in_ok-new-in-None.field-0) (sym is) (record {
       standing = base_standing table kind empty empty_map (empty_trees kind table);
-      unfolds = λ trees stored. empty_unfolds kind _ (λ q. c.in_ok-new-in-None.ensures.files trees q ∙ ap (λ es. files_of_tree trees (map own_item es) q) none ∙ no_files trees q);
-      each = c.in_ok-new-in-None.ensures.each (names_only kind (own_folders empty)) (subst (λ es. ItemsHave (names_only kind (own_folders empty)) (map own_item es)) (sym none) (λ k d within. absurd (omega arith)));
+      unfolds = λ trees stored. empty_unfolds kind _ (λ q. c.in_ok-new-in-None.ensures.root.files trees q ∙ ap (λ es. files_of_tree trees (map own_item es) q) none ∙ no_files trees q);
+      each = c.in_ok-new-in-None.ensures.root.each (names_only kind (own_folders empty)) (subst (λ es. ItemsHave (names_only kind (own_folders empty)) (map own_item es)) (sym none) (λ k d within. absurd (omega arith)));
     })
 
 pub returns-in_ok-open_editor-in-Some-clause-unopened : goal.returns-in_ok-open_editor-in-Some-clause-unopened
@@ -46,7 +46,7 @@ returns-in_ok-open_editor-in-Some-clause-unopened g c = λ honest trees stored n
 pub returns-in_ok-new-in-None-clause-unopened : goal.returns-in_ok-new-in-None-clause-unopened
 returns-in_ok-new-in-None-clause-unopened g c = λ honest trees stored names.
     same_into trees (slots_of c.in_ok-new-in-None.field-0.nodes.items) []
-    (λ q. c.in_ok-new-in-None.ensures.files no_trees q ∙ ap (λ es. files_of_tree no_trees (map own_item es) q) c.new-entries.ensures.items) names
+    (λ q. c.in_ok-new-in-None.ensures.root.files no_trees q ∙ ap (λ es. files_of_tree no_trees (map own_item es) q) c.new-entries.ensures.items) names
     ∙ none_into trees names ∙ ap (λ root. root_into trees (root_id root) names) (sym c.in-None.is)
 
 pub returns-in_err-open_editor-in-Some-clause-broken : goal.returns-in_err-open_editor-in-Some-clause-broken

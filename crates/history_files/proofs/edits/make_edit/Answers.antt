@@ -25,7 +25,7 @@ returns-in-Put-clause-files g c = λ honest trees kind files made stored edit is
     let names = ap names_of c.as_slice.ensures.value ∙ c.in_ok-names.ensures in
     let old = files_of trees c.args.editor.now in
     let new = files_of trees c.upsert.new.self in
-    let after = subst (λ k. SameFiles new (unfolded.put trees (names_of c.as_slice.result.now) (leaf_of_kind k c.in-Put.id) old)) c.entry_kind.ensures (c.in_ok-upsert-in-Put.ensures.put honest trees stored) in
+    let after = subst (λ k. SameFiles new (unfolded.put trees (names_of c.as_slice.result.now) (leaf_of_kind k c.in-Put.id) old)) c.entry_kind.ensures (c.in_ok-upsert-in-Put.ensures.put.files honest trees stored) in
     put_made (g.S.Lookup.table c.args.editor.now.store) kind files old is path made new trees c.in-Put.kind c.in-Put.id (subst (λ change. IsChange (g.S.Lookup.table c.args.editor.now.store) kind path change made) c.in-Put.is edit)
     (λ q. after q ∙ ap (λ ps. unfolded.put trees ps (leaf_of_kind (entry_kind c.in-Put.kind) c.in-Put.id) old q) names)
 
@@ -35,7 +35,7 @@ returns-in-Remove-clause-files g c = λ honest trees kind files made stored edit
     let names = ap names_of c.as_slice-in-Remove.ensures.value ∙ c.in_ok-names.ensures in
     let old = files_of trees c.args.editor.now in
     remove_made (g.S.Lookup.table c.args.editor.now.store) kind files old is path made (files_of trees c.remove.new.self) (subst (λ change. IsChange (g.S.Lookup.table c.args.editor.now.store) kind path change made) c.in-Remove.is edit)
-    (λ q. c.in_ok-remove-in-Remove.ensures.removed honest trees stored q ∙ ap (λ ps. unfolded.removed ps old q) names)
+    (λ q. c.in_ok-remove-in-Remove.ensures.removed.files honest trees stored q ∙ ap (λ ps. unfolded.removed ps old q) names)
 
 pub returns-in-RemoveFile-clause-files : goal.returns-in-RemoveFile-clause-files
 returns-in-RemoveFile-clause-files g c = λ honest trees kind files made stored edit is.
@@ -43,7 +43,7 @@ returns-in-RemoveFile-clause-files g c = λ honest trees kind files made stored 
     let names = ap names_of c.as_slice-in-RemoveFile.ensures.value ∙ c.in_ok-names.ensures in
     let old = files_of trees c.args.editor.now in
     file_removed (g.S.Lookup.table c.args.editor.now.store) kind files old is path made (files_of trees c.remove_leaf.new.self) (subst (λ change. IsChange (g.S.Lookup.table c.args.editor.now.store) kind path change made) c.in-RemoveFile.is edit)
-    (λ q. c.in_ok-remove_leaf-in-RemoveFile.ensures.removed honest trees stored q ∙ ap (λ ps. unfolded.removed ps old q) names)
+    (λ q. c.in_ok-remove_leaf-in-RemoveFile.ensures.removed.files honest trees stored q ∙ ap (λ ps. unfolded.removed ps old q) names)
 
 pub returns-in-RemoveFile-clause-accepted : goal.returns-in-RemoveFile-clause-accepted
 returns-in-RemoveFile-clause-accepted g c = λ honest trees kind files made stored edit is.
@@ -68,16 +68,16 @@ returns-in-Put-clause-each g c = λ honest has down may each.
     (subst (λ k. MayStand has (names_of c.as_slice.result.now) (leaf_of_kind k c.in-Put.id)) (sym c.entry_kind.ensures) (subst (λ ps. MayStand has ps (leaf_of_kind (entry_kind c.in-Put.kind) c.in-Put.id)) (sym names) put)) each
 
 pub returns-in_err-remove-in-Remove-clause-each : goal.returns-in_err-remove-in-Remove-clause-each
-returns-in_err-remove-in-Remove-clause-each g c = λ honest has down may each. c.remove.ensures.each honest has down each
+returns-in_err-remove-in-Remove-clause-each g c = λ honest has down may each. c.remove.ensures.each honest has down tt each
 
 pub returns-in-Remove-clause-each : goal.returns-in-Remove-clause-each
-returns-in-Remove-clause-each g c = λ honest has down may each. c.remove.ensures.each honest has down each
+returns-in-Remove-clause-each g c = λ honest has down may each. c.remove.ensures.each honest has down tt each
 
 pub returns-in_err-remove_leaf-in-RemoveFile-clause-each : goal.returns-in_err-remove_leaf-in-RemoveFile-clause-each
-returns-in_err-remove_leaf-in-RemoveFile-clause-each g c = λ honest has down may each. c.remove_leaf.ensures.each honest has down each
+returns-in_err-remove_leaf-in-RemoveFile-clause-each g c = λ honest has down may each. c.remove_leaf.ensures.each honest has down tt each
 
 pub returns-in-RemoveFile-clause-each : goal.returns-in-RemoveFile-clause-each
-returns-in-RemoveFile-clause-each g c = λ honest has down may each. c.remove_leaf.ensures.each honest has down each
+returns-in-RemoveFile-clause-each g c = λ honest has down may each. c.remove_leaf.ensures.each honest has down tt each
 
 pub returns-in_err-upsert-in-Put-clause-refused : goal.returns-in_err-upsert-in-Put-clause-refused
 returns-in_err-upsert-in-Put-clause-refused g c = λ honest kind stands files made can fine edit lies.
@@ -110,7 +110,7 @@ returns-in_err-remove_leaf-in-RemoveFile-clause-refused g c = λ honest kind sta
     let p = err_from_is_err_and c.from_residual-in_err-remove_leaf-in-RemoveFile.result c.from_residual-in_err-remove_leaf-in-RemoveFile.ensures.1 in
     rw (p.1, p.2) (remove_fault (g.S.Lookup.is_honest c.args.editor.now.store) (g.S.Lookup.may_fail c.args.editor.now.store) honest kind table stands files (made ∷ []) c.args.editor.now c.remove_leaf.new.self can each
     path fine (names_of c.as_slice-in-RemoveFile.result.now) (ap names_of c.as_slice-in-RemoveFile.ensures.value ∙ c.in_ok-names.ensures)
-    (c.in_err-remove_leaf-in-RemoveFile.ensures.unchanged honest (trees_in table) (has_stored table))
+    (c.in_err-remove_leaf-in-RemoveFile.ensures.kept.unchanged honest (trees_in table) (has_stored table))
     (λ below. ap (λ e. some_refused files (e ∷ [])) is ∙ ap (λ b. b || false) below) _ c.in_err-remove_leaf-in-RemoveFile.ensures.refused)
 
 pub returns-in-Put-clause-asked : goal.returns-in-Put-clause-asked
@@ -167,7 +167,7 @@ returns-clause-files g c = λ honest trees kind files made stored edit is.
     let names = ap names_of c.as_slice-in-Graft.ensures.value ∙ c.in_ok-names.ensures in
     let old = files_of trees c.args.editor.now in
     let new = files_of trees c.graft.new.self in
-    let after = c.in_ok-graft-in-Graft.ensures.put honest trees stored in
+    let after = c.in_ok-graft-in-Graft.ensures.put.files honest trees stored in
     graft_made (g.S.Lookup.table c.args.editor.now.store) kind files old is path made new trees c.in-Graft.found stored
     (subst (λ change. IsChange (g.S.Lookup.table c.args.editor.now.store) kind path change made) c.in-Graft.is edit)
     (λ q. after q ∙ (λ i. unfolded.put trees (names i) (c.entry_for-entry.ensures i) old q))

@@ -49,7 +49,7 @@ returns-clause-files g c = λ honest kind files is trees stored.
     let own : map own_item c.in_ok-tree.tree.entries.items ≡ items kind files =
     c.in_ok-tree.ensures ∙ same_tree table (id_of c.args.root.now) (map item_of c.in_ok-entries.entries.items) (items kind files) (c.in_ok-entries.ensures.read honest) here in
     same_unfolded kind files (files_of_tree trees (items kind files)) (files_of trees c.in_ok-new.field-0) (root_unfolds kind table trees stored files is.map is.trees)
-    (λ q. c.in_ok-new.ensures.files trees q ∙ ap (λ all. files_of_tree trees all q) own)
+    (λ q. c.in_ok-new.ensures.root.files trees q ∙ ap (λ all. files_of_tree trees all q) own)
 
 pub returns-in_err-entries-clause-own : goal.returns-in_err-entries-clause-own
 returns-in_err-entries-clause-own g c = λ honest kind files is.
@@ -69,7 +69,7 @@ returns-clause-each g c = λ honest kind files is.
     let here = subst (λ i. StandsAs table i objects.Tree (Tree (items kind files))) (sym is.id) (tree_of_map table kind files is.map (has_all (IsInTable table kind) files is.trees)) in
     let own : map own_item c.in_ok-tree.tree.entries.items ≡ items kind files =
     c.in_ok-tree.ensures ∙ same_tree table (id_of c.args.root.now) (map item_of c.in_ok-entries.entries.items) (items kind files) (c.in_ok-entries.ensures.read honest) here in
-    c.in_ok-new.ensures.each (names_only kind (own_folders files))
+    c.in_ok-new.ensures.root.each (names_only kind (own_folders files))
     (subst (ItemsHave (names_only kind (own_folders files))) (sym own) (items_have kind (own_folders files) files is.map (λ name file. own_among files name file)))
 
 pub returns-clause-unopened : goal.returns-clause-unopened
@@ -77,5 +77,5 @@ returns-clause-unopened g c = λ honest trees stored names.
     let all = map item_of c.in_ok-entries.entries.items in
     let read = c.in_ok-entries.ensures.read honest in
     let there = stored (id_of c.args.root.now) read.0 all read.1 read.2.spelled in
-    same_into trees (slots_of c.in_ok-new.field-0.nodes.items) all (λ q. c.in_ok-new.ensures.files no_trees q ∙ ap (λ own. files_of_tree no_trees own q) c.in_ok-tree.ensures) names
+    same_into trees (slots_of c.in_ok-new.field-0.nodes.items) all (λ q. c.in_ok-new.ensures.root.files no_trees q ∙ ap (λ own. files_of_tree no_trees own q) c.in_ok-tree.ensures) names
     ∙ sym (ap (λ o. ids_from o (λ own. items_into trees own names)) there)

@@ -1,3 +1,4 @@
+use Rattle.gix_object_editor.proofs.Marked.{keeps_none}
 use Rattle.std.proofs.Common.{ℕ, length, List, ◌≡◌, Some, None, [], sym, subst, IfErr, IfOk}
 use Rattle.std.specs.Borrow.{Bor}
 use Rattle.std.proofs.lemmas.List.{get_or-map}
@@ -32,3 +33,6 @@ returns-clause-blocked g c = λ one.
 
 pub returns-then-names-gt1-clause-opened : goal.returns-then-names-gt1-clause-opened
 returns-then-names-gt1-clause-opened g c = opened_none _ _ (slots_of c.args.nodes.now.items) (length c.args.nodes.now.items) c.requires.forest
+
+pub returns-then-names-gt1-clause-kept : goal.returns-then-names-gt1-clause-kept
+returns-then-names-gt1-clause-kept g c = keeps_none _ _ c.args.nodes.now.items c.requires.forest

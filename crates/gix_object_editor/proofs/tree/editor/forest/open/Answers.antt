@@ -11,7 +11,7 @@ use Rattle.gix_object_editor.proofs.Loaded.{no_child}
 use Rattle.gix_object_editor.proofs.Opening.{opened_one, opened_same, opened_none, as_function}
 use Rattle.gix_object_nodes.specs.Marks.{marks_of}
 use Rattle.gix_object_editor.proofs.Kept.{opened_each}
-use Rattle.gix_object_editor.proofs.Marked.{marks_one, read_one, read_same}
+use Rattle.gix_object_editor.proofs.Marked.{marks_one, read_one, read_same, marks_same, keeps_none}
 use Rattle.gix_object_nodes.proofs.Slots.{none_past}
 use Rattle.gix_object_editor.specs.Asked.{unopened_into}
 use Rattle.gix_object_editor.proofs.Asking.{is_tree, isnt_tree, plain_split, folder_split, loaded_split, stops_opening, asks_one, asks_same}
@@ -61,63 +61,6 @@ returns-clause-opened g c =
     (λ honest. let tree = c.in_ok-tree.ensures.opened honest in (tree.0, λ m. subst (λ o. StandsFor o (named m tree.0)) (sym (at m)) (tree.1 m), tree.2))
     c.in_ok-attach.ensures.here (ap Some c.in_ok-attach.ensures.number) refl (λ m. ap child_of (at m) ∙ c.in_ok-tree.ensures.fresh m) c.in_ok-attach.ensures.others
     (λ i m lt. let le : length new ≤ i = omega arith in none_past new i m le) (λ i m le. none_past old i m le)
-
-pub returns-clause-marks : goal.returns-clause-marks
-returns-clause-marks g c =
-    let old = c.args.nodes.now.items in
-    let new = c.attach.new.nodes.items in
-    let s : Slot = c.in-Some.slot in
-    let t : Slot = record { mode = s.mode; oid = s.oid; child = Some c.in_ok-attach.field-0 } in
-    let ok : is_ok c.attach.result ≡ true = search rules in
-    let next : length new ≡ suc (length old) = search rules in
-    let stood : slots_of old c.args.at.0 c.args.name.now ≡ Some s = ap (λ ns. slots_of ns c.args.at.0 c.args.name.now) (sym c.as_slice.ensures.value) ∙ sym c.slot_at.ensures ∙ c.in-Some.is in
-    let closed : s.child ≡ None = no_child s.child (sym c.is_some.ensures ∙ c.if-is_some.false) in
-    let at : (m : Bytes) → slots_of new (length old) m ≡ slot_in c.in_ok-tree.tree m = c.in_ok-attach.ensures.behind in
-    let opened = returns-clause-opened g c in
-    marks_one (slots_of old) (slots_of new) (marks_of old) (marks_of new) (length old) (length new) c.requires.forest opened.forest next c.args.at.0 c.args.name.now s t c.requires.within stood closed
-    c.in_ok-attach.ensures.here (ap Some c.in_ok-attach.ensures.number) (λ m. ap child_of (at m) ∙ c.in_ok-tree.ensures.fresh m) c.in_ok-attach.ensures.others
-    (λ i m lt. let le : length new ≤ i = omega arith in none_past new i m le) c.in_ok-attach.ensures.marks c.in_ok-attach.ensures.unchanged
-
-pub returns-clause-as_read : goal.returns-clause-as_read
-returns-clause-as_read g c = λ honest trees has.
-    let old = c.args.nodes.now.items in
-    let new = c.attach.new.nodes.items in
-    let s : Slot = c.in-Some.slot in
-    let t : Slot = record { mode = s.mode; oid = s.oid; child = Some c.in_ok-attach.field-0 } in
-    let ok : is_ok c.attach.result ≡ true = search rules in
-    let next : length new ≡ suc (length old) = search rules in
-    let stood : slots_of old c.args.at.0 c.args.name.now ≡ Some s = ap (λ ns. slots_of ns c.args.at.0 c.args.name.now) (sym c.as_slice.ensures.value) ∙ sym c.slot_at.ensures ∙ c.in-Some.is in
-    let closed : s.child ≡ None = no_child s.child (sym c.is_some.ensures ∙ c.if-is_some.false) in
-    let at : (m : Bytes) → slots_of new (length old) m ≡ slot_in c.in_ok-tree.tree m = c.in_ok-attach.ensures.behind in
-    let opened = returns-clause-opened g c in
-    read_one (slots_of old) (slots_of new) (marks_of old) (marks_of new) (length old) (length new) c.requires.forest opened.forest next c.args.at.0 c.args.name.now s t c.requires.within stood closed
-    c.in_ok-attach.ensures.here (ap Some c.in_ok-attach.ensures.number) (λ m. ap child_of (at m) ∙ c.in_ok-tree.ensures.fresh m) c.in_ok-attach.ensures.others
-    (λ i m lt. let le : length new ≤ i = omega arith in none_past new i m le) c.in_ok-attach.ensures.marks c.in_ok-attach.ensures.unchanged
-    trees (opened.files honest trees has) refl
-
-pub returns-in_err-attach-clause-as_read : goal.returns-in_err-attach-clause-as_read
-returns-in_err-attach-clause-as_read g c = λ honest trees has read.
-    let old = c.args.nodes.now.items in
-    let new = c.attach.new.nodes.items in
-    read_same trees (slots_of old) (slots_of new) (marks_of old) (marks_of new) (length old) c.requires.forest (as_function (slots_of new) (slots_of old) c.in_err-attach.ensures.err) c.attach.ensures.marks read
-
-pub returns-clause-each : goal.returns-clause-each
-returns-clause-each g c = λ honest has down each.
-    let old = c.args.nodes.now.items in
-    let new = c.attach.new.nodes.items in
-    let s : Slot = c.in-Some.slot in
-    let t : Slot = record { mode = s.mode; oid = s.oid; child = Some c.in_ok-attach.field-0 } in
-    let ok : is_ok c.attach.result ≡ true = search rules in
-    let next : length new ≡ suc (length old) = search rules in
-    let stood : slots_of old c.args.at.0 c.args.name.now ≡ Some s = ap (λ ns. slots_of ns c.args.at.0 c.args.name.now) (sym c.as_slice.ensures.value) ∙ sym c.slot_at.ensures ∙ c.in-Some.is in
-    let closed : s.child ≡ None = no_child s.child (sym c.is_some.ensures ∙ c.if-is_some.false) in
-    let at : (m : Bytes) → slots_of new (length old) m ≡ slot_in c.in_ok-tree.tree m = c.in_ok-attach.ensures.behind in
-    let tree_mode : is_tree_value (leaf_in s).mode.value ≡ true = search rules in
-    opened_each (slots_of old) (slots_of new) (length old) c.args.at.0 c.args.name.now s t has _ each down stood tree_mode (not_null (id_of s.oid) c.is_null.result c.is_null.ensures c.if-is_null.false)
-    c.in_ok-attach.ensures.here refl c.in_ok-attach.ensures.others (slot_in c.in_ok-tree.tree) at (c.in_ok-tree.ensures.holds honest) (λ i m lt. let le : length new ≤ i = omega arith in none_past new i m le)
-
-pub returns-in_err-attach-clause-each : goal.returns-in_err-attach-clause-each
-returns-in_err-attach-clause-each g c = λ honest has down each i m s is. each i m s (sym (c.in_err-attach.ensures.err i m) ∙ is)
 
 pub returns-in_err-tree-clause-stops : goal.returns-in_err-tree-clause-stops
 returns-in_err-tree-clause-stops g c = λ honest.
@@ -190,3 +133,82 @@ returns-then-not-is_tree-clause-opened g c = opened_none _ _ (slots_of c.args.no
 
 pub returns-in_err-tree-clause-opened : goal.returns-in_err-tree-clause-opened
 returns-in_err-tree-clause-opened g c = opened_none _ _ (slots_of c.args.nodes.now.items) (length c.args.nodes.now.items) c.requires.forest
+
+pub returns-clause-kept : goal.returns-clause-kept
+returns-clause-kept g c =
+    record {
+      marks =
+          let old = c.args.nodes.now.items in
+          let new = c.attach.new.nodes.items in
+          let s : Slot = c.in-Some.slot in
+          let t : Slot = record { mode = s.mode; oid = s.oid; child = Some c.in_ok-attach.field-0 } in
+          let ok : is_ok c.attach.result ≡ true = search rules in
+          let next : length new ≡ suc (length old) = search rules in
+          let stood : slots_of old c.args.at.0 c.args.name.now ≡ Some s = ap (λ ns. slots_of ns c.args.at.0 c.args.name.now) (sym c.as_slice.ensures.value) ∙ sym c.slot_at.ensures ∙ c.in-Some.is in
+          let closed : s.child ≡ None = no_child s.child (sym c.is_some.ensures ∙ c.if-is_some.false) in
+          let at : (m : Bytes) → slots_of new (length old) m ≡ slot_in c.in_ok-tree.tree m = c.in_ok-attach.ensures.behind in
+          let opened = returns-clause-opened g c in
+          marks_one (slots_of old) (slots_of new) (marks_of old) (marks_of new) (length old) (length new) c.requires.forest opened.forest next c.args.at.0 c.args.name.now s t c.requires.within stood closed
+          c.in_ok-attach.ensures.here (ap Some c.in_ok-attach.ensures.number) (λ m. ap child_of (at m) ∙ c.in_ok-tree.ensures.fresh m) c.in_ok-attach.ensures.others
+          (λ i m lt. let le : length new ≤ i = omega arith in none_past new i m le) c.in_ok-attach.ensures.marks c.in_ok-attach.ensures.unchanged;
+      as_read =
+          λ honest trees has.
+          let old = c.args.nodes.now.items in
+          let new = c.attach.new.nodes.items in
+          let s : Slot = c.in-Some.slot in
+          let t : Slot = record { mode = s.mode; oid = s.oid; child = Some c.in_ok-attach.field-0 } in
+          let ok : is_ok c.attach.result ≡ true = search rules in
+          let next : length new ≡ suc (length old) = search rules in
+          let stood : slots_of old c.args.at.0 c.args.name.now ≡ Some s = ap (λ ns. slots_of ns c.args.at.0 c.args.name.now) (sym c.as_slice.ensures.value) ∙ sym c.slot_at.ensures ∙ c.in-Some.is in
+          let closed : s.child ≡ None = no_child s.child (sym c.is_some.ensures ∙ c.if-is_some.false) in
+          let at : (m : Bytes) → slots_of new (length old) m ≡ slot_in c.in_ok-tree.tree m = c.in_ok-attach.ensures.behind in
+          let opened = returns-clause-opened g c in
+          read_one (slots_of old) (slots_of new) (marks_of old) (marks_of new) (length old) (length new) c.requires.forest opened.forest next c.args.at.0 c.args.name.now s t c.requires.within stood closed
+          c.in_ok-attach.ensures.here (ap Some c.in_ok-attach.ensures.number) (λ m. ap child_of (at m) ∙ c.in_ok-tree.ensures.fresh m) c.in_ok-attach.ensures.others
+          (λ i m lt. let le : length new ≤ i = omega arith in none_past new i m le) c.in_ok-attach.ensures.marks c.in_ok-attach.ensures.unchanged
+          trees (opened.files honest trees has) refl;
+      each =
+          λ honest has down each.
+          let old = c.args.nodes.now.items in
+          let new = c.attach.new.nodes.items in
+          let s : Slot = c.in-Some.slot in
+          let t : Slot = record { mode = s.mode; oid = s.oid; child = Some c.in_ok-attach.field-0 } in
+          let ok : is_ok c.attach.result ≡ true = search rules in
+          let next : length new ≡ suc (length old) = search rules in
+          let stood : slots_of old c.args.at.0 c.args.name.now ≡ Some s = ap (λ ns. slots_of ns c.args.at.0 c.args.name.now) (sym c.as_slice.ensures.value) ∙ sym c.slot_at.ensures ∙ c.in-Some.is in
+          let closed : s.child ≡ None = no_child s.child (sym c.is_some.ensures ∙ c.if-is_some.false) in
+          let at : (m : Bytes) → slots_of new (length old) m ≡ slot_in c.in_ok-tree.tree m = c.in_ok-attach.ensures.behind in
+          let tree_mode : is_tree_value (leaf_in s).mode.value ≡ true = search rules in
+          opened_each (slots_of old) (slots_of new) (length old) c.args.at.0 c.args.name.now s t has _ each down stood tree_mode (not_null (id_of s.oid) c.is_null.result c.is_null.ensures c.if-is_null.false)
+          c.in_ok-attach.ensures.here refl c.in_ok-attach.ensures.others (slot_in c.in_ok-tree.tree) at (c.in_ok-tree.ensures.holds honest) (λ i m lt. let le : length new ≤ i = omega arith in none_past new i m le);
+    }
+
+pub returns-in_err-attach-clause-kept : goal.returns-in_err-attach-clause-kept
+returns-in_err-attach-clause-kept g c =
+    let old = c.args.nodes.now.items in
+    let new = c.attach.new.nodes.items in
+    let no : is_ok c.attach.result ≡ false = search rules in
+    let len : length old ≡ length new = search rules in
+    record {
+      marks =
+          marks_same false (slots_of old) (slots_of new) (marks_of old) (marks_of new) (length old) (length new) c.requires.forest len c.in_err-attach.ensures.err c.attach.ensures.marks;
+      as_read =
+          λ honest trees has read.
+          let old = c.args.nodes.now.items in
+          let new = c.attach.new.nodes.items in
+          read_same trees (slots_of old) (slots_of new) (marks_of old) (marks_of new) (length old) c.requires.forest (as_function (slots_of new) (slots_of old) c.in_err-attach.ensures.err) c.attach.ensures.marks read;
+      each =
+          λ honest has down each i m s is. each i m s (sym (c.in_err-attach.ensures.err i m) ∙ is);
+    }
+
+pub returns-in_default-clause-kept : goal.returns-in_default-clause-kept
+returns-in_default-clause-kept g c = keeps_none _ _ c.args.nodes.now.items c.requires.forest
+
+pub returns-then-is_some-clause-kept : goal.returns-then-is_some-clause-kept
+returns-then-is_some-clause-kept g c = keeps_none _ _ c.args.nodes.now.items c.requires.forest
+
+pub returns-then-not-is_tree-clause-kept : goal.returns-then-not-is_tree-clause-kept
+returns-then-not-is_tree-clause-kept g c = keeps_none _ _ c.args.nodes.now.items c.requires.forest
+
+pub returns-in_err-tree-clause-kept : goal.returns-in_err-tree-clause-kept
+returns-in_err-tree-clause-kept g c = keeps_none _ _ c.args.nodes.now.items c.requires.forest

@@ -1,15 +1,14 @@
-use Rattle.std.proofs.Common.{ℕ, inl, sym, ◌≡◌, List, ◌++◌, [], ◌∷◌, ◌<◌, ◌∙◌, ap, subst, arith, length, drop, refl, false}
+use Rattle.std.proofs.Common.{ℕ, inl, sym, ◌≡◌, List, ◌++◌, [], ◌∷◌, ◌<◌, ◌∙◌, ap, subst, arith, length, drop, refl}
 use Rattle.std.specs.Borrow.{Bor}
 use Rattle.std.proofs.lemmas.List.{get_or-map}
 use Rattle.std.proofs.lemmas.Result.{err_from_is_err_and}
 use Rattle.gix_hash_id.specs.Id.{id_of}
 use Rattle.gix_object_nodes.specs.Nodes.{slots_of, IsNoFolder, onto, LeadsTo}
-use Rattle.gix_object_nodes.specs.Marks.{marks_of}
 use Rattle.gix_object_nodes.specs.Files.{Path}
 use Rattle.gix_object_editor.specs.Asked.{front_of, unopened_into, AsksUpTo}
 use Rattle.gix_object_editor.proofs.Asking.{front_ends, asks_none, walk_step, walk_ends, walk_stops}
 use Rattle.gix_object_editor.proofs.Opening.{opened_none, opened_then}
-use Rattle.gix_object_editor.proofs.Marked.{marks_none, marks_then}
+use Rattle.gix_object_editor.proofs.Marked.{keeps_none, keeps_then}
 use Rattle.gix_object_editor.proofs.Edits.{two_names}
 use Rattle.gix_object_editor.proofs.Standing.{walk_grown, walk_before}
 use Rattle.gix_object_editor.proofs.Walked.{names, leads_kept, leads_on, folder_found}
@@ -30,10 +29,7 @@ names-preserved g c =
       below = let up : c.names.at.0 < c.in-Some.child.0 = c.in_ok-child.ensures.opened.forest.forward c.names.at.0 _ c.in-Some.child.0 found in let from = c.names.invariant.below in omega arith;
       left = omega arith;
       opened = opened_then _ _ (slots_of c.args.nodes.now.items) (slots_of old) (slots_of new) (length c.args.nodes.now.items) (length old) (length new) c.names.invariant.opened c.in_ok-child.ensures.opened;
-      marks = marks_then false (slots_of c.args.nodes.now.items) (slots_of old) (slots_of new) (marks_of c.args.nodes.now.items) (marks_of old) (marks_of new) (length c.args.nodes.now.items) (length old) (length new)
-          c.names.invariant.opened.longer c.in_ok-child.ensures.opened.longer c.names.invariant.marks c.in_ok-child.ensures.marks;
-      as_read = λ h trees has read. c.in_ok-child.ensures.as_read h trees has (c.names.invariant.as_read h trees has read);
-      each = λ h has down was. c.in_ok-child.ensures.each h has down (c.names.invariant.each h has down was);
+      kept = keeps_then _ _ c.args.nodes.now.items old new c.names.invariant.opened.longer c.in_ok-child.ensures.opened.longer c.names.invariant.kept c.in_ok-child.ensures.kept;
       leads = λ way w. leads_on (slots_of old) (slots_of new) (onto way (names c.args.path.now)) c.args.path.now c.names.at.0 c.names.depth _ c.in-Some.child.0 lt c.in_ok-child.ensures.opened.links found (c.names.invariant.leads way w);
       last = walk_grown (length c.args.nodes.now.items) (length old) (length new) c.names.at.0 c.in-Some.child.0 c.names.invariant.opened.longer
           (c.in_ok-child.ensures.opened.forest.forward c.names.at.0 _ c.in-Some.child.0 found) (c.in_ok-child.ensures.opened.forest.within c.names.at.0 _ c.in-Some.child.0 found) c.names.invariant.last (c.in_ok-child.ensures.grown c.in-Some.child c.in-Some.is);
@@ -48,9 +44,7 @@ names-init g c = record {
   below = omega arith;
   left = c.requires.named;
   opened = opened_none _ _ (slots_of c.args.nodes.now.items) (length c.args.nodes.now.items) c.requires.forest;
-  marks = marks_none false (slots_of c.args.nodes.now.items) (marks_of c.args.nodes.now.items) (length c.args.nodes.now.items) c.requires.forest;
-  as_read = λ h trees has read. read;
-  each = λ h has down was. was;
+  kept = keeps_none _ _ c.args.nodes.now.items c.requires.forest;
   leads = λ way w. (way, w, refl);
   last = inl refl;
   counted = omega arith;
@@ -80,12 +74,6 @@ returns-in_err-child-clause-refused g c =
       told.3,
     )
 
-pub returns-in_err-child-clause-each : goal.returns-in_err-child-clause-each
-returns-in_err-child-clause-each g c = λ honest has down each. c.in_err-child.ensures.each honest has down (c.names.invariant.each honest has down each)
-
-pub returns-in_default-clause-each : goal.returns-in_default-clause-each
-returns-in_default-clause-each g c = λ honest has down each. c.in_ok-child.ensures.each honest has down (c.names.invariant.each honest has down each)
-
 pub returns-in_err-child-clause-stops : goal.returns-in_err-child-clause-stops
 returns-in_err-child-clause-stops g c = λ honest.
     let p = err_from_is_err_and c.from_residual.result c.from_residual.ensures.1 in
@@ -103,8 +91,6 @@ pub returns-in_default-clause-asked_all : goal.returns-in_default-clause-asked_a
 returns-in_default-clause-asked_all g c = λ honest trees has more lt.
     walk_ends (g.S.Lookup.table c.args.store.now) trees (slots_of c.names.nodes.items) (slots_of c.open.new.nodes.items) c.names.at.0 c.args.path.now c.names.depth _ more _ c.args.lookups.now c.names.lookups c.open.new.lookups
     c.names-test.true (c.names.invariant.asked honest trees has more) c.in_ok-child.field-0 c.in_default.is (c.in_ok-child.ensures.asked honest trees has)
-
--- ---- what is at the end
 
 pub returns-in_default-clause-blocked : goal.returns-in_default-clause-blocked
 returns-in_default-clause-blocked g c = λ lt.
@@ -129,3 +115,13 @@ pub returns-in_default-clause-opened : goal.returns-in_default-clause-opened
 returns-in_default-clause-opened g c =
     opened_then _ _ (slots_of c.args.nodes.now.items) (slots_of c.names.nodes.items) (slots_of c.open.new.nodes.items) (length c.args.nodes.now.items) (length c.names.nodes.items) (length c.open.new.nodes.items)
     c.names.invariant.opened c.in_ok-child.ensures.opened
+
+pub returns-in_err-child-clause-kept : goal.returns-in_err-child-clause-kept
+returns-in_err-child-clause-kept g c =
+    keeps_then _ _ c.args.nodes.now.items c.names.nodes.items c.open.new.nodes.items c.names.invariant.opened.longer c.in_err-child.ensures.opened.longer
+    c.names.invariant.kept c.in_err-child.ensures.kept
+
+pub returns-in_default-clause-kept : goal.returns-in_default-clause-kept
+returns-in_default-clause-kept g c =
+    keeps_then _ _ c.args.nodes.now.items c.names.nodes.items c.open.new.nodes.items c.names.invariant.opened.longer c.in_ok-child.ensures.opened.longer
+    c.names.invariant.kept c.in_ok-child.ensures.kept

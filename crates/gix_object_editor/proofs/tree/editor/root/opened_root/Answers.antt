@@ -13,62 +13,58 @@ use Rattle.gix_object_editor.proofs.Loaded.{fresh_of, one_tree, tree_files}
 use Rattle.gix_object_nodes.proofs.Slots.{none_past}
 use Rattle.gix_object_editor.proofs.tree.editor.root.opened_root.Goals as goal
 
-pub returns-clause-forest : goal.returns-clause-forest
-returns-clause-forest c =
-    let node = c.place.new.self in
-    let ok : is_ok c.push.result ≡ true = search rules in
-    let pushed : c.push.new.self.items ≡ node ∷ [] =
-    c.push.ensures.items ∙ ap (λ b. if b then c.new-nodes.result.items ++ node ∷ [] else c.new-nodes.result.items) ok ∙ ap (λ (xs : List Node). xs ++ node ∷ []) c.new-nodes.ensures.items in
-    subst (λ (ns : List Node). IsForest (slots_of ns) (length ns)) (sym pushed)
-    (one_tree (slots_of (node ∷ [])) (λ m. ap child_of (c.place.ensures.slots m) ∙ fresh_of (slot_in c.in_ok-node.node m) _ (c.in_ok-node.ensures m)) (λ i m lt. let le : length (node ∷ []) ≤ i = omega arith in none_past (node ∷ []) i m le))
-
-pub returns-clause-files : goal.returns-clause-files
-returns-clause-files c = λ trees q.
-    let node = c.place.new.self in
-    let ok : is_ok c.push.result ≡ true = search rules in
-    let pushed : c.push.new.self.items ≡ node ∷ [] =
-    c.push.ensures.items ∙ ap (λ b. if b then c.new-nodes.result.items ++ node ∷ [] else c.new-nodes.result.items) ok ∙ ap (λ (xs : List Node). xs ++ node ∷ []) c.new-nodes.ensures.items in
-    ap (λ (ns : List Node). files_of_node trees (slots_of ns) 0 q) pushed ∙ tree_files trees (slots_of (node ∷ [])) 0 (map own_item c.args.root.now.entries.items) (λ m. subst (λ o. StandsFor o (named m (map own_item c.args.root.now.entries.items))) (sym (c.place.ensures.slots m)) (c.in_ok-node.ensures m)) q
-
-pub returns-clause-closed : goal.returns-clause-closed
-returns-clause-closed c = λ i m.
-    let node = c.place.new.self in
-    let ok : is_ok c.push.result ≡ true = search rules in
-    let pushed : c.push.new.self.items ≡ node ∷ [] =
-    c.push.ensures.items ∙ ap (λ b. if b then c.new-nodes.result.items ++ node ∷ [] else c.new-nodes.result.items) ok ∙ ap (λ (xs : List Node). xs ++ node ∷ []) c.new-nodes.ensures.items in
-    ap (λ (ns : List Node). child_of (slots_of ns i m)) pushed ∙ one_closed node (λ k. ap child_of (c.place.ensures.slots k) ∙ fresh_of (slot_in c.in_ok-node.node k) _ (c.in_ok-node.ensures k)) i m
-
-pub returns-clause-unchanged : goal.returns-clause-unchanged
-returns-clause-unchanged c = λ i.
-    let node = c.place.new.self in
-    let ok : is_ok c.push.result ≡ true = search rules in
-    let pushed : c.push.new.self.items ≡ node ∷ [] =
-    c.push.ensures.items ∙ ap (λ b. if b then c.new-nodes.result.items ++ node ∷ [] else c.new-nodes.result.items) ok ∙ ap (λ (xs : List Node). xs ++ node ∷ []) c.new-nodes.ensures.items in
-    ap (λ (ns : List Node). (marks_of ns i).changed) pushed ∙ one_unchanged node (ap (λ (m : Mark). m.changed) c.place.ensures.mark) i
-
-pub returns-clause-marked : goal.returns-clause-marked
-returns-clause-marked c =
-    let node = c.place.new.self in
-    let ok : is_ok c.push.result ≡ true = search rules in
-    let pushed : c.push.new.self.items ≡ node ∷ [] =
-    c.push.ensures.items ∙ ap (λ b. if b then c.new-nodes.result.items ++ node ∷ [] else c.new-nodes.result.items) ok ∙ ap (λ (xs : List Node). xs ++ node ∷ []) c.new-nodes.ensures.items in
-    subst (λ (ns : List Node). AreMarked (slots_of ns) (marks_of ns) (length ns)) (sym pushed)
-    (one_marked node (λ k. ap child_of (c.place.ensures.slots k) ∙ fresh_of (slot_in c.in_ok-node.node k) _ (c.in_ok-node.ensures k)))
-
-pub returns-clause-each : goal.returns-clause-each
-returns-clause-each c = λ has items.
-    let node = c.place.new.self in
-    let ok : is_ok c.push.result ≡ true = search rules in
-    let pushed : c.push.new.self.items ≡ node ∷ [] =
-    c.push.ensures.items ∙ ap (λ b. if b then c.new-nodes.result.items ++ node ∷ [] else c.new-nodes.result.items) ok ∙ ap (λ (xs : List Node). xs ++ node ∷ []) c.new-nodes.ensures.items in
-    subst (λ (ns : List Node). EachHas has (slots_of ns)) (sym pushed)
-    (one_each node (map own_item c.args.root.now.entries.items) has
-    (λ m. subst (λ o. StandsFor o (named m (map own_item c.args.root.now.entries.items))) (sym (c.place.ensures.slots m)) (c.in_ok-node.ensures m)) items)
-
-pub returns-clause-entries : goal.returns-clause-entries
-returns-clause-entries c = λ trees q.
-    let node = c.place.new.self in
-    let ok : is_ok c.push.result ≡ true = search rules in
-    let pushed : c.push.new.self.items ≡ node ∷ [] =
-    c.push.ensures.items ∙ ap (λ b. if b then c.new-nodes.result.items ++ node ∷ [] else c.new-nodes.result.items) ok ∙ ap (λ (xs : List Node). xs ++ node ∷ []) c.new-nodes.ensures.items in
-    ap (λ (ns : List Node). entry_from none_met trees (slots_of ns) 0 q) pushed ∙ tree_entries trees (slots_of (node ∷ [])) 0 (map own_item c.args.root.now.entries.items) (λ m. subst (λ o. StandsFor o (named m (map own_item c.args.root.now.entries.items))) (sym (c.place.ensures.slots m)) (c.in_ok-node.ensures m)) q
+pub returns : goal.returns
+returns c =
+    record {
+      forest =
+          let node = c.place.new.self in
+          let ok : is_ok c.push.result ≡ true = search rules in
+          let pushed : c.push.new.self.items ≡ node ∷ [] =
+          c.push.ensures.items ∙ ap (λ b. if b then c.new-nodes.result.items ++ node ∷ [] else c.new-nodes.result.items) ok ∙ ap (λ (xs : List Node). xs ++ node ∷ []) c.new-nodes.ensures.items in
+          subst (λ (ns : List Node). IsForest (slots_of ns) (length ns)) (sym pushed)
+          (one_tree (slots_of (node ∷ [])) (λ m. ap child_of (c.place.ensures.slots m) ∙ fresh_of (slot_in c.in_ok-node.node m) _ (c.in_ok-node.ensures m)) (λ i m lt. let le : length (node ∷ []) ≤ i = omega arith in none_past (node ∷ []) i m le));
+      marked =
+          let node = c.place.new.self in
+          let ok : is_ok c.push.result ≡ true = search rules in
+          let pushed : c.push.new.self.items ≡ node ∷ [] =
+          c.push.ensures.items ∙ ap (λ b. if b then c.new-nodes.result.items ++ node ∷ [] else c.new-nodes.result.items) ok ∙ ap (λ (xs : List Node). xs ++ node ∷ []) c.new-nodes.ensures.items in
+          subst (λ (ns : List Node). AreMarked (slots_of ns) (marks_of ns) (length ns)) (sym pushed)
+          (one_marked node (λ k. ap child_of (c.place.ensures.slots k) ∙ fresh_of (slot_in c.in_ok-node.node k) _ (c.in_ok-node.ensures k)));
+      unchanged =
+          λ i.
+          let node = c.place.new.self in
+          let ok : is_ok c.push.result ≡ true = search rules in
+          let pushed : c.push.new.self.items ≡ node ∷ [] =
+          c.push.ensures.items ∙ ap (λ b. if b then c.new-nodes.result.items ++ node ∷ [] else c.new-nodes.result.items) ok ∙ ap (λ (xs : List Node). xs ++ node ∷ []) c.new-nodes.ensures.items in
+          ap (λ (ns : List Node). (marks_of ns i).changed) pushed ∙ one_unchanged node (ap (λ (m : Mark). m.changed) c.place.ensures.mark) i;
+      closed =
+          λ i m.
+          let node = c.place.new.self in
+          let ok : is_ok c.push.result ≡ true = search rules in
+          let pushed : c.push.new.self.items ≡ node ∷ [] =
+          c.push.ensures.items ∙ ap (λ b. if b then c.new-nodes.result.items ++ node ∷ [] else c.new-nodes.result.items) ok ∙ ap (λ (xs : List Node). xs ++ node ∷ []) c.new-nodes.ensures.items in
+          ap (λ (ns : List Node). child_of (slots_of ns i m)) pushed ∙ one_closed node (λ k. ap child_of (c.place.ensures.slots k) ∙ fresh_of (slot_in c.in_ok-node.node k) _ (c.in_ok-node.ensures k)) i m;
+      each =
+          λ has items.
+          let node = c.place.new.self in
+          let ok : is_ok c.push.result ≡ true = search rules in
+          let pushed : c.push.new.self.items ≡ node ∷ [] =
+          c.push.ensures.items ∙ ap (λ b. if b then c.new-nodes.result.items ++ node ∷ [] else c.new-nodes.result.items) ok ∙ ap (λ (xs : List Node). xs ++ node ∷ []) c.new-nodes.ensures.items in
+          subst (λ (ns : List Node). EachHas has (slots_of ns)) (sym pushed)
+          (one_each node (map own_item c.args.root.now.entries.items) has
+          (λ m. subst (λ o. StandsFor o (named m (map own_item c.args.root.now.entries.items))) (sym (c.place.ensures.slots m)) (c.in_ok-node.ensures m)) items);
+      files =
+          λ trees q.
+          let node = c.place.new.self in
+          let ok : is_ok c.push.result ≡ true = search rules in
+          let pushed : c.push.new.self.items ≡ node ∷ [] =
+          c.push.ensures.items ∙ ap (λ b. if b then c.new-nodes.result.items ++ node ∷ [] else c.new-nodes.result.items) ok ∙ ap (λ (xs : List Node). xs ++ node ∷ []) c.new-nodes.ensures.items in
+          ap (λ (ns : List Node). files_of_node trees (slots_of ns) 0 q) pushed ∙ tree_files trees (slots_of (node ∷ [])) 0 (map own_item c.args.root.now.entries.items) (λ m. subst (λ o. StandsFor o (named m (map own_item c.args.root.now.entries.items))) (sym (c.place.ensures.slots m)) (c.in_ok-node.ensures m)) q;
+      entries =
+          λ trees q.
+          let node = c.place.new.self in
+          let ok : is_ok c.push.result ≡ true = search rules in
+          let pushed : c.push.new.self.items ≡ node ∷ [] =
+          c.push.ensures.items ∙ ap (λ b. if b then c.new-nodes.result.items ++ node ∷ [] else c.new-nodes.result.items) ok ∙ ap (λ (xs : List Node). xs ++ node ∷ []) c.new-nodes.ensures.items in
+          ap (λ (ns : List Node). entry_from none_met trees (slots_of ns) 0 q) pushed ∙ tree_entries trees (slots_of (node ∷ [])) 0 (map own_item c.args.root.now.entries.items) (λ m. subst (λ o. StandsFor o (named m (map own_item c.args.root.now.entries.items))) (sym (c.place.ensures.slots m)) (c.in_ok-node.ensures m)) q;
+    }

@@ -11,20 +11,22 @@ returns-clause-entry g c = λ base stands some.
     c.entry_from.ensures ∙ ap (λ ns. entry_at (slots_of ns) c.args.self.now.at.0 (names c.args.path.now)) c.as_slice.ensures.value
     ∙ entry_below (slots_of c.args.self.now.editor.now.nodes.items) base c.args.self.now.at.0 c.args.path.now stands some
 
-pub returns-clause-file : goal.returns-clause-file
-returns-clause-file g c = λ base stands trees leaf item file is.
-    let slots = slots_of c.args.self.now.editor.now.nodes.items in
-    let got = sym (c.entry_from.ensures ∙ ap (λ ns. entry_at (slots_of ns) c.args.self.now.at.0 (names c.args.path.now)) c.as_slice.ensures.value) ∙ is in
-    got_file_below trees slots base c.args.self.now.at.0 (names_of c.args.path.now) leaf item stands file got
-
-pub returns-clause-there : goal.returns-clause-there
-returns-clause-there g c = λ base stands trees item is some gone.
-    let slots = slots_of c.args.self.now.editor.now.nodes.items in
-    let got = sym (c.entry_from.ensures ∙ ap (λ ns. entry_at (slots_of ns) c.args.self.now.at.0 (names c.args.path.now)) c.as_slice.ensures.value) ∙ is in
-    got_below trees slots base c.args.self.now.at.0 (names_of c.args.path.now) item stands got some gone
-
-pub returns-clause-stands : goal.returns-clause-stands
-returns-clause-stands g c = λ base stands trees item is.
-    let slots = slots_of c.args.self.now.editor.now.nodes.items in
-    let got = sym (c.entry_from.ensures ∙ ap (λ ns. entry_at (slots_of ns) c.args.self.now.at.0 (names c.args.path.now)) c.as_slice.ensures.value) ∙ is in
-    got_entry_below trees slots base c.args.self.now.at.0 (names_of c.args.path.now) item stands got
+pub returns-clause-found : goal.returns-clause-found
+returns-clause-found g c = λ base stands.
+    record {
+      file =
+          λ trees leaf item file is.
+          let slots = slots_of c.args.self.now.editor.now.nodes.items in
+          let got = sym (c.entry_from.ensures ∙ ap (λ ns. entry_at (slots_of ns) c.args.self.now.at.0 (names c.args.path.now)) c.as_slice.ensures.value) ∙ is in
+          got_file_below trees slots base c.args.self.now.at.0 (names_of c.args.path.now) leaf item stands file got;
+      stands =
+          λ trees item is.
+          let slots = slots_of c.args.self.now.editor.now.nodes.items in
+          let got = sym (c.entry_from.ensures ∙ ap (λ ns. entry_at (slots_of ns) c.args.self.now.at.0 (names c.args.path.now)) c.as_slice.ensures.value) ∙ is in
+          got_entry_below trees slots base c.args.self.now.at.0 (names_of c.args.path.now) item stands got;
+      there =
+          λ trees item is some gone.
+          let slots = slots_of c.args.self.now.editor.now.nodes.items in
+          let got = sym (c.entry_from.ensures ∙ ap (λ ns. entry_at (slots_of ns) c.args.self.now.at.0 (names c.args.path.now)) c.as_slice.ensures.value) ∙ is in
+          got_below trees slots base c.args.self.now.at.0 (names_of c.args.path.now) item stands got some gone;
+    }

@@ -3,19 +3,9 @@ use Rattle.gix_hash_id.specs.Id.{id_of}
 use Rattle.gix_object_editor.specs.declared.tree.editor.error.Error.{Error}
 use Rattle.gix_object_editor.specs.declared.tree.editor.error.Error.TheVariants.{EmptyTree}
 use Rattle.gix_object_nodes.specs.Files.{IsEmptyTree, NamesAreFull}
-use Rattle.gix_object_editor.specs.Editor.{files_of, names_of, leaf_of_kind, LeadsThrough, EditFault}
-use Rattle.gix_object_editor.proofs.Grafted.{folder_put, file_put, or_other, not_so}
+use Rattle.gix_object_editor.specs.Editor.{files_of, names_of, LeadsThrough, EditFault}
+use Rattle.gix_object_editor.proofs.Grafted.{grafts_put, or_other, not_so}
 use Rattle.gix_object_editor.proofs.tree.editor.state.Cursor.graft.Goals as goal
-
-pub returns-clause-folder : goal.returns-clause-folder
-returns-clause-folder g c = λ base stands honest.
-    folder_put (g.S.Lookup.table c.args.self.now.editor.now.store) (λ trees. files_of trees c.upsert.new.self.editor.now) (λ trees. files_of trees c.args.self.now.editor.now) (base ++ names_of c.args.path.now) (leaf_of_kind c.args.kind c.args.id)
-    c.upsert.result (c.upsert.ensures.put base stands honest)
-
-pub returns-clause-file : goal.returns-clause-file
-returns-clause-file g c = λ base stands honest.
-    file_put (g.S.Lookup.table c.args.self.now.editor.now.store) (λ trees. files_of trees c.upsert.new.self.editor.now) (λ trees. files_of trees c.args.self.now.editor.now) (base ++ names_of c.args.path.now) (leaf_of_kind c.args.kind c.args.id)
-    c.upsert.result (c.upsert.ensures.put base stands honest)
 
 pub returns-clause-each : goal.returns-clause-each
 returns-clause-each g c = λ honest has down fits each. c.upsert.ensures.each honest has down (fits c.in_ok-check_graft.ensures.ok.1) each
@@ -30,3 +20,7 @@ pub returns-clause-untouched : goal.returns-clause-untouched
 returns-clause-untouched g c = λ base stands is.
     absurd (not_so c.upsert.result (EditFault (g.S.Lookup.is_honest c.args.self.now.editor.now.store) (g.S.Lookup.may_fail c.args.self.now.editor.now.store) (g.S.Lookup.table c.args.self.now.editor.now.store) (names_of c.args.path.now)
     (LeadsThrough (λ trees. files_of trees c.upsert.new.self.editor.now) (base ++ names_of c.args.path.now))) EmptyTree (c.upsert.ensures.refused base stands) (λ no. no) is)
+
+pub returns-clause-grafted : goal.returns-clause-grafted
+returns-clause-grafted g c = λ base stands.
+    grafts_put g.S.Lookup.is_honest g.S.Lookup.table (base ++ names_of c.args.path.now) c.args.kind c.args.id c.args.self.now.editor.now c.upsert.new.self.editor.now c.upsert.result (c.upsert.ensures.put base stands)

@@ -11,32 +11,24 @@ returns-in_err-at g c =
         refl,
         λ w. tt,
         record {
-          files = c.in_err-at.ensures.unchanged;
-          entries = c.in_err-at.ensures.same_entries;
-          as_read = c.in_err-at.ensures.as_read;
-          still = c.in_err-at.ensures.still;
+          files = c.in_err-at.ensures.kept.unchanged;
+          entries = c.in_err-at.ensures.kept.same_entries;
+          as_read = c.in_err-at.ensures.kept.as_read;
+          still = c.in_err-at.ensures.kept.still;
           fault = c.in_err-at.ensures.refused;
-          full = c.in_err-at.ensures.full;
+          full = c.in_err-at.ensures.kept.full;
           asked = c.in_err-at.ensures.asked;
-          counted = omega (arith, c.in_err-at.ensures.counted, names_length c.args.path.now);
-          store = c.in_err-at.ensures.store;
+          counted = omega (arith, c.in_err-at.ensures.kept.counted, names_length c.args.path.now);
+          store = c.in_err-at.ensures.kept.store;
         },
       ),
       record {
         left = tt;
+        made = tt;
         stands = tt;
-        cleared = λ honest. tt;
-        entries = λ honest. tt;
-        folders = λ honest. tt;
-        named = tt;
-        each = λ honest. tt;
-        as_read = λ honest. tt;
-        changed = tt;
-        nothing = λ honest. tt;
-        stood = λ honest. tt;
-        counted = tt;
         asked = λ honest. tt;
-        store = tt;
+        each = tt;
+        kept = tt;
         lent = tt;
       },
     )

@@ -7,14 +7,16 @@ use Rattle.gix_object_editor.proofs.tree.editor.state.Editor.get.Goals as goal
 pub returns-clause-answer : goal.returns-clause-answer
 returns-clause-answer g c = c.entry_from.ensures ∙ ap (λ ns. entry_at (slots_of ns) 0 (names_of c.args.path.now)) c.as_slice.ensures.value
 
-pub returns-clause-file : goal.returns-clause-file
-returns-clause-file g c = λ trees leaf item stands is.
-    got_file trees (slots_of c.args.self.now.nodes.items) (names_of c.args.path.now) 0 leaf item stands (sym (returns-clause-answer g c) ∙ is)
-
-pub returns-clause-there : goal.returns-clause-there
-returns-clause-there g c = λ trees item is some gone.
-    got_there trees (slots_of c.args.self.now.nodes.items) (names_of c.args.path.now) 0 [] item refl (sym (returns-clause-answer g c) ∙ is) some gone
-
-pub returns-clause-stands : goal.returns-clause-stands
-returns-clause-stands g c = λ trees item is.
-    got_entry trees (slots_of c.args.self.now.nodes.items) (names_of c.args.path.now) 0 item (sym (returns-clause-answer g c) ∙ is)
+pub returns-clause-found : goal.returns-clause-found
+returns-clause-found g c =
+    record {
+      file =
+          λ trees leaf item stands is.
+          got_file trees (slots_of c.args.self.now.nodes.items) (names_of c.args.path.now) 0 leaf item stands (sym (returns-clause-answer g c) ∙ is);
+      stands =
+          λ trees item is.
+          got_entry trees (slots_of c.args.self.now.nodes.items) (names_of c.args.path.now) 0 item (sym (returns-clause-answer g c) ∙ is);
+      there =
+          λ trees item is some gone.
+          got_there trees (slots_of c.args.self.now.nodes.items) (names_of c.args.path.now) 0 [] item refl (sym (returns-clause-answer g c) ∙ is) some gone;
+    }

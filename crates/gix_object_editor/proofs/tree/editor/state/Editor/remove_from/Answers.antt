@@ -1,4 +1,4 @@
-use Rattle.std.proofs.Common.{ℕ, ◌⊎◌, inl, true, false, drop, refl, None, [], ◌∷◌, ◌≡◌, ◌∙◌, ◌<◌, ◌+◌, List, ap, sym, subst, arith, length, get_or}
+use Rattle.std.proofs.Common.{ℕ, ◌⊎◌, inl, true, false, drop, refl, None, [], ◌∷◌, ◌≡◌, ◌∙◌, ◌<◌, ◌+◌, List, ap, sym, subst, arith, length, get_or, ◌≤◌, inr}
 use Rattle.std.specs.Borrow.{Bor}
 use Rattle.std.proofs.lemmas.Result.{err_from_is_err_and}
 use Rattle.gix_object_editor.specs.declared.tree.editor.state.Editor.{Editor}
@@ -38,7 +38,7 @@ cut-requires-clause-marked g c =
     let old = c.args.self.now.nodes.items in
     let mid = c.walk.new.nodes.items in
     subst (λ ns. AreMarked (slots_of ns) (marks_of ns) (length ns)) (sym c.as_mut_slice.ensures.value)
-    (opened_marked (slots_of old) (slots_of mid) (marks_of old) (marks_of mid) (length old) (length mid) c.args.self.now.forest c.args.self.now.marked false (c.in_ok-at.ensures.marks) (c.in_ok-at.ensures.opened.forest) (c.in_ok-at.ensures.marks).fresh)
+    (opened_marked (slots_of old) (slots_of mid) (marks_of old) (marks_of mid) (length old) (length mid) c.args.self.now.forest c.args.self.now.marked false (c.in_ok-at.ensures.kept.marks) (c.in_ok-at.ensures.opened.forest) (c.in_ok-at.ensures.kept.marks).fresh)
 
 pub invariant_of-self-then-depth-path : goal.invariant_of-self-then-depth-path
 invariant_of-self-then-depth-path g c =
@@ -63,36 +63,14 @@ invariant_of-self-else-depth-path g c =
     let mid = c.walk.new.nodes.items in
     record {
       forest = c.in_ok-at.ensures.opened.forest;
-      marked = opened_marked (slots_of old) (slots_of mid) (marks_of old) (marks_of mid) (length old) (length mid) c.args.self.now.forest c.args.self.now.marked false c.in_ok-at.ensures.marks c.in_ok-at.ensures.opened.forest c.in_ok-at.ensures.marks.fresh;
+      marked = opened_marked (slots_of old) (slots_of mid) (marks_of old) (marks_of mid) (length old) (length mid) c.args.self.now.forest c.args.self.now.marked false c.in_ok-at.ensures.kept.marks c.in_ok-at.ensures.opened.forest c.in_ok-at.ensures.kept.marks.fresh;
     }
 
-pub returns-clause-removed : goal.returns-clause-removed
-returns-clause-removed g c = λ way w_way honest trees has q. elim c.if-depth-path.branch [
-  | then-depth-path w ↦
-      let old = c.args.self.now.nodes.items in
-      let mid = c.walk.new.nodes.items in
-      let new = w.cut.new.nodes in
-      let n : c.walk.new.nodes.len ≡ length new = omega (arith, w.cut.auto.nodes, w.as_mut_slice.ensures.len) in
-      ap (λ (e : Editor _). files_of trees e q) w.self-is
-      ∙ ap (λ ns. files_of_node trees (slots_of ns) 0 q) (back c.walk.new.nodes.len new _ n)
-      ∙ removes_at _ _ (slots_of old) (slots_of mid) (length old) (length mid) c.args.self.now.forest c.in_ok-at.ensures.opened (onto way (names_of c.args.path.now)) c.in_ok-at.at.0
-      (slots_of new) _ _ (c.in_ok-at.ensures.leads way w_way) (last_name c.args.path.now c.in_ok-at.depth _ w.if-depth-path.true) w.cut.ensures.here
-      (λ i m off. w.cut.ensures.others i m off ∙ ap (λ ns. slots_of ns i m) w.as_mut_slice.ensures.value) honest trees has q
-  | else-depth-path w ↦
-      let old = c.args.self.now.nodes.items in
-      let mid = c.walk.new.nodes.items in
-      let lt : c.in_ok-at.depth + 1 < length c.args.path.now = omega (arith, c.in_ok-at.ensures.within.1, w.if-depth-path.false) in
-      let left = two_names c.args.path.now c.in_ok-at.depth lt in
-      ap (λ (e : Editor _). files_of trees e q) w.self-is
-      ∙ removes_none _ _ (slots_of old) (slots_of mid) (length old) (length mid) c.args.self.now.forest c.in_ok-at.ensures.opened (onto way (names_of c.args.path.now)) c.in_ok-at.at.0
-      _ left.0 left.1 _ (c.in_ok-at.ensures.leads way w_way) left.2 (c.in_ok-at.ensures.stopped lt) honest trees has q
-]
+pub returns-in_err-at-clause-stands : goal.returns-in_err-at-clause-stands
+returns-in_err-at-clause-stands g c = λ way w. way_kept (slots_of c.args.self.now.nodes.items) (slots_of c.walk.new.nodes.items) c.in_err-at.ensures.opened.links way c.args.from.0 w
 
-pub returns-in_err-at-clause-kept : goal.returns-in_err-at-clause-kept
-returns-in_err-at-clause-kept g c = λ way w. way_kept (slots_of c.args.self.now.nodes.items) (slots_of c.walk.new.nodes.items) c.in_err-at.ensures.opened.links way c.args.from.0 w
-
-pub returns-clause-kept : goal.returns-clause-kept
-returns-clause-kept g c = λ way w.
+pub returns-clause-stands : goal.returns-clause-stands
+returns-clause-stands g c = λ way w.
     let old = c.args.self.now.nodes.items in
     let mid = c.walk.new.nodes.items in
     elim c.if-depth-path.branch [
@@ -107,58 +85,10 @@ returns-clause-kept g c = λ way w.
           subst (λ (e : Editor _). Way (slots_of e.nodes.items) way c.args.from.0) (sym t.self-is) (way_kept (slots_of old) (slots_of mid) c.in_ok-at.ensures.opened.links way c.args.from.0 w)
     ]
 
-pub returns-in_err-at-clause-changed : goal.returns-in_err-at-clause-changed
-returns-in_err-at-clause-changed g c = λ way w tree is. inl (opened_changed (slots_of c.args.self.now.nodes.items) (slots_of c.walk.new.nodes.items) (marks_of c.args.self.now.nodes.items) (marks_of c.walk.new.nodes.items)
-    (length c.args.self.now.nodes.items) (length c.walk.new.nodes.items) c.in_err-at.ensures.opened.forest c.in_err-at.ensures.marks tree is.0 is.1 is.2)
-
-pub returns-in_err-at-clause-still : goal.returns-in_err-at-clause-still
-returns-in_err-at-clause-still g c =
-    let p = err_from_is_err_and c.from_residual-in_err-at.result c.from_residual-in_err-at.ensures.1 in
-    rw p.1 (λ tree is. opened_changed (slots_of c.args.self.now.nodes.items) (slots_of c.walk.new.nodes.items) (marks_of c.args.self.now.nodes.items) (marks_of c.walk.new.nodes.items)
-    (length c.args.self.now.nodes.items) (length c.walk.new.nodes.items) c.in_err-at.ensures.opened.forest c.in_err-at.ensures.marks tree is.0 is.1 is.2)
-
-pub returns-clause-as_read : goal.returns-clause-as_read
-returns-clause-as_read g c = λ honest trees has read.
-    let old = c.args.self.now.nodes.items in
-    let mid = c.walk.new.nodes.items in
-    let start = c.in_ok-at.ensures.as_read honest trees has read in
-    elim c.if-depth-path.branch [
-      | then-depth-path t ↦
-          let new = t.cut.new.nodes in
-          let before = t.as_mut_slice.ensures.value in
-          let n : c.walk.new.nodes.len ≡ length new = omega (arith, t.cut.auto.nodes, t.as_mut_slice.ensures.len) in
-          let marks = subst (λ ns. IsMarkedFor (slots_of ns) (slots_of new) (marks_of ns) (marks_of new) c.in_ok-at.at.0 (length ns) (length ns)) before t.cut.ensures.marks in
-          subst (λ (e : Editor _). IsAsRead trees e) (sym t.self-is)
-          (subst (λ ns. AreAsRead trees (slots_of ns) (marks_of ns)) (sym (back c.walk.new.nodes.len new _ n))
-          (cut_as_read trees (slots_of mid) (slots_of new) (marks_of mid) (marks_of new) (length mid) c.in_ok-at.at.0 _ c.in_ok-at.ensures.opened.forest t.cut.ensures.here
-          (λ i m off. t.cut.ensures.others i m off ∙ ap (λ ns. slots_of ns i m) before) marks start))
-      | else-depth-path t ↦ subst (λ (e : Editor _). IsAsRead trees e) (sym t.self-is) start
-    ]
-
-pub returns-clause-changed : goal.returns-clause-changed
-returns-clause-changed g c = λ way w tree.
-    let old = c.args.self.now.nodes.items in
-    let mid = c.walk.new.nodes.items in
-    let forest = c.in_ok-at.ensures.opened.forest in
-    elim c.if-depth-path.branch [
-      | then-depth-path t ↦
-          let new = t.cut.new.nodes in
-          let before = t.as_mut_slice.ensures.value in
-          let n : c.walk.new.nodes.len ≡ length new = omega (arith, t.cut.auto.nodes, t.as_mut_slice.ensures.len) in
-          let marks = subst (λ ns. IsMarkedFor (slots_of ns) (slots_of new) (marks_of ns) (marks_of new) c.in_ok-at.at.0 (length ns) (length ns)) before t.cut.ensures.marks in
-          subst (λ (e : Editor _). IsChanged e tree → IsChanged c.args.self.now tree ⊎ IsAbove tree (onto way (names_of c.args.path.now))) (sym t.self-is)
-          (subst (λ ns. ((j : ℕ) × LeadsTo (slots_of ns) tree j [] × ((marks_of ns j).changed ≡ true)) → IsChanged c.args.self.now tree ⊎ IsAbove tree (onto way (names_of c.args.path.now))) (sym (back c.walk.new.nodes.len new _ n))
-          (λ is. cut_changed (slots_of old) (slots_of mid) (marks_of old) (marks_of mid) (length old) (length mid) forest c.in_ok-at.ensures.marks (slots_of new) (marks_of new) c.in_ok-at.at.0 _
-          t.cut.ensures.here (λ i m off. t.cut.ensures.others i m off ∙ ap (λ ns. slots_of ns i m) before) marks (onto way (names_of c.args.path.now)) (names (drop c.in_ok-at.depth c.args.path.now)) (c.in_ok-at.ensures.leads way w) (last_name c.args.path.now c.in_ok-at.depth _ t.if-depth-path.true) tree is.0 is.1 is.2))
-      | else-depth-path t ↦
-          subst (λ (e : Editor _). IsChanged e tree → IsChanged c.args.self.now tree ⊎ IsAbove tree (onto way (names_of c.args.path.now))) (sym t.self-is)
-          (λ is. inl (opened_changed (slots_of old) (slots_of mid) (marks_of old) (marks_of mid) (length old) (length mid) forest c.in_ok-at.ensures.marks tree is.0 is.1 is.2))
-    ]
-
 pub returns-clause-each : goal.returns-clause-each
-returns-clause-each g c = λ honest has down each.
+returns-clause-each g c = λ honest has down may each.
     let mid = c.walk.new.nodes.items in
-    let start = c.in_ok-at.ensures.each honest has down each in
+    let start = c.in_ok-at.ensures.kept.each honest has down each in
     elim c.if-depth-path.branch [
       | then-depth-path t ↦
           let new = t.cut.new.nodes in
@@ -183,99 +113,201 @@ returns-clause-asked g c = λ honest trees has.
       | else-depth-path t ↦ subst (λ (e : Editor _). AsksAll (g.S.Lookup.table c.args.self.now.store) ids c.args.self.now.lookups e.lookups) (sym t.self-is) all
     ]
 
--- ---- where nothing changes
-
-pub returns-clause-nothing : goal.returns-clause-nothing
-returns-clause-nothing g c = λ way w honest trees has none tree.
-    let old = c.args.self.now.nodes.items in
-    let walked = c.walk.new.nodes.items in
-    let path = c.args.path.now in
-    let i = c.in_ok-at.depth in
-    let at = c.in_ok-at.at.0 in
-    elim c.if-depth-path.branch [
-      | then-depth-path t ↦
-          let mid = c.walk.new.nodes.items in
-          let new = t.cut.new.nodes in
-          let before = t.as_mut_slice.ensures.value in
-          let n : c.walk.new.nodes.len ≡ length new = omega (arith, t.cut.auto.nodes, t.as_mut_slice.ensures.len) in
-          let opened = c.in_ok-at.ensures.opened in
-          let kept = c.in_ok-at.ensures.marks in
-          let leads = (c.in_ok-at.ensures.leads way w) in
-          let unmarked = subst (λ ns. IsIdle (marks_of ns) (slots_of ns at _) → (k : ℕ) → marks_of new k ≡ marks_of ns k) before t.cut.ensures.idle in
-          let marked = opened_marked (slots_of old) (slots_of mid) (marks_of old) (marks_of mid) (length old) (length mid) c.args.self.now.forest c.args.self.now.marked false kept c.in_ok-at.ensures.opened.forest kept.fresh in
-          let idle = nothing_idle _ _ (slots_of old) (slots_of mid) (length old) (length mid) c.args.self.now.forest opened (onto way (names path)) at _ [] (names (drop i path)) leads
-          (last_name path i _ t.if-depth-path.true) (marks_of mid) (λ l. None) (λ some. absurd (some refl)) honest trees has none in
-          subst (λ (e : Editor _). (IsChanged e tree → IsChanged c.args.self.now tree) × (IsChanged c.args.self.now tree → IsChanged e tree)) (sym t.self-is)
-          (subst (λ ns. (IsChangedIn ns tree → IsChanged c.args.self.now tree) × (IsChanged c.args.self.now tree → IsChangedIn ns tree)) (sym (back c.walk.new.nodes.len new _ n))
-          (cut_unmarked (slots_of mid) (slots_of new) (marks_of mid) (marks_of new) (length mid) marked at _ t.cut.ensures.here (λ k m off. t.cut.ensures.others k m off ∙ ap (λ ns. slots_of ns k m) before) (unmarked idle) idle
-          (slots_of old) (marks_of old) (opened_same_changed (slots_of old) (slots_of mid) (marks_of old) (marks_of mid) (length old) (length mid) c.args.self.now.forest c.in_ok-at.ensures.opened.forest kept opened.links) tree))
-      | else-depth-path t ↦
-          subst (λ (e : Editor _). (IsChanged e tree → IsChanged c.args.self.now tree) × (IsChanged c.args.self.now tree → IsChanged e tree)) (sym t.self-is)
-          (opened_same_changed (slots_of old) (slots_of walked) (marks_of old) (marks_of walked) (length old) (length walked) c.args.self.now.forest c.in_ok-at.ensures.opened.forest c.in_ok-at.ensures.marks c.in_ok-at.ensures.opened.links tree)
-    ]
-
-pub returns-clause-made : goal.returns-clause-made
-returns-clause-made g c = λ way w made tree.
-    let old = c.args.self.now.nodes.items in
-    let walked = c.walk.new.nodes.items in
-    let path = c.args.path.now in
-    let i = c.in_ok-at.depth in
-    let at = c.in_ok-at.at.0 in
-    elim c.if-depth-path.branch [
-      | then-depth-path t ↦
-          let mid = c.walk.new.nodes.items in
-          let new = t.cut.new.nodes in
-          let before = t.as_mut_slice.ensures.value in
-          let n : c.walk.new.nodes.len ≡ length new = omega (arith, t.cut.auto.nodes, t.as_mut_slice.ensures.len) in
-          let opened = c.in_ok-at.ensures.opened in
-          let kept = c.in_ok-at.ensures.marks in
-          let leads = (c.in_ok-at.ensures.leads way w) in
-          let unmarked = subst (λ ns. IsIdle (marks_of ns) (slots_of ns at _) → (k : ℕ) → marks_of new k ≡ marks_of ns k) before t.cut.ensures.idle in
-          let marked = opened_marked (slots_of old) (slots_of mid) (marks_of old) (marks_of mid) (length old) (length mid) c.args.self.now.forest c.args.self.now.marked false kept c.in_ok-at.ensures.opened.forest kept.fresh in
-          let idle = made_there _ _ (slots_of old) (slots_of mid) (length old) (length mid) c.args.self.now.forest opened (onto way (names path)) at _ [] (names (drop i path)) leads
-          (last_name path i _ t.if-depth-path.true) (marks_of old) (marks_of mid) kept (λ some. absurd (some refl)) made.0 made.1 made.2 in
-          subst (λ (e : Editor _). (IsChanged e tree → IsChanged c.args.self.now tree) × (IsChanged c.args.self.now tree → IsChanged e tree)) (sym t.self-is)
-          (subst (λ ns. (IsChangedIn ns tree → IsChanged c.args.self.now tree) × (IsChanged c.args.self.now tree → IsChangedIn ns tree)) (sym (back c.walk.new.nodes.len new _ n))
-          (cut_unmarked (slots_of mid) (slots_of new) (marks_of mid) (marks_of new) (length mid) marked at _ t.cut.ensures.here (λ k m off. t.cut.ensures.others k m off ∙ ap (λ ns. slots_of ns k m) before) (unmarked idle) idle
-          (slots_of old) (marks_of old) (opened_same_changed (slots_of old) (slots_of mid) (marks_of old) (marks_of mid) (length old) (length mid) c.args.self.now.forest c.in_ok-at.ensures.opened.forest kept opened.links) tree))
-      | else-depth-path t ↦
-          subst (λ (e : Editor _). (IsChanged e tree → IsChanged c.args.self.now tree) × (IsChanged c.args.self.now tree → IsChanged e tree)) (sym t.self-is)
-          (opened_same_changed (slots_of old) (slots_of walked) (marks_of old) (marks_of walked) (length old) (length walked) c.args.self.now.forest c.in_ok-at.ensures.opened.forest c.in_ok-at.ensures.marks c.in_ok-at.ensures.opened.links tree)
-    ]
-
--- ---- the entries
-
-pub returns-in_err-at-clause-same_entries : goal.returns-in_err-at-clause-same_entries
-returns-in_err-at-clause-same_entries g c = λ honest.
+pub returns-in_err-at-clause-kept : goal.returns-in_err-at-clause-kept
+returns-in_err-at-clause-kept g c =
     let p = err_from_is_err_and c.from_residual-in_err-at.result c.from_residual-in_err-at.ensures.1 in
-    rw p.1 (λ trees has q. c.in_err-at.ensures.opened.entries honest trees has none_met q 0 c.args.self.now.forest.rooted)
+    rw p.1 (record {
+      store =
+          refl;
+      counted =
+          omega (arith, c.in_err-at.ensures.counted);
+      as_read =
+          λ honest trees has read. c.in_err-at.ensures.kept.as_read honest trees has read;
+      named =
+          tt;
+      full =
+          inr c.in_ok-check_names.ensures.ok;
+      unchanged =
+          λ honest trees has q. c.in_err-at.ensures.opened.files honest trees has q 0 c.args.self.now.forest.rooted;
+      same_entries =
+          λ honest.
+          λ trees has q. c.in_err-at.ensures.opened.entries honest trees has none_met q 0 c.args.self.now.forest.rooted;
+      still =
+          λ tree is. opened_changed (slots_of c.args.self.now.nodes.items) (slots_of c.walk.new.nodes.items) (marks_of c.args.self.now.nodes.items) (marks_of c.walk.new.nodes.items)
+          (length c.args.self.now.nodes.items) (length c.walk.new.nodes.items) c.in_err-at.ensures.opened.forest c.in_err-at.ensures.kept.marks tree is.0 is.1 is.2;
+    })
 
-pub returns-clause-entries : goal.returns-clause-entries
-returns-clause-entries g c = λ way w honest trees has q.
-    let old = c.args.self.now.nodes.items in
-    let walked = c.walk.new.nodes.items in
-    let path = c.args.path.now in
-    let i = c.in_ok-at.depth in
-    let at = c.in_ok-at.at.0 in
-    let d : Bor (List ℕ) = record { ref_ptr = (0, 0); now = [] } in
-    let name : List ℕ = (get_or path i d).now in
-    elim c.if-depth-path.branch [
-      | then-depth-path t ↦
+pub returns-clause-kept : goal.returns-clause-kept
+returns-clause-kept g c =
+    record {
+      store =
+          elim c.if-depth-path.branch [
+            | then-depth-path t ↦ subst (λ (e : Editor _). e.store ≡ c.args.self.now.store) (sym t.self-is) refl
+            | else-depth-path t ↦ subst (λ (e : Editor _). e.store ≡ c.args.self.now.store) (sym t.self-is) refl
+          ];
+      counted =
+          elim c.if-depth-path.branch [
+            | then-depth-path t ↦ subst (λ (e : Editor _). e.lookups ≤ c.args.self.now.lookups + length c.args.path.now) (sym t.self-is) (omega (arith, c.in_ok-at.ensures.counted))
+            | else-depth-path t ↦ subst (λ (e : Editor _). e.lookups ≤ c.args.self.now.lookups + length c.args.path.now) (sym t.self-is) (omega (arith, c.in_ok-at.ensures.counted))
+          ];
+      as_read =
+          λ honest trees has read.
+          let old = c.args.self.now.nodes.items in
           let mid = c.walk.new.nodes.items in
-          let new = t.cut.new.nodes in
-          let n : c.walk.new.nodes.len ≡ length new = omega (arith, t.cut.auto.nodes, t.as_mut_slice.ensures.len) in
-          let opened = c.in_ok-at.ensures.opened in
-          let leads = (c.in_ok-at.ensures.leads way w) in
-          ap (λ (e : Editor _). entry_over trees e q) t.self-is
-          ∙ ap (λ ns. entry_from none_met trees (slots_of ns) 0 q) (back c.walk.new.nodes.len new _ n)
-          ∙ removes_entries _ _ (slots_of old) (slots_of mid) (length old) (length mid) c.args.self.now.forest opened (onto way (names path)) at name [] (names (drop i path))
-          leads (last_name path i d t.if-depth-path.true) honest trees has (slots_of new) refl
-          (λ r. cut_entries trees (slots_of mid) (slots_of new) (length mid) c.in_ok-at.ensures.opened.forest at name leads.0 leads.1
-          (λ j m lt off. t.cut.ensures.others j m off ∙ ap (λ ns. slots_of ns j m) t.as_mut_slice.ensures.value) t.cut.ensures.here r) q
-      | else-depth-path t ↦
-          let lt : i + 1 < length path = omega (arith, c.in_ok-at.ensures.within.1, t.if-depth-path.false) in
-          let left = two_names path i lt in
-          ap (λ (e : Editor _). entry_over trees e q) t.self-is
-          ∙ removes_no_entries _ _ (slots_of old) (slots_of walked) (length old) (length walked) c.args.self.now.forest c.in_ok-at.ensures.opened (onto way (names path)) at (get_or (names path) i []) (left.0 ∷ left.1) (names (drop i path))
-          (c.in_ok-at.ensures.leads way w) left.2 honest trees has (c.in_ok-at.ensures.blocked lt) left.0 left.1 refl q
-    ]
+          let start = c.in_ok-at.ensures.kept.as_read honest trees has read in
+          elim c.if-depth-path.branch [
+            | then-depth-path t ↦
+                let new = t.cut.new.nodes in
+                let before = t.as_mut_slice.ensures.value in
+                let n : c.walk.new.nodes.len ≡ length new = omega (arith, t.cut.auto.nodes, t.as_mut_slice.ensures.len) in
+                let marks = subst (λ ns. IsMarkedFor (slots_of ns) (slots_of new) (marks_of ns) (marks_of new) c.in_ok-at.at.0 (length ns) (length ns)) before t.cut.ensures.marks in
+                subst (λ (e : Editor _). IsAsRead trees e) (sym t.self-is)
+                (subst (λ ns. AreAsRead trees (slots_of ns) (marks_of ns)) (sym (back c.walk.new.nodes.len new _ n))
+                (cut_as_read trees (slots_of mid) (slots_of new) (marks_of mid) (marks_of new) (length mid) c.in_ok-at.at.0 _ c.in_ok-at.ensures.opened.forest t.cut.ensures.here
+                (λ i m off. t.cut.ensures.others i m off ∙ ap (λ ns. slots_of ns i m) before) marks start))
+            | else-depth-path t ↦ subst (λ (e : Editor _). IsAsRead trees e) (sym t.self-is) start
+          ];
+      named =
+          c.in_ok-check_names.ensures.ok;
+      full =
+          tt;
+      unchanged =
+          λ honest. tt;
+      same_entries =
+          λ honest. tt;
+      still =
+          tt;
+    }
+
+pub returns-clause-removed : goal.returns-clause-removed
+returns-clause-removed g c = λ way w.
+    record {
+      files =
+          let w_way = w in λ honest trees has q. elim c.if-depth-path.branch [
+            | then-depth-path w ↦
+                let old = c.args.self.now.nodes.items in
+                let mid = c.walk.new.nodes.items in
+                let new = w.cut.new.nodes in
+                let n : c.walk.new.nodes.len ≡ length new = omega (arith, w.cut.auto.nodes, w.as_mut_slice.ensures.len) in
+                ap (λ (e : Editor _). files_of trees e q) w.self-is
+                ∙ ap (λ ns. files_of_node trees (slots_of ns) 0 q) (back c.walk.new.nodes.len new _ n)
+                ∙ removes_at _ _ (slots_of old) (slots_of mid) (length old) (length mid) c.args.self.now.forest c.in_ok-at.ensures.opened (onto way (names_of c.args.path.now)) c.in_ok-at.at.0
+                (slots_of new) _ _ (c.in_ok-at.ensures.leads way w_way) (last_name c.args.path.now c.in_ok-at.depth _ w.if-depth-path.true) w.cut.ensures.here
+                (λ i m off. w.cut.ensures.others i m off ∙ ap (λ ns. slots_of ns i m) w.as_mut_slice.ensures.value) honest trees has q
+            | else-depth-path w ↦
+                let old = c.args.self.now.nodes.items in
+                let mid = c.walk.new.nodes.items in
+                let lt : c.in_ok-at.depth + 1 < length c.args.path.now = omega (arith, c.in_ok-at.ensures.within.1, w.if-depth-path.false) in
+                let left = two_names c.args.path.now c.in_ok-at.depth lt in
+                ap (λ (e : Editor _). files_of trees e q) w.self-is
+                ∙ removes_none _ _ (slots_of old) (slots_of mid) (length old) (length mid) c.args.self.now.forest c.in_ok-at.ensures.opened (onto way (names_of c.args.path.now)) c.in_ok-at.at.0
+                _ left.0 left.1 _ (c.in_ok-at.ensures.leads way w_way) left.2 (c.in_ok-at.ensures.stopped lt) honest trees has q
+          ];
+      entries =
+          λ honest trees has q.
+          let old = c.args.self.now.nodes.items in
+          let walked = c.walk.new.nodes.items in
+          let path = c.args.path.now in
+          let i = c.in_ok-at.depth in
+          let at = c.in_ok-at.at.0 in
+          let d : Bor (List ℕ) = record { ref_ptr = (0, 0); now = [] } in
+          let name : List ℕ = (get_or path i d).now in
+          elim c.if-depth-path.branch [
+            | then-depth-path t ↦
+                let mid = c.walk.new.nodes.items in
+                let new = t.cut.new.nodes in
+                let n : c.walk.new.nodes.len ≡ length new = omega (arith, t.cut.auto.nodes, t.as_mut_slice.ensures.len) in
+                let opened = c.in_ok-at.ensures.opened in
+                let leads = (c.in_ok-at.ensures.leads way w) in
+                ap (λ (e : Editor _). entry_over trees e q) t.self-is
+                ∙ ap (λ ns. entry_from none_met trees (slots_of ns) 0 q) (back c.walk.new.nodes.len new _ n)
+                ∙ removes_entries _ _ (slots_of old) (slots_of mid) (length old) (length mid) c.args.self.now.forest opened (onto way (names path)) at name [] (names (drop i path))
+                leads (last_name path i d t.if-depth-path.true) honest trees has (slots_of new) refl
+                (λ r. cut_entries trees (slots_of mid) (slots_of new) (length mid) c.in_ok-at.ensures.opened.forest at name leads.0 leads.1
+                (λ j m lt off. t.cut.ensures.others j m off ∙ ap (λ ns. slots_of ns j m) t.as_mut_slice.ensures.value) t.cut.ensures.here r) q
+            | else-depth-path t ↦
+                let lt : i + 1 < length path = omega (arith, c.in_ok-at.ensures.within.1, t.if-depth-path.false) in
+                let left = two_names path i lt in
+                ap (λ (e : Editor _). entry_over trees e q) t.self-is
+                ∙ removes_no_entries _ _ (slots_of old) (slots_of walked) (length old) (length walked) c.args.self.now.forest c.in_ok-at.ensures.opened (onto way (names path)) at (get_or (names path) i []) (left.0 ∷ left.1) (names (drop i path))
+                (c.in_ok-at.ensures.leads way w) left.2 honest trees has (c.in_ok-at.ensures.blocked lt) left.0 left.1 refl q
+          ];
+      changed =
+          λ tree.
+          let old = c.args.self.now.nodes.items in
+          let mid = c.walk.new.nodes.items in
+          let forest = c.in_ok-at.ensures.opened.forest in
+          elim c.if-depth-path.branch [
+            | then-depth-path t ↦
+                let new = t.cut.new.nodes in
+                let before = t.as_mut_slice.ensures.value in
+                let n : c.walk.new.nodes.len ≡ length new = omega (arith, t.cut.auto.nodes, t.as_mut_slice.ensures.len) in
+                let marks = subst (λ ns. IsMarkedFor (slots_of ns) (slots_of new) (marks_of ns) (marks_of new) c.in_ok-at.at.0 (length ns) (length ns)) before t.cut.ensures.marks in
+                subst (λ (e : Editor _). IsChanged e tree → IsChanged c.args.self.now tree ⊎ IsAbove tree (onto way (names_of c.args.path.now))) (sym t.self-is)
+                (subst (λ ns. ((j : ℕ) × LeadsTo (slots_of ns) tree j [] × ((marks_of ns j).changed ≡ true)) → IsChanged c.args.self.now tree ⊎ IsAbove tree (onto way (names_of c.args.path.now))) (sym (back c.walk.new.nodes.len new _ n))
+                (λ is. cut_changed (slots_of old) (slots_of mid) (marks_of old) (marks_of mid) (length old) (length mid) forest c.in_ok-at.ensures.kept.marks (slots_of new) (marks_of new) c.in_ok-at.at.0 _
+                t.cut.ensures.here (λ i m off. t.cut.ensures.others i m off ∙ ap (λ ns. slots_of ns i m) before) marks (onto way (names_of c.args.path.now)) (names (drop c.in_ok-at.depth c.args.path.now)) (c.in_ok-at.ensures.leads way w) (last_name c.args.path.now c.in_ok-at.depth _ t.if-depth-path.true) tree is.0 is.1 is.2))
+            | else-depth-path t ↦
+                subst (λ (e : Editor _). IsChanged e tree → IsChanged c.args.self.now tree ⊎ IsAbove tree (onto way (names_of c.args.path.now))) (sym t.self-is)
+                (λ is. inl (opened_changed (slots_of old) (slots_of mid) (marks_of old) (marks_of mid) (length old) (length mid) forest c.in_ok-at.ensures.kept.marks tree is.0 is.1 is.2))
+          ];
+      nothing =
+          λ honest trees has none tree.
+          let old = c.args.self.now.nodes.items in
+          let walked = c.walk.new.nodes.items in
+          let path = c.args.path.now in
+          let i = c.in_ok-at.depth in
+          let at = c.in_ok-at.at.0 in
+          elim c.if-depth-path.branch [
+            | then-depth-path t ↦
+                let mid = c.walk.new.nodes.items in
+                let new = t.cut.new.nodes in
+                let before = t.as_mut_slice.ensures.value in
+                let n : c.walk.new.nodes.len ≡ length new = omega (arith, t.cut.auto.nodes, t.as_mut_slice.ensures.len) in
+                let opened = c.in_ok-at.ensures.opened in
+                let kept = c.in_ok-at.ensures.kept.marks in
+                let leads = (c.in_ok-at.ensures.leads way w) in
+                let unmarked = subst (λ ns. IsIdle (marks_of ns) (slots_of ns at _) → (k : ℕ) → marks_of new k ≡ marks_of ns k) before t.cut.ensures.idle in
+                let marked = opened_marked (slots_of old) (slots_of mid) (marks_of old) (marks_of mid) (length old) (length mid) c.args.self.now.forest c.args.self.now.marked false kept c.in_ok-at.ensures.opened.forest kept.fresh in
+                let idle = nothing_idle _ _ (slots_of old) (slots_of mid) (length old) (length mid) c.args.self.now.forest opened (onto way (names path)) at _ [] (names (drop i path)) leads
+                (last_name path i _ t.if-depth-path.true) (marks_of mid) (λ l. None) (λ some. absurd (some refl)) honest trees has none in
+                subst (λ (e : Editor _). (IsChanged e tree → IsChanged c.args.self.now tree) × (IsChanged c.args.self.now tree → IsChanged e tree)) (sym t.self-is)
+                (subst (λ ns. (IsChangedIn ns tree → IsChanged c.args.self.now tree) × (IsChanged c.args.self.now tree → IsChangedIn ns tree)) (sym (back c.walk.new.nodes.len new _ n))
+                (cut_unmarked (slots_of mid) (slots_of new) (marks_of mid) (marks_of new) (length mid) marked at _ t.cut.ensures.here (λ k m off. t.cut.ensures.others k m off ∙ ap (λ ns. slots_of ns k m) before) (unmarked idle) idle
+                (slots_of old) (marks_of old) (opened_same_changed (slots_of old) (slots_of mid) (marks_of old) (marks_of mid) (length old) (length mid) c.args.self.now.forest c.in_ok-at.ensures.opened.forest kept opened.links) tree))
+            | else-depth-path t ↦
+                subst (λ (e : Editor _). (IsChanged e tree → IsChanged c.args.self.now tree) × (IsChanged c.args.self.now tree → IsChanged e tree)) (sym t.self-is)
+                (opened_same_changed (slots_of old) (slots_of walked) (marks_of old) (marks_of walked) (length old) (length walked) c.args.self.now.forest c.in_ok-at.ensures.opened.forest c.in_ok-at.ensures.kept.marks c.in_ok-at.ensures.opened.links tree)
+          ];
+      made =
+          λ made tree.
+          let old = c.args.self.now.nodes.items in
+          let walked = c.walk.new.nodes.items in
+          let path = c.args.path.now in
+          let i = c.in_ok-at.depth in
+          let at = c.in_ok-at.at.0 in
+          elim c.if-depth-path.branch [
+            | then-depth-path t ↦
+                let mid = c.walk.new.nodes.items in
+                let new = t.cut.new.nodes in
+                let before = t.as_mut_slice.ensures.value in
+                let n : c.walk.new.nodes.len ≡ length new = omega (arith, t.cut.auto.nodes, t.as_mut_slice.ensures.len) in
+                let opened = c.in_ok-at.ensures.opened in
+                let kept = c.in_ok-at.ensures.kept.marks in
+                let leads = (c.in_ok-at.ensures.leads way w) in
+                let unmarked = subst (λ ns. IsIdle (marks_of ns) (slots_of ns at _) → (k : ℕ) → marks_of new k ≡ marks_of ns k) before t.cut.ensures.idle in
+                let marked = opened_marked (slots_of old) (slots_of mid) (marks_of old) (marks_of mid) (length old) (length mid) c.args.self.now.forest c.args.self.now.marked false kept c.in_ok-at.ensures.opened.forest kept.fresh in
+                let idle = made_there _ _ (slots_of old) (slots_of mid) (length old) (length mid) c.args.self.now.forest opened (onto way (names path)) at _ [] (names (drop i path)) leads
+                (last_name path i _ t.if-depth-path.true) (marks_of old) (marks_of mid) kept (λ some. absurd (some refl)) made.0 made.1 made.2 in
+                subst (λ (e : Editor _). (IsChanged e tree → IsChanged c.args.self.now tree) × (IsChanged c.args.self.now tree → IsChanged e tree)) (sym t.self-is)
+                (subst (λ ns. (IsChangedIn ns tree → IsChanged c.args.self.now tree) × (IsChanged c.args.self.now tree → IsChangedIn ns tree)) (sym (back c.walk.new.nodes.len new _ n))
+                (cut_unmarked (slots_of mid) (slots_of new) (marks_of mid) (marks_of new) (length mid) marked at _ t.cut.ensures.here (λ k m off. t.cut.ensures.others k m off ∙ ap (λ ns. slots_of ns k m) before) (unmarked idle) idle
+                (slots_of old) (marks_of old) (opened_same_changed (slots_of old) (slots_of mid) (marks_of old) (marks_of mid) (length old) (length mid) c.args.self.now.forest c.in_ok-at.ensures.opened.forest kept opened.links) tree))
+            | else-depth-path t ↦
+                subst (λ (e : Editor _). (IsChanged e tree → IsChanged c.args.self.now tree) × (IsChanged c.args.self.now tree → IsChanged e tree)) (sym t.self-is)
+                (opened_same_changed (slots_of old) (slots_of walked) (marks_of old) (marks_of walked) (length old) (length walked) c.args.self.now.forest c.in_ok-at.ensures.opened.forest c.in_ok-at.ensures.kept.marks c.in_ok-at.ensures.opened.links tree)
+          ];
+    }
+
+pub returns-in_err-at-clause-each : goal.returns-in_err-at-clause-each
+returns-in_err-at-clause-each g c = λ honest has down may each. c.in_err-at.ensures.kept.each honest has down each

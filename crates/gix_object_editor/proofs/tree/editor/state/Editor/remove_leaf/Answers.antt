@@ -15,18 +15,6 @@ returns-clause-leaf g c = c.remove_leaf_from.ensures.leaf [] refl
 pub returns-clause-refused : goal.returns-clause-refused
 returns-clause-refused g c = c.remove_leaf_from.ensures.refused [] refl
 
-pub returns-clause-changed : goal.returns-clause-changed
-returns-clause-changed g c = c.remove_leaf_from.ensures.changed [] refl
-
 pub returns-clause-folder : goal.returns-clause-folder
 returns-clause-folder g c = leaf_fault_folder (g.S.Lookup.is_honest c.args.self.now.store) (g.S.Lookup.may_fail c.args.self.now.store) (g.S.Lookup.table c.args.self.now.store) (names_of c.args.path.now)
     (LeadsInto (λ trees. files_of trees c.remove_leaf_from.new.self) (names_of c.args.path.now)) (names_of c.args.path.now) c.remove_leaf_from.new.self c.remove_leaf_from.result (c.remove_leaf_from.ensures.refused [] refl)
-
-pub returns-clause-nothing : goal.returns-clause-nothing
-returns-clause-nothing g c = c.remove_leaf_from.ensures.nothing [] refl
-
-pub returns-clause-made : goal.returns-clause-made
-returns-clause-made g c = c.remove_leaf_from.ensures.made [] refl
-
-pub returns-clause-entries : goal.returns-clause-entries
-returns-clause-entries g c = c.remove_leaf_from.ensures.entries [] refl
