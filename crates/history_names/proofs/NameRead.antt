@@ -5,11 +5,13 @@ use Rattle.std.proofs.lemmas.Bool.{and_from, and_parts, eqb-true}
 use Rattle.gix_hash_id.specs.Id.{Id, id_of}
 use Rattle.gix_hash_id.specs.declared.kind.Kind.{Kind}
 use Rattle.gix_hash_id.specs.declared.object_id.ObjectId.{ObjectId}
+use Rattle.gix_object_lines.specs.Bytes.{is_among}
 use Rattle.gix_object_lines.specs.NameTest.{is_partial_name, is_full_name, is_capitals, has_slash}
 use Rattle.gix_ref_file.specs.Tree.{Tree, bytes_at}
 use Rattle.gix_ref_format.specs.Ids.{digits_read}
 use Rattle.gix_ref_format.specs.Packed.{Record}
-use Rattle.gix_ref_format.specs.PackedBuffer.{KeepsFile, hit}
+use Rattle.gix_ref_format.specs.Lookup.{packed_key}
+use Rattle.gix_ref_format.specs.PackedBuffer.{hit}
 use Rattle.gix_ref_format.specs.PackedKept.{kept}
 use Rattle.gix_ref_format.specs.declared.packed.buffer.Buffer.{Buffer}
 use Rattle.history_model.specs.Bytes.{Bytes, begins}
@@ -22,7 +24,7 @@ use Rattle.history_model.proofs.NameLemmas.{partial_of, some_or}
 use Rattle.history_model.proofs.WholePaths.{begins_parts}
 use Rattle.history_layout.proofs.PackedRecords.{packed_read}
 use Rattle.history_names.specs.NameLists.{spelled_id}
-use Rattle.history_names.specs.Packing.{NameReads, kept_hit, told_id}
+use Rattle.history_names.specs.Packing.{FileSaysLeft, NameReads, read_hit, told_id}
 use Rattle.history_names.specs.References.{SpellsId}
 use Rattle.history_names.proofs.Gathered.{spelled_told}
 
@@ -87,24 +89,42 @@ loose_told kind text found spells = spelled_told kind text found spells ∙ spel
 abbrev pub target : Record → Id
 target e = e.target
 
-pub kept_told : (kind : Kind) (name : Bytes) (file : Option Bytes) (packed : Option Buffer) → is_name name ≡ true → KeepsFile kind file (option_map kept packed)
-    → option_map target (kept_hit packed name) ≡ told_id (packed_read kind name file)
-kept_told kind name None None named keeps = refl
-kept_told kind name None (Some buffer) named keeps = absurd keeps
-kept_told kind name (Some text) None named keeps = absurd keeps
-kept_told kind name (Some text) (Some buffer) named keeps =
-    ap (λ key. option_map target (option_and_then (hit (kept buffer)) key)) (records_alike name named)
-    ∙ by_kind (is_private name)
-    ∙ sym (ap (λ (rs : Option (List Record)). told_id (unwrap_or (option_map (packed_state name) (option_map (packed_with text) rs)) Faulty)) keeps.1)
+pub kept_told : (kind : Kind) (name : Bytes) (file : Option Bytes) (packed : Option Buffer) (gone : List Bytes) → is_name name ≡ true → FileSaysLeft kind file packed gone
+    → option_map target (read_hit packed gone name) ≡ told_id (packed_read kind name file)
+kept_told kind name None None gone named says = refl
+kept_told kind name None (Some buffer) gone named says = absurd says
+kept_told kind name (Some text) None gone named says = absurd says
+kept_told kind name (Some text) (Some buffer) gone named says =
+    go (is_among gone name) refl
+    ∙ sym (ap (λ (rs : Option (List Record)). told_id (unwrap_or (option_map (packed_state name) (option_map (packed_with text) rs)) Faulty)) says.said)
   where
+    found_told : Option Record → Option Id
+    found_told found = told_id (cond (is_private name) Absent (unwrap_or (option_map (λ (e : Record). Holds e.target) found) Absent))
+
+    left : (b : Bool) → is_among gone name ≡ b → hit says.records name ≡ cond b None (hit (kept buffer) name)
+    left b e = says.each name ∙ ap (λ x. cond x None (hit (kept buffer) name)) e
+
+    none_told : (private : Bool) → None ≡ told_id (cond private Absent Absent)
+    none_told true = refl
+    none_told false = refl
+
     by_found : (o : Option Record) → option_map target o ≡ told_id (unwrap_or (option_map (λ (e : Record). Holds e.target) o) Absent)
     by_found None = refl
     by_found (Some r) = refl
 
-    by_kind : (private : Bool) → option_map target (option_and_then (hit (kept buffer)) (cond private None (Some name)))
-        ≡ told_id (cond private Absent (unwrap_or (option_map (λ (e : Record). Holds e.target) (hit keeps.0 name)) Absent))
-    by_kind true = refl
-    by_kind false = ap (option_map target) (keeps.2.first name) ∙ by_found (hit keeps.0 name)
+    by_kind : (private : Bool) (o : Option Record) → option_map target (option_and_then (hit (kept buffer)) (cond private None (Some name))) ≡ option_map target (cond private None (hit (kept buffer) name))
+    by_kind true o = refl
+    by_kind false o = refl
+
+    by_private : (private : Bool) (o : Option Record) → option_map target (cond private None o) ≡ told_id (cond private Absent (unwrap_or (option_map (λ (e : Record). Holds e.target) o) Absent))
+    by_private true o = refl
+    by_private false o = by_found o
+
+    go : (b : Bool) → is_among gone name ≡ b → option_map target (cond b None (option_and_then (hit (kept buffer)) (packed_key name))) ≡ found_told (hit says.records name)
+    go true e = none_told (is_private name) ∙ ap found_told (sym (left true e))
+    go false e =
+        ap (λ key. option_map target (option_and_then (hit (kept buffer)) key)) (records_alike name named)
+        ∙ by_kind (is_private name) None ∙ by_private (is_private name) (hit (kept buffer) name) ∙ ap found_told (sym (left false e))
 
 -- ---- both
 
@@ -115,10 +135,10 @@ state_of kind tree name o named e =
 pub file_reads : (kind : Kind) (tree : Tree) (name text : Bytes) (found : Option ObjectId) → is_name name ≡ true → file_at tree name ≡ Some text → SpellsId kind text found → NameReads kind tree name found
 file_reads kind tree name text found named there spells = loose_told kind text found spells ∙ sym (ap told_id (state_of kind tree name (Some text) named there))
 
-pub record_reads : (kind : Kind) (tree : Tree) (name : Bytes) (found : Option ObjectId) (packed : Option Buffer) → is_name name ≡ true → file_at tree name ≡ None → KeepsFile kind (file_at tree packed_place) (option_map kept packed)
-    → option_map id_of found ≡ option_map target (kept_hit packed name) → NameReads kind tree name found
-record_reads kind tree name found packed named none keeps is =
-    is ∙ kept_told kind name (file_at tree packed_place) packed named keeps ∙ sym (ap told_id (state_of kind tree name None named none))
+pub record_reads : (kind : Kind) (tree : Tree) (name : Bytes) (found : Option ObjectId) (packed : Option Buffer) (gone : List Bytes) → is_name name ≡ true → file_at tree name ≡ None → FileSaysLeft kind (file_at tree packed_place) packed gone
+    → option_map id_of found ≡ option_map target (read_hit packed gone name) → NameReads kind tree name found
+record_reads kind tree name found packed gone named none says is =
+    is ∙ kept_told kind name (file_at tree packed_place) packed gone named says ∙ sym (ap told_id (state_of kind tree name None named none))
 
 -- what is no name reads as none
 pub no_name_reads : (kind : Kind) (tree : Tree) (name : Bytes) → is_name name ≡ false → None ≡ told_id (name_state kind tree name)

@@ -10,8 +10,10 @@ use Rattle.gix_ref_file.proofs.Trees.{one_path, same_path_itself}
 use Rattle.gix_hash_id.specs.Id.{Id, id_of}
 use Rattle.gix_hash_id.specs.declared.kind.Kind.{Kind}
 use Rattle.gix_hash_id.specs.declared.object_id.ObjectId.{ObjectId}
+use Rattle.gix_object_lines.specs.Bytes.{is_among}
 use Rattle.gix_ref_format.specs.Packed.{Record}
-use Rattle.gix_ref_format.specs.PackedBuffer.{KeepsFile, hit}
+use Rattle.gix_ref_format.specs.Lookup.{packed_key}
+use Rattle.gix_ref_format.specs.PackedBuffer.{hit}
 use Rattle.gix_ref_format.specs.PackedKept.{kept}
 use Rattle.gix_ref_format.specs.declared.packed.buffer.Buffer.{Buffer}
 use Rattle.history_model.specs.Bytes.{Bytes, begins, by_bytes}
@@ -23,7 +25,7 @@ use Rattle.history_model.proofs.FormatLemmas.{records_alike}
 use Rattle.history_model.proofs.PlaceLemmas.{one_text, text_itself}
 use Rattle.history_names.specs.AllNames.{ListsAll, has_record, is_packed_below, told_if}
 use Rattle.history_names.specs.NameLists.{Gathers, NameIds, held_id, id_below, name_entry, spelled_id}
-use Rattle.history_names.specs.Packing.{NameReads, kept_hit, told_id}
+use Rattle.history_names.specs.Packing.{FileSaysLeft, NameReads, read_hit, told_id}
 use Rattle.history_names.specs.declared.listed.NamedId.{NamedId}
 use Rattle.history_names.proofs.Gathered.{Key, all_below, named_ids}
 use Rattle.history_names.proofs.NameRead.{kept_told, no_name_reads, spelled_read, state_of, target}
@@ -114,31 +116,35 @@ kept_below buffer folder front name records is are =
 
 -- ---- what a name below a folder reads as
 
-module _ (kind : Kind) (tree : Tree) (packed : Option Buffer) (keeps : KeepsFile kind (file_at tree packed_place) (option_map kept packed)) (folder : Bytes) where
+module _ (kind : Kind) (tree : Tree) (packed : Option Buffer) (gone : List Bytes) (says : FileSaysLeft kind (file_at tree packed_place) packed gone) (folder : Bytes) where
   own_told : (name text : Bytes) → is_name name ≡ true → file_at tree name ≡ Some text → held_id kind tree name ≡ told kind tree name
   own_told name text named there = ap (option_and_then (spelled_id kind)) there ∙ spelled_read kind text ∙ sym (ap told_id (state_of kind tree name (Some text) named there))
 
   -- no record of the name is kept
-  no_hit : (buffer : Buffer) (name : Bytes) → is_name name ≡ true → hit (kept buffer) name ≡ None → kept_hit (Some buffer) name ≡ None
-  no_hit buffer name named none = ap (option_and_then (hit (kept buffer))) (records_alike name named) ∙ go (is_private name)
+  no_hit : (buffer : Buffer) (name : Bytes) → is_name name ≡ true → hit (kept buffer) name ≡ None → read_hit (Some buffer) gone name ≡ None
+  no_hit buffer name named none = go (is_among gone name)
     where
-      go : (b : Bool) → option_and_then (hit (kept buffer)) (cond b None (Some name)) ≡ None
+      by_kind : (b : Bool) → option_and_then (hit (kept buffer)) (cond b None (Some name)) ≡ None
+      by_kind true = refl
+      by_kind false = none
+
+      go : (b : Bool) → cond b None (option_and_then (hit (kept buffer)) (packed_key name)) ≡ None
       go true = refl
-      go false = none
+      go false = ap (option_and_then (hit (kept buffer))) (records_alike name named) ∙ by_kind (is_private name)
 
   record_told : (name : Bytes) → is_name name ≡ true → is_below folder name ≡ true → file_at tree name ≡ None → told_if (is_packed_below packed folder name) kind tree name ≡ told kind tree name
-  record_told name named below none = go packed keeps
+  record_told name named below none = go packed says
     where
-      by_record : (p : Option Buffer) → KeepsFile kind (file_at tree packed_place) (option_map kept p) → option_map target (kept_hit p name) ≡ told kind tree name
-      by_record p keeps = kept_told kind name (file_at tree packed_place) p named keeps ∙ sym (ap told_id (state_of kind tree name None named none))
+      by_record : (p : Option Buffer) → FileSaysLeft kind (file_at tree packed_place) p gone → option_map target (read_hit p gone name) ≡ told kind tree name
+      by_record p says = kept_told kind name (file_at tree packed_place) p gone named says ∙ sym (ap told_id (state_of kind tree name None named none))
 
-      by_hit : (buffer : Buffer) → option_map target (kept_hit (Some buffer) name) ≡ told kind tree name → (o : Option Record) → hit (kept buffer) name ≡ o → cond (is_some o) (told kind tree name) None ≡ told kind tree name
+      by_hit : (buffer : Buffer) → option_map target (read_hit (Some buffer) gone name) ≡ told kind tree name → (o : Option Record) → hit (kept buffer) name ≡ o → cond (is_some o) (told kind tree name) None ≡ told kind tree name
       by_hit buffer reads None e = ap (option_map target) (sym (no_hit buffer name named e)) ∙ reads
       by_hit buffer reads (Some r) e = refl
 
-      go : (p : Option Buffer) → KeepsFile kind (file_at tree packed_place) (option_map kept p) → told_if (is_packed_below p folder name) kind tree name ≡ told kind tree name
-      go None keeps = by_record None keeps
-      go (Some buffer) keeps = ap (λ b. cond (b && is_some (hit (kept buffer) name)) (told kind tree name) None) below ∙ by_hit buffer (by_record (Some buffer) keeps) (hit (kept buffer) name) refl
+      go : (p : Option Buffer) → FileSaysLeft kind (file_at tree packed_place) p gone → told_if (is_packed_below p folder name) kind tree name ≡ told kind tree name
+      go None says = by_record None says
+      go (Some buffer) says = ap (λ b. cond (b && is_some (hit (kept buffer) name)) (told kind tree name) None) below ∙ by_hit buffer (by_record (Some buffer) says) (hit (kept buffer) name) refl
 
   told_below : (name : Bytes) → is_name name ≡ true → is_below folder name ≡ true → option_or (told_if (is_packed_below packed folder name) kind tree name) (id_below kind tree folder name) ≡ told kind tree name
   told_below name named below =

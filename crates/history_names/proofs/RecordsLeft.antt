@@ -1,5 +1,5 @@
 -- What `packed-refs` says after a name's record was removed.
-use Rattle.std.proofs.Common.{◌≡◌, refl, sym, ◌∙◌, ap, subst, Bool, true, false, cond, not, ◌&&◌, ◌||◌, List, [], ◌∷◌, map, Option, Some, None, option_map, bytes_eq, MatchOption}
+use Rattle.std.proofs.Common.{◌≡◌, refl, sym, ◌∙◌, ap, subst, Bool, true, false, cond, not, ◌&&◌, ◌||◌, List, [], ◌∷◌, ◌++◌, map, Option, Some, None, option_map, bytes_eq, MatchOption}
 use Rattle.std.specs.Prelude.{option_and_then}
 use Rattle.std.specs.List.{list_any, list_all, AllByRecursion}
 use Rattle.std.specs.FinMap.{is_sorted}
@@ -8,6 +8,7 @@ use Rattle.std.specs.Ordering.{is_lt, is_eq}
 use Rattle.std.proofs.lemmas.Bool.{and_from, and_parts, or_from}
 use Rattle.std.proofs.lemmas.Map.Text.{is_eq-slice_cmp}
 use Rattle.gix_hash_id.specs.declared.kind.Kind.{Kind}
+use Rattle.gix_object_lines.specs.Bytes.{is_among}
 use Rattle.gix_ref_format.specs.Lookup.{packed_hit}
 use Rattle.gix_ref_format.specs.Packed.{Record, packed_records}
 use Rattle.gix_ref_format.specs.PackedBuffer.{Keeps, KeepsFile, hit}
@@ -22,7 +23,7 @@ use Rattle.history_model.proofs.FormatLemmas.{records_alike}
 use Rattle.history_model.proofs.PlaceLemmas.{one_text, text_itself, texts_apart}
 use Rattle.history_layout.specs.TakeSteps.{LacksName, LacksRecord}
 use Rattle.history_layout.proofs.PackedRecords.{all_by_finds, all_found, found_named, name_in, not_found}
-use Rattle.history_names.specs.Packing.{IfSomeRecords, IsEditedText, kept_hit}
+use Rattle.history_names.specs.Packing.{FileSaysLeft, IfSomeRecords, IsEditedText, SaysLeft, read_hit, removals}
 use Rattle.history_names.proofs.PlainTexts.{packed_plain}
 use Rattle.history_names.proofs.ReadRecords.{records_kind}
 
@@ -176,31 +177,32 @@ IsFormed kind text = MatchOption (packed_file kind text) ⊥ (λ packed. is_pack
 form_of : (kind : Kind) (text : Bytes) (records : List Record) → packed_records kind text ≡ Some records → IsFormed kind text → is_packed_form (packed_with text records) ≡ true
 form_of kind text records read formed = subst (λ o. MatchOption (option_map (packed_with text) o) ⊥ (λ packed. is_packed_form packed ≡ true)) read formed
 
-pub lacks_written : (kind : Kind) (name text new : Bytes) (left : List Record) → Keeps kind text left → IsFormed kind text → IsEditedText kind left (removal name) new → LacksRecord kind name (Some text) (Some new)
-lacks_written kind name text new left keeps formed told =
-    let records = keeps.0 in
-    let read : packed_records kind text ≡ Some records = keeps.1 in
-    let edited : IsEdited records (removal name) told.after =
-    record { ascend = told.edited.ascend; each = λ other. told.edited.each other ∙ ap (under (line_at (removal name) other)) (keeps.2.first other) } in
+lacks_edited : (kind : Kind) (name text new : Bytes) (records after : List Record) (read : packed_records kind text ≡ Some records) → IsEdited records (removal name) after → IsFormed kind text → new ≡ packed_text after
+    → packed_records kind new ≡ Some after → LacksRecord kind name (Some text) (Some new)
+lacks_edited kind name text new records after read edited formed is read_new =
     let form = form_of kind text records read formed in
-    let read_new : packed_records kind new ≡ Some told.after = told.reads (same_kind kind name text records told.after read edited) in
     subst (λ o. MatchOption o ⊥ (λ (old : PackedFile). MatchOption (packed_file kind new) ⊥ (LacksName name old))) (sym (ap (option_map (packed_with text)) read))
     (subst (λ o. MatchOption o ⊥ (LacksName name (packed_with text records))) (sym (ap (option_map (packed_with new)) read_new))
-    (lacks kind name text records told.after read edited form new told.is))
+    (lacks kind name text records after read edited form new is))
 
-module _ (kind : Kind) (name text : Bytes) (records left : List Record) (read : packed_records kind text ≡ Some records) (first : (other : Bytes) → hit left other ≡ hit records other)
-    (formed : is_packed_form (packed_with text records) ≡ true) (named : is_name name ≡ true) (none : packed_hit left name ≡ None) where
+pub lacks_written : (kind : Kind) (name text new : Bytes) (left : List Record) → Keeps kind text left → IsFormed kind text → IsEditedText kind left (removal name) new → LacksRecord kind name (Some text) (Some new)
+lacks_written kind name text new left keeps formed told =
+    let edited : IsEdited keeps.0 (removal name) told.after =
+    record { ascend = told.edited.ascend; each = λ other. told.edited.each other ∙ ap (under (line_at (removal name) other)) (keeps.2.first other) } in
+    lacks_edited kind name text new keeps.0 told.after keeps.1 edited formed told.is (told.reads (same_kind kind name text keeps.0 told.after keeps.1 edited))
+
+module _ (kind : Kind) (name text : Bytes) (records : List Record) (formed : is_packed_form (packed_with text records) ≡ true) (public_none : is_private name ≡ false → hit records name ≡ None) where
   none_hit : hit records name ≡ None
-  none_hit = by_kind (is_private name) refl (sym (ap (option_and_then (hit left)) (records_alike name named)) ∙ none)
+  none_hit = by_kind (is_private name) refl
     where
       not_there : is_private name ≡ true → (o : Option Record) → hit records name ≡ o → o ≡ None
       not_there private None e = refl
       not_there private (Some r) e =
           clash (ap is_private (found_named records name r e) ∙ private) (found_public (packed_with text records) formed name r e)
 
-      by_kind : (b : Bool) → is_private name ≡ b → option_and_then (hit left) (cond b None (Some name)) ≡ None → hit records name ≡ None
-      by_kind true private e = not_there private (hit records name) refl
-      by_kind false public e = sym (first name) ∙ e
+      by_kind : (b : Bool) → is_private name ≡ b → hit records name ≡ None
+      by_kind true private = not_there private (hit records name) refl
+      by_kind false public = public_none public
 
   same_lacks : LacksName name (packed_with text records) (packed_with text records)
   same_lacks = record { formed = formed; each = λ other. go other (bytes_eq other name) refl }
@@ -209,28 +211,106 @@ module _ (kind : Kind) (name text : Bytes) (records left : List Record) (read : 
       go other true e = ap (hit records) (one_text other name e) ∙ none_hit
       go other false e = refl
 
-pub lacks_same : (kind : Kind) (name : Bytes) (file : Option Bytes) (packed : Option Buffer) → KeepsFile kind file (option_map kept packed) → ((text : Bytes) → file ≡ Some text → IsFormed kind text) → is_name name ≡ true
-    → kept_hit packed name ≡ None → LacksRecord kind name file file
-lacks_same kind name None packed keeps formed named none = refl
-lacks_same kind name (Some text) None keeps formed named none = absurd keeps
-lacks_same kind name (Some text) (Some buffer) keeps formed named none =
-    let records = keeps.0 in
-    let read : packed_records kind text ≡ Some records = keeps.1 in
-    subst (λ o. MatchOption o ⊥ (λ (old : PackedFile). MatchOption o ⊥ (LacksName name old))) (sym (ap (option_map (packed_with text)) read))
-    (same_lacks kind name text records (kept buffer) read keeps.2.first (form_of kind text records read (formed text refl)) named none)
-
 -- what was written without the name
-module _ (kind : Kind) (name text : Bytes) where
-  pub removed_lacks : (file : Option Bytes) (packed : Option Buffer) → KeepsFile kind file (option_map kept packed) → ((found : Bytes) → file ≡ Some found → IsFormed kind found)
-      → IfSomeRecords packed (λ records. IsEditedText kind records (removal name) text) → LacksRecord kind name file (Some text)
-  removed_lacks file None keeps formed told = absurd told
-  removed_lacks None (Some buffer) keeps formed told = absurd keeps
-  removed_lacks (Some found) (Some buffer) keeps formed told = lacks_written kind name found text (kept buffer) keeps (formed found refl) told
+pub removed_lacks : (kind : Kind) (name text : Bytes) (file : Option Bytes) (packed : Option Buffer) → KeepsFile kind file (option_map kept packed) → ((found : Bytes) → file ≡ Some found → IsFormed kind found)
+    → IfSomeRecords packed (λ records. IsEditedText kind records (removal name) text) → LacksRecord kind name file (Some text)
+removed_lacks kind name text file None keeps formed told = absurd told
+removed_lacks kind name text None (Some buffer) keeps formed told = absurd keeps
+removed_lacks kind name text (Some found) (Some buffer) keeps formed told = lacks_written kind name found text (kept buffer) keeps (formed found refl) told
 
-  pub removed_reads : (file : Option Bytes) (packed : Option Buffer) → KeepsFile kind file (option_map kept packed) → IfSomeRecords packed (λ records. IsEditedText kind records (removal name) text) → packed_records kind text ≡ None → ⊥
-  removed_reads file None keeps told none = told
-  removed_reads None (Some buffer) keeps told none = keeps
-  removed_reads (Some found) (Some buffer) keeps told none =
-      let edited : IsEdited keeps.0 (removal name) told.after =
-      record { ascend = told.edited.ascend; each = λ other. told.edited.each other ∙ ap (under (line_at (removal name) other)) (keeps.2.first other) } in
-      none_some (sym none ∙ told.reads (same_kind kind name found keeps.0 told.after keeps.1 edited))
+-- ---- what is left of records that were read
+
+one_under : (name other : Bytes) (before : Option Record) → under (line_at (removal name) other) before ≡ cond (bytes_eq name other) None before
+one_under name other before = go (bytes_eq name other)
+  where
+    go : (b : Bool) → under (cond b (Some (record { name = name; says = None })) None) before ≡ cond b None before
+    go true = refl
+    go false = refl
+
+all_under : (gone : List Bytes) (other : Bytes) (before : Option Record) → under (line_at (removals gone) other) before ≡ cond (is_among gone other) None before
+all_under [] other before = refl
+all_under (name ∷ gone) other before = go (bytes_eq name other) (all_under gone other before)
+  where
+    go : (b : Bool) → under (line_at (removals gone) other) before ≡ cond (is_among gone other) None before
+        → under (cond b (Some (record { name = name; says = None })) (line_at (removals gone) other)) before ≡ cond (b || is_among gone other) None before
+    go true rest = refl
+    go false rest = rest
+
+one_first : (gone : List Bytes) (name other : Bytes) (before : Option Record) → cond (is_among (name ∷ gone) other) None before ≡ cond (bytes_eq name other) None (cond (is_among gone other) None before)
+one_first gone name other before = go (bytes_eq name other)
+  where
+    go : (b : Bool) → cond (b || is_among gone other) None before ≡ cond b None (cond (is_among gone other) None before)
+    go true = refl
+    go false = refl
+
+one_last : (gone : List Bytes) (name other : Bytes) (before : Option Record) → cond (is_among (gone ++ name ∷ []) other) None before ≡ cond (bytes_eq name other) None (cond (is_among gone other) None before)
+one_last [] name other before = go (bytes_eq name other)
+  where
+    go : (b : Bool) → cond (b || false) None before ≡ cond b None before
+    go true = refl
+    go false = refl
+one_last (first ∷ gone) name other before = go (bytes_eq first other) (one_last gone name other before)
+  where
+    same : (b : Bool) (o : Option Record) → o ≡ cond b o o
+    same true o = refl
+    same false o = refl
+
+    go : (b : Bool) → cond (is_among (gone ++ name ∷ []) other) None before ≡ cond (bytes_eq name other) None (cond (is_among gone other) None before)
+        → cond (b || is_among (gone ++ name ∷ []) other) None before ≡ cond (bytes_eq name other) None (cond (b || is_among gone other) None before)
+    go true rest = same (bytes_eq name other) None
+    go false rest = rest
+
+module _ (kind : Kind) (name text new : Bytes) (read : List Record) (gone : List Bytes) (says : SaysLeft kind text read gone) (told : IsEditedText kind read (removals (name ∷ gone)) new) where
+  edited_left : IsEdited says.records (removal name) told.after
+  edited_left = record {
+    ascend = told.edited.ascend;
+    each = λ other. told.edited.each other ∙ all_under (name ∷ gone) other (hit read other) ∙ one_first gone name other (hit read other)
+        ∙ ap (cond (bytes_eq name other) None) (sym (says.each other)) ∙ sym (one_under name other (hit says.records other));
+  }
+
+  read_left : packed_records kind new ≡ Some told.after
+  read_left = told.reads (same_kind kind name text says.records told.after says.said edited_left)
+
+  says_then : SaysLeft kind new read (gone ++ name ∷ [])
+  says_then = record { records = told.after; said = read_left; each = λ other. told.edited.each other ∙ all_under (name ∷ gone) other (hit read other) ∙ one_first gone name other (hit read other) ∙ sym (one_last gone name other (hit read other)) }
+
+  lacks_left : IsFormed kind text → LacksRecord kind name (Some text) (Some new)
+  lacks_left formed = lacks_edited kind name text new says.records told.after says.said edited_left formed told.is read_left
+
+module _ (kind : Kind) (name new : Bytes) where
+  abbrev IsTold : Option Buffer → List Bytes → Type 0
+  IsTold packed gone = IfSomeRecords packed (λ records. IsEditedText kind records (removals (name ∷ gone)) new)
+
+  pub taken_lacks : (file : Option Bytes) (packed : Option Buffer) (gone : List Bytes) → FileSaysLeft kind file packed gone → ((text : Bytes) → file ≡ Some text → IsFormed kind text) → IsTold packed gone → LacksRecord kind name file (Some new)
+  taken_lacks file None gone says formed told = absurd told
+  taken_lacks None (Some buffer) gone says formed told = absurd says
+  taken_lacks (Some text) (Some buffer) gone says formed told = lacks_left kind name text new (kept buffer) gone says told (formed text refl)
+
+  pub taken_says : (file : Option Bytes) (packed : Option Buffer) (gone : List Bytes) → FileSaysLeft kind file packed gone → IsTold packed gone → IfSomeRecords packed (λ records. SaysLeft kind new records (gone ++ name ∷ []))
+  taken_says file None gone says told = told
+  taken_says None (Some buffer) gone says told = absurd says
+  taken_says (Some text) (Some buffer) gone says told = says_then kind name text new (kept buffer) gone says told
+
+  pub taken_reads : (file : Option Bytes) (packed : Option Buffer) (gone : List Bytes) → FileSaysLeft kind file packed gone → IsTold packed gone → packed_records kind new ≡ None → ⊥
+  taken_reads file None gone says told none = told
+  taken_reads None (Some buffer) gone says told none = says
+  taken_reads (Some text) (Some buffer) gone says told none = none_some (sym none ∙ read_left kind name text new (kept buffer) gone says told)
+
+pub lacks_same : (kind : Kind) (name : Bytes) (file : Option Bytes) (packed : Option Buffer) (gone : List Bytes) → FileSaysLeft kind file packed gone → ((text : Bytes) → file ≡ Some text → IsFormed kind text) → is_name name ≡ true
+    → read_hit packed gone name ≡ None → LacksRecord kind name file file
+lacks_same kind name None packed gone says formed named none = refl
+lacks_same kind name (Some text) None gone says formed named none = absurd says
+lacks_same kind name (Some text) (Some buffer) gone says formed named none =
+    subst (λ o. MatchOption o ⊥ (λ (old : PackedFile). MatchOption o ⊥ (LacksName name old))) (sym (ap (option_map (packed_with text)) says.said))
+    (same_lacks kind name text says.records (form_of kind text says.records says.said (formed text refl)) (λ public. says.each name ∙ not_left public (is_among gone name) none))
+  where
+    not_left : is_private name ≡ false → (b : Bool) → cond b None (packed_hit (kept buffer) name) ≡ None → cond b None (hit (kept buffer) name) ≡ None
+    not_left public true none = refl
+    not_left public false none = sym (ap (option_and_then (hit (kept buffer))) (records_alike name named ∙ ap (λ b. cond b None (Some name)) public)) ∙ none
+
+-- all that was just read is left
+pub all_left : (kind : Kind) (file : Option Bytes) (packed : Option Buffer) → KeepsFile kind file (option_map kept packed) → FileSaysLeft kind file packed []
+all_left kind None None keeps = tt
+all_left kind None (Some buffer) keeps = keeps
+all_left kind (Some text) None keeps = keeps
+all_left kind (Some text) (Some buffer) keeps = record { records = keeps.0; said = keeps.1; each = λ name. sym (keeps.2.first name) }

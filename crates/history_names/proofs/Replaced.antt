@@ -1,5 +1,5 @@
 -- `packed-refs` is written in its lock file and renamed to its place.
-use Rattle.std.proofs.Common.{◌≡◌, ◌≢◌, refl, sym, ◌∙◌, ap, subst, not, ◌&&◌, true, List, codes}
+use Rattle.std.proofs.Common.{◌≡◌, ◌≢◌, refl, sym, ◌∙◌, ap, subst, not, ◌&&◌, true, List, [], codes}
 use Rattle.std.specs.Prelude.{IsTrue, Option, Some, None, is_some}
 use Rattle.std.specs.FinMap.{get}
 use Rattle.gix_ref_file.specs.Tree.{Tree, Node, file, folder, bytes_of, is_folder}
@@ -8,14 +8,17 @@ use Rattle.gix_ref_file.specs.History.{History, Adds}
 use Rattle.gix_ref_file.proofs.Histories.{adds_weaker}
 use Rattle.gix_ref_file.proofs.Trees.{get_inserted, room_after_insert}
 use Rattle.gix_hash_id.specs.declared.kind.Kind.{Kind}
-use Rattle.gix_ref_format.specs.Packed.{Record}
-use Rattle.gix_ref_format.specs.PackedBuffer.{Keeps, KeepsFile}
+use Rattle.gix_ref_format.specs.PackedBuffer.{Keeps}
+use Rattle.gix_ref_format.specs.PackedKept.{kept}
+use Rattle.gix_ref_format.specs.declared.packed.buffer.Buffer.{Buffer}
 use Rattle.history_model.specs.Bytes.{Bytes}
 use Rattle.history_model.specs.Places.{file_at, packed_place}
 use Rattle.gix_ref_way.specs.Ways.{ChangesOneFile}
 use Rattle.gix_ref_way.specs.Ways as made
-use Rattle.history_names.specs.Packing.{HasPackedRoom}
+use Rattle.history_names.specs.Packing.{FileSaysLeft, HasPackedRoom, IfSomeRecords, SaysLeft}
+use Rattle.history_names.specs.declared.packed.Kept.{Kept}
 use Rattle.history_names.specs.References.{PutsBeside, SameFolders}
+use Rattle.history_names.proofs.RecordsLeft.{all_left}
 use Rattle.gix_ref_way.proofs.OneFile.{ones_folders, renamed_after}
 
 abbrev pub packed_lock : Bytes
@@ -61,5 +64,19 @@ may_follow text old mid room is = λ i. stands i && fits i
 
 -- ---- what is kept
 
-pub keeps_text : (kind : Kind) (text : Bytes) (left : List Record) (old new : Tree) → PutsBeside packed_place text old new → Keeps kind text left → KeepsFile kind (file_at new packed_place) (Some left)
-keeps_text kind text left old new puts keeps = subst (λ o. KeepsFile kind o (Some left)) (sym puts.here) keeps
+pub keeps_text : (kind : Kind) (text : Bytes) (buffer : Buffer) (old new : Tree) → PutsBeside packed_place text old new → Keeps kind text (kept buffer) → FileSaysLeft kind (file_at new packed_place) (Some buffer) []
+keeps_text kind text buffer old new puts keeps = subst (λ o. FileSaysLeft kind o (Some buffer) []) (sym puts.here) (all_left kind (Some text) (Some buffer) keeps)
+
+pub keeps_left : (kind : Kind) (text : Bytes) (packed : Option Buffer) (gone : List Bytes) (old new : Tree) → PutsBeside packed_place text old new → IfSomeRecords packed (λ records. SaysLeft kind text records gone) → FileSaysLeft kind (file_at new packed_place) packed gone
+keeps_left kind text packed gone old new puts says = subst (λ o. FileSaysLeft kind o packed gone) (sym puts.here) (go packed says)
+  where
+    go : (p : Option Buffer) → IfSomeRecords p (λ records. SaysLeft kind text records gone) → FileSaysLeft kind (Some text) p gone
+    go None says = says
+    go (Some buffer) says = says
+
+pub kept_all : (kind : Kind) (found : Option Bytes) (packed : Option Buffer) (it : Kept) → it.read ≡ packed → it.gone.items ≡ [] → FileSaysLeft kind found packed [] → FileSaysLeft kind found it.read it.gone.items
+kept_all kind found packed it read gone says = subst (λ p. FileSaysLeft kind found p it.gone.items) (sym read) (subst (FileSaysLeft kind found packed) (sym gone) says)
+
+pub kept_less : (kind k : Kind) (found : Option Bytes) (packed : Option Buffer) (less : List Bytes) (read : Option Buffer) (gone : List Bytes) → k ≡ kind → read ≡ packed → gone ≡ less → FileSaysLeft kind found packed less → FileSaysLeft k found read gone
+kept_less kind k found packed less read gone kinds reads are says =
+    subst (λ x. FileSaysLeft x found read gone) (sym kinds) (subst (λ p. FileSaysLeft kind found p gone) (sym reads) (subst (FileSaysLeft kind found packed) (sym are) says))

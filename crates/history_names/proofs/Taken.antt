@@ -1,5 +1,5 @@
 -- What is left of the files while a name is deleted, packed or not.
-use Rattle.std.proofs.Common.{◌≡◌, ◌≢◌, inl, inr, refl, sym, ◌∙◌, ap, subst, Option, Some, None, option_map, true, false, bytes_eq, codes}
+use Rattle.std.proofs.Common.{◌≡◌, ◌≢◌, inl, inr, refl, sym, ◌∙◌, ap, subst, Option, Some, None, true, false, bytes_eq, codes}
 use Rattle.gix_ref_file.specs.Tree.{Tree}
 use Rattle.gix_ref_file.specs.Changes.{to_remove_file, is_file_at, MayLeave}
 use Rattle.gix_ref_file.specs.History.{History, Adds}
@@ -12,11 +12,10 @@ use Rattle.history_model.specs.Forms.{is_name}
 use Rattle.history_model.specs.Places.{file_at, head_place, is_lock_file, is_log_place, log_place, packed_place}
 use Rattle.history_model.proofs.NameLemmas.{ends_after}
 use Rattle.history_layout.specs.TakeSteps.{LacksRecord, TakesRecord}
-use Rattle.history_names.specs.Packing.{FileIsGone, FileMayGo, HasPackedRoom, IsPackedForm, IsTaken, KeepsRecords, LosesRecord, MayLoseRecord, MayTake}
+use Rattle.history_names.specs.Packing.{FileIsGone, FileMayGo, FileSaysLeft, HasPackedRoom, IsPackedForm, IsTaken, KeepsRecords, LosesRecord, MayLoseRecord, MayTake}
 use Rattle.history_names.specs.declared.names.Names.{Names}
+use Rattle.history_names.specs.declared.packed.Kept.{Kept}
 use Rattle.history_texts.specs.declared.log_entry.LogEntry.{LogEntry}
-use Rattle.gix_ref_format.specs.PackedBuffer.{KeepsFile}
-use Rattle.gix_ref_format.specs.PackedKept.{kept}
 use Rattle.history_names.specs.References.{HasMoved, LogIsGone, LogMayGo, MayBeWritten, PutsBeside, SameFolders, lock_place}
 use Rattle.history_names.proofs.Moves.{name_apart}
 use Rattle.history_names.proofs.Removals.{removed_here}
@@ -177,9 +176,9 @@ module _ (kind : Kind) (name : Bytes) (named : is_name name ≡ true) where
 
 pub keeps_on : {F : Type 0} (a b : Names F) (t u : Tree) → b.kind ≡ a.kind → b.packed ≡ a.packed → file_at u packed_place ≡ file_at t packed_place → KeepsRecords a t → KeepsRecords b u
 keeps_on a b t u kinds packed files h =
-    subst (λ o. KeepsFile b.kind o (option_map kept b.packed)) (sym files)
-    (subst (λ p. KeepsFile b.kind (file_at t packed_place) (option_map kept p)) (sym packed)
-    (subst (λ k. KeepsFile k (file_at t packed_place) (option_map kept a.packed)) (sym kinds) h))
+    subst (λ o. FileSaysLeft b.kind o b.packed.read b.packed.gone.items) (sym files)
+    (subst (λ (p : Kept). FileSaysLeft b.kind (file_at t packed_place) p.read p.gone.items) (sym packed)
+    (subst (λ k. FileSaysLeft k (file_at t packed_place) a.packed.read a.packed.gone.items) (sym kinds) h))
 
 pub formed_on : (a b : Kind) (t u : Tree) → b ≡ a → file_at u packed_place ≡ file_at t packed_place → IsPackedForm a t → IsPackedForm b u
 formed_on a b t u kinds files h = subst (λ k. IsPackedForm k u) (sym kinds) (λ text there. h text (sym files ∙ there))

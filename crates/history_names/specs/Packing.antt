@@ -1,6 +1,6 @@
 -- What is kept of `packed-refs` (git-pack-refs(1)), what names read as by it, and what exists while
 -- it is replaced.
-use Rattle.std.specs.Prelude.{◌≡◌, ◌≢◌, ◌⊎◌, List, Option, Some, None, option_map, MatchOption, IsTrue}
+use Rattle.std.specs.Prelude.{◌≡◌, ◌≢◌, ◌⊎◌, List, map, Option, Some, None, option_map, if◌then◌else◌, MatchOption, IsTrue}
 use Rattle.std.specs.FinMap.{get}
 use Rattle.gix_ref_file.specs.Tree.{Tree, folder}
 use Rattle.gix_hash_id.specs.Id.{Id, id_of}
@@ -8,7 +8,8 @@ use Rattle.gix_hash_id.specs.declared.kind.Kind.{Kind}
 use Rattle.gix_hash_id.specs.declared.object_id.ObjectId.{ObjectId}
 use Rattle.gix_ref_format.specs.Lookup.{packed_hit}
 use Rattle.gix_ref_format.specs.Packed.{Record, packed_records}
-use Rattle.gix_ref_format.specs.PackedBuffer.{KeepsFile}
+use Rattle.gix_object_lines.specs.Bytes.{is_among}
+use Rattle.gix_ref_format.specs.PackedBuffer.{hit}
 use Rattle.gix_ref_format.specs.PackedKept.{kept}
 use Rattle.gix_ref_format.specs.declared.packed.buffer.Buffer.{Buffer}
 use Rattle.gix_ref_packed.specs.Edited.{Line, IsEdited}
@@ -20,13 +21,32 @@ use Rattle.history_model.specs.Places.{file_at, log_place, packed_place}
 use Rattle.history_layout.specs.TakeSteps.{TakesRecord}
 use Rattle.history_names.specs.References.{HasLockRoom, OthersStay, lock_place}
 use Rattle.history_names.specs.declared.names.Names.{Names}
+use Rattle.history_names.specs.declared.packed.Kept.{Kept}
 
 -- ---- what names read as
 
--- the records that are kept are those of the file; none if there is no file
+-- the first of the records that is a name's, unless the name is among those that are gone
+abbrev pub hit_left : List Record → List Bytes → Bytes → Option Record
+hit_left records gone name = if is_among gone name then None else hit records name
+
+-- The text's records are, name by name, what is left of others.
+pub record SaysLeft (kind : Kind) (text : Bytes) (read : List Record) (gone : List Bytes)
+    : Type 0 where
+  pub records : List Record
+  pub said : packed_records kind text ≡ Some records
+  pub each : (name : Bytes) → hit records name ≡ hit_left read gone name
+
+abbrev pub FileSaysLeft : Kind → Option Bytes → Option Buffer → List Bytes → Type 0
+FileSaysLeft kind None None gone = Unit {0}
+FileSaysLeft kind (Some text) (Some buffer) gone = SaysLeft kind text (kept buffer) gone
+FileSaysLeft kind None (Some buffer) gone = ⊥
+FileSaysLeft kind (Some text) None gone = ⊥
+
+-- what is left of the records that were read is what the file says; none were read if there is no
+-- file
 abbrev pub KeepsRecords : {F : Type 0} → Names F → Tree → Type 0
 KeepsRecords names tree =
-    KeepsFile names.kind (file_at tree packed_place) (option_map kept names.packed)
+    FileSaysLeft names.kind (file_at tree packed_place) names.packed.read names.packed.gone.items
 
 -- the id that a state gives
 abbrev pub told_id : NameState → Option Id
@@ -40,16 +60,24 @@ told_id Faulty = None
 abbrev pub NameReads : Kind → Tree → Bytes → Option ObjectId → Type 0
 NameReads kind tree name id = option_map id_of id ≡ told_id (name_state kind tree name)
 
--- the record of a name among those that are kept
-abbrev pub kept_hit : Option Buffer → Bytes → Option Record
-kept_hit None name = None
-kept_hit (Some buffer) name = packed_hit (kept buffer) name
+-- the record of a name among those that are left
+abbrev pub read_hit : Option Buffer → List Bytes → Bytes → Option Record
+read_hit None gone name = None
+read_hit (Some buffer) gone name =
+    if is_among gone name then None else packed_hit (kept buffer) name
+
+abbrev pub kept_hit : Kept → Bytes → Option Record
+kept_hit it name = read_hit it.read it.gone.items name
 
 -- ---- records that are written
 
 -- records are kept, and of them this is true
 abbrev pub IfSomeRecords : Option Buffer → (List Record → Type 0) → Type 0
 IfSomeRecords packed P = MatchOption packed ⊥ (λ buffer. P (kept buffer))
+
+-- what removes the records of these names
+abbrev pub removals : List Bytes → List Line
+removals names = map (λ name. record { name = name; says = None }) names
 
 -- The text of the records under the edits. If all their ids are of the kind, it is read as them.
 pub record IsEditedText (kind : Kind) (records : List Record) (lines : List Line)

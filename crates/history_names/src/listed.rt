@@ -74,11 +74,11 @@ impl<F: Files> Names<F> {
         ensures found { Finds F.is_honest F.history self.now.store.files
             (λ tree. KeepsRecords self.now tree → OnOk result ((name : Bytes)
             → get (ids_in ids.new) name ≡ option_or
-            (told_if (is_packed_below self.now.packed folder.now name) self.now.kind tree name)
+            (told_if (is_packed_below self.now.packed.read folder.now name) self.now.kind tree name)
             (get (ids_in ids.old) name))) }
         ensures failed { IsErrOf result Failed → F.reading_may_fail }
     {
-        let Some(records) = &self.packed else {
+        let Some(records) = &self.packed.read else {
             return Ok(());
         };
         let mut front = Vec::from_slice(alloc, folder)?;

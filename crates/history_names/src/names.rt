@@ -14,11 +14,11 @@ ghost use Rattle.history_names.specs.References.{SpellsBranch, SpellsId, HeadNam
 ghost use Rattle.history_names.specs.RootStore.{IsRootStore};
 ghost use Rattle.gix_hash_id.specs.Id.{id_of};
 
+use crate::packed::{Kept, all_of};
 use gix_hash::{Kind, ObjectId};
 use gix_object_lines::cut::{strip_prefix, strip_suffix};
 use gix_ref_file::{FileError, Files};
 use gix_ref_format::ids::parse_hex;
-use gix_ref_format::packed::Buffer;
 use gix_ref_store::store::file::Store;
 use gix_ref_store::{Options, WriteReflog};
 use gix_ref_way::{has_file_above, has_file_below, is_file, make_way, write_anew};
@@ -33,8 +33,7 @@ use std::alloc::{AllocError, Global};
 pub struct Names<F> {
     pub(crate) store: Store<F>,
     pub(crate) kind: Kind,
-    // The records of `packed-refs`, as they were read.
-    pub(crate) packed: Option<Buffer>,
+    pub(crate) packed: Kept,
     ghost root: { IsRootStore kind store },
 }
 
@@ -46,7 +45,7 @@ impl<F: Files> Names<F> {
     pub fn new(alloc: Global, files: F, kind: Kind) -> Self
         ensures files { result.store.files ≡ files }
         ensures kind { result.kind ≡ kind }
-        ensures packed { result.packed ≡ None }
+        ensures packed { result.packed.read ≡ None }
     {
         let options = Options {
             write_reflog: WriteReflog::Always,
@@ -56,7 +55,7 @@ impl<F: Files> Names<F> {
         Names {
             store: Store::at_root(alloc, files, options),
             kind,
-            packed: None,
+            packed: all_of(alloc, None),
         }
     }
 

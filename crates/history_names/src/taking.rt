@@ -1,20 +1,20 @@
 //! Deletions of names, packed or not: the log is removed first, then the record, then the file.
-ghost use Rattle.std.specs.Prelude.{◌≡◌, ◌≤◌, [], ◌∷◌, None, Some, IfOk, OnOk, IsErrOf, IsTrue, MatchOption};
+ghost use Rattle.std.specs.Prelude.{◌≡◌, ◌≤◌, ◌∷◌, None, IfOk, OnOk, IsErrOf, IsTrue, MatchOption};
 ghost use Rattle.gix_ref_file.specs.Calls.{Achieves, HasFault, Passes};
 ghost use Rattle.gix_ref_file.specs.declared.files.FileError.TheVariants.{Failed, Memory};
 ghost use Rattle.gix_ref_name.specs.Names.{name_of};
-ghost use Rattle.gix_ref_format.specs.Lookup.{packed_hit};
 ghost use Rattle.gix_ref_format.specs.PackedKept.{kept};
+ghost use Rattle.gix_ref_packed.specs.Edited.{lines_of};
 ghost use Rattle.history_model.specs.Forms.{is_name};
-ghost use Rattle.history_names.specs.Packing.{FileIsGone, FileMayGo, HasPackedRoom, IsEditedText, IsPackedForm, IsTaken, KeepsRecords, LosesRecord, MayLoseRecord, MayTake, kept_hit, IfSomeRecords};
+ghost use Rattle.history_names.specs.Packing.{FileIsGone, FileMayGo, HasPackedRoom, IsEditedText, IsPackedForm, IsTaken, KeepsRecords, LosesRecord, MayLoseRecord, MayTake, kept_hit, removals, IfSomeRecords};
 ghost use Rattle.history_names.specs.References.{SameFolders};
-ghost use Rattle.gix_hash_id.specs.declared.kind.Kind.{Kind};
 
 use crate::names::Names;
+use crate::packed::Kept;
 use gix_hash::Kind;
 use gix_ref_file::{FileError, Files};
 use gix_ref_format::packed::Buffer;
-use gix_ref_name::FullNameRef;
+use gix_ref_name::{FullName, FullNameRef};
 use gix_ref_packed::laws::written_records_are_read;
 use gix_ref_packed::{Edit, edited, packed_text};
 use gix_ref_way::is_file;
@@ -74,7 +74,8 @@ impl<F: Files> Names<F> {
             → IsPackedForm self.old.kind (F.history self.old.store.files).tree
             → Achieves F.is_honest F.history self.old.store.files self.new.store.files result
             (LosesRecord self.old.kind name.now) }
-        ensures keeps { KeepsRecords self.old (F.history self.old.store.files).tree
+        ensures keeps { IsTrue (is_name name.now)
+            → KeepsRecords self.old (F.history self.old.store.files).tree
             → F.is_honest self.old.store.files
             → OnOk result (KeepsRecords self.new (F.history self.new.store.files).tree) }
         ensures moments { IsTrue (is_name name.now)
@@ -94,8 +95,9 @@ impl<F: Files> Names<F> {
             → HasPackedRoom (F.history self.old.store.files).tree → IsErrOf result Failed
             → HasFault F.failures F.reading_may_fail self.old.store.files self.new.store.files }
     {
-        match text_without(alloc, &self.packed, name, self.kind)? {
-            Some(text) => self.replace_packed(alloc, text),
+        let found = text_without(alloc, &self.packed, name, self.kind)?;
+        match found {
+            Some((text, lost)) => self.lose_record(alloc, text, lost),
             None => Ok(()),
         }
     }
@@ -126,56 +128,77 @@ impl<F: Files> Names<F> {
     }
 }
 
-// Returns the text of the kept records without that of the name; `None` if it has none.
+// Returns the text of what is kept without the name's record, and the name; `None` if it has none.
 fn text_without(
     alloc: Global,
-    packed: &Option<Buffer>,
+    packed: &Kept,
     name: &[u8],
     kind: Kind,
-) -> Result<Option<Vec<u8>>, AllocError>
+) -> Result<Option<(Vec<u8>, FullName)>, AllocError>
     ensures { IsTrue (is_name name.now) → IfOk result (λ found.
         MatchOption found (kept_hit packed.now name.now ≡ None)
-        (λ text. IfSomeRecords packed.now (λ records. IsEditedText kind records
-        (record { name = name.now; says = None } ∷ []) text.items))) }
+        (λ both. (both.1 ≡ name.now) × IfSomeRecords packed.now.read (λ records.
+        IsEditedText kind records (removals (name.now ∷ packed.now.gone.items)) (both.0).items))) }
 {
-    let Some(records) = packed else {
-        return Ok(None);
-    };
     match FullNameRef::new(name) {
-        Ok(full) => without_one(alloc, records, full, kind),
+        Ok(full) => without_one(alloc, packed, full, kind),
         Err(_) => Ok(None),
     }
 }
 
-// Returns the text of these records without that of the name; `None` if it has none.
+// Returns the text of what is kept without the name's record, and the name; `None` if it has none.
 fn without_one(
     alloc: Global,
-    records: &Buffer,
+    packed: &Kept,
     name: FullNameRef<'_>,
     kind: Kind,
-) -> Result<Option<Vec<u8>>, AllocError>
+) -> Result<Option<(Vec<u8>, FullName)>, AllocError>
     ensures { IfOk result (λ found.
-        MatchOption found (packed_hit (kept records.now) (name_of name.entry) ≡ None)
-        (λ text. IsEditedText kind (kept records.now)
-        (record { name = name_of name.entry; says = None } ∷ []) text.items)) }
+        MatchOption found (kept_hit packed.now (name_of name.entry) ≡ None)
+        (λ both. (both.1 ≡ name_of name.entry) × IfSomeRecords packed.now.read (λ records.
+        IsEditedText kind records (removals (name_of name.entry ∷ packed.now.gone.items))
+        (both.0).items))) }
 {
-    if records.try_find_full_name(name).is_none() {
+    let Some(records) = &packed.read else {
+        return Ok(None);
+    };
+    if packed.record(name).is_none() {
         return Ok(None);
     }
-    Ok(Some(without(alloc, records, name, kind)?))
+    let text = without(alloc, records, &packed.gone, name, kind)?;
+    Ok(Some((text, name.to_owned(alloc)?)))
 }
 
-// Returns the text of the records except that of the name.
+// Returns the text of the records except that of the name and those of names that are gone.
 fn without(
     alloc: Global,
     records: &Buffer,
+    gone: &[FullName],
     name: FullNameRef<'_>,
     kind: Kind,
 ) -> Result<Vec<u8>, AllocError>
     ensures { IfOk result (λ text. IsEditedText kind (kept records.now)
-        (record { name = name_of name.entry; says = None } ∷ []) text.items) }
+        (removals (name_of name.entry ∷ gone.now)) text.items) }
 {
-    let left = edited(alloc, records.iter(), &[Edit::Remove(name)])?;
+    let edits = removals(alloc, name, gone)?;
+    let left = edited(alloc, records.iter(), edits.as_slice())?;
     written_records_are_read(left.as_slice(), kind);
     packed_text(alloc, left.as_slice())
+}
+
+// Returns the edits that remove the records of these names.
+fn removals<'a>(
+    alloc: Global,
+    name: FullNameRef<'a>,
+    gone: &'a [FullName],
+) -> Result<Vec<Edit<'a>>, AllocError>
+    ensures { IfOk result
+        (λ edits. lines_of edits.items ≡ removals (name_of name.entry ∷ gone.now)) }
+{
+    let mut edits = Vec::new(alloc);
+    edits.push(Edit::Remove(name))?;
+    for lost in gone {
+        edits.push(Edit::Remove(lost.as_ref()))?;
+    }
+    Ok(edits)
 }

@@ -21,4 +21,4 @@ returns-clause-found g c = λ honest keeps.
     let named = sym c.is_name.ensures ∙ c.if-not-is_name.false in
     let tree = (g.F.Files.history c.args.self.now.store.files).tree in
     let name = c.args.name.now in
-    record_reads c.args.self.now.kind tree name c.packed_id.result c.args.self.now.packed named (none_read tree name c.in_ok-read.field-0 (c.in_ok-read.ensures.count honest) c.in-None.is) keeps (c.packed_id.ensures named)
+    record_reads c.args.self.now.kind tree name c.packed_id.result c.args.self.now.packed.read c.args.self.now.packed.gone.items named (none_read tree name c.in_ok-read.field-0 (c.in_ok-read.ensures.count honest) c.in-None.is) keeps (c.packed_id.ensures named)

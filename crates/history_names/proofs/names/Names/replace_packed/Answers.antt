@@ -1,85 +1,42 @@
-use Rattle.std.proofs.Common.{◌≡◌, refl, ◌∙◌, ap, subst, ⊎_elim, Err}
-use Rattle.std.proofs.lemmas.Result.{err_from_is_err_and}
+use Rattle.std.proofs.Common.{◌∙◌, Some, subst, sym, rules}
 use Rattle.gix_ref_file.specs.History.{Adds}
-use Rattle.gix_ref_file.specs.declared.files.FileError.TheVariants.{Failed}
-use Rattle.gix_ref_file.proofs.Histories.{adds_nothing}
-use Rattle.gix_ref_format.specs.PackedKept.{kept}
-use Rattle.history_model.specs.Places.{packed_place}
+use Rattle.history_model.specs.Places.{file_at, packed_place}
+use Rattle.history_names.specs.Packing.{FileSaysLeft}
 use Rattle.history_names.specs.References.{PutsBeside, MayBeWritten}
-use Rattle.history_names.proofs.Beside.{lock_beside, rename_beside, put_beside, told_error}
-use Rattle.gix_ref_way.proofs.FoldersMade.{caused}
-use Rattle.history_names.proofs.Replaced.{packed_lock, locked_folders, renamed_all, lock_room, may_follow, keeps_text}
+use Rattle.history_names.proofs.Replaced.{keeps_text, kept_all}
 use Rattle.history_names.proofs.names.Names.replace_packed.Goals as goal
 
 pub returns-clause-put : goal.returns-clause-put
 returns-clause-put g c = λ honest.
     let old = g.F.Files.history c.args.self.now.store.files in
-    let locked = g.F.Files.history c.write_anew.new.files in
-    let new = g.F.Files.history c.rename.new.self in
-    let renamed = c.in_ok-rename.ensures.change (c.write_anew.ensures.honest honest) in
-    subst (λ bytes. PutsBeside packed_place bytes old.tree new.tree) (c.as_ref.ensures ∙ c.in_ok-packed.ensures.bytes)
-    (put_beside packed_place c.as_ref.result.now packed_lock refl old old locked new (adds_nothing old) (c.in_ok-write_anew.ensures.allowed honest) (c.in_ok-write_anew.ensures.made honest) renamed.allowed renamed.made)
+    let new = g.F.Files.history c.put_packed.new.self.store.files in
+    subst (λ bytes. PutsBeside packed_place bytes old.tree new.tree) (c.as_ref.ensures ∙ c.in_ok-packed.ensures.bytes) (c.in_ok-put_packed.ensures.put honest)
 
 pub returns-clause-keeps : goal.returns-clause-keeps
 returns-clause-keeps g c = λ honest.
+    let kind = c.args.self.now.kind in
     let old = g.F.Files.history c.args.self.now.store.files in
-    let locked = g.F.Files.history c.write_anew.new.files in
-    let new = g.F.Files.history c.rename.new.self in
-    let renamed = c.in_ok-rename.ensures.change (c.write_anew.ensures.honest honest) in
-    keeps_text c.args.self.now.kind c.args.text.items (kept c.in_ok-packed.packed) old.tree new.tree
-    (subst (λ bytes. PutsBeside packed_place bytes old.tree new.tree) (c.as_ref.ensures ∙ c.in_ok-packed.ensures.bytes)
-    (put_beside packed_place c.as_ref.result.now packed_lock refl old old locked new (adds_nothing old) (c.in_ok-write_anew.ensures.allowed honest) (c.in_ok-write_anew.ensures.made honest) renamed.allowed renamed.made))
-    c.in_ok-packed.ensures.kept
+    let new = g.F.Files.history c.put_packed.new.self.store.files in
+    let buffer = c.in_ok-packed.packed in
+    let puts = subst (λ bytes. PutsBeside packed_place bytes old.tree new.tree) (c.as_ref.ensures ∙ c.in_ok-packed.ensures.bytes) (c.in_ok-put_packed.ensures.put honest) in
+    let file = file_at new.tree packed_place in
+    subst (λ k. FileSaysLeft k file c.all_of.result.read c.all_of.result.gone.items) (sym c.put_packed.ensures.kind)
+    (kept_all kind file (Some buffer) c.all_of.result c.all_of.ensures.read c.all_of.ensures.gone (keeps_text kind c.args.text.items buffer old.tree new.tree puts c.in_ok-packed.ensures.kept))
 
-pub returns-in_err-write_anew-clause-moments : goal.returns-in_err-write_anew-clause-moments
-returns-in_err-write_anew-clause-moments g c = λ honest.
+pub returns-in_err-put_packed-clause-moments : goal.returns-in_err-put_packed-clause-moments
+returns-in_err-put_packed-clause-moments g c = λ honest.
     let old = g.F.Files.history c.args.self.now.store.files in
-    let locked = g.F.Files.history c.write_anew.new.files in
-    subst (λ bytes. Adds (MayBeWritten packed_place bytes old.tree) old locked) (c.as_ref.ensures ∙ c.in_ok-packed.ensures.bytes)
-    (lock_beside packed_place c.as_ref.result.now packed_lock refl old old locked locked (adds_nothing old) (c.write_anew.ensures.moments honest))
-
-pub returns-in_err-rename-clause-moments : goal.returns-in_err-rename-clause-moments
-returns-in_err-rename-clause-moments g c = λ honest.
-    let old = g.F.Files.history c.args.self.now.store.files in
-    let locked = g.F.Files.history c.write_anew.new.files in
-    let new = g.F.Files.history c.rename.new.self in
-    let renamed = c.rename.ensures.change (c.write_anew.ensures.honest honest) in
-    subst (λ bytes. Adds (MayBeWritten packed_place bytes old.tree) old new) (c.as_ref.ensures ∙ c.in_ok-packed.ensures.bytes)
-    (rename_beside packed_place c.as_ref.result.now packed_lock refl old old locked new (adds_nothing old) (c.in_ok-write_anew.ensures.allowed honest) (c.in_ok-write_anew.ensures.made honest) (c.write_anew.ensures.moments honest) renamed.moments)
+    let new = g.F.Files.history c.put_packed.new.self.store.files in
+    subst (λ bytes. Adds (MayBeWritten packed_place bytes old.tree) old new) (c.as_ref.ensures ∙ c.in_ok-packed.ensures.bytes) (c.put_packed.ensures.moments honest)
 
 pub returns-clause-moments : goal.returns-clause-moments
 returns-clause-moments g c = λ honest.
     let old = g.F.Files.history c.args.self.now.store.files in
-    let locked = g.F.Files.history c.write_anew.new.files in
-    let new = g.F.Files.history c.rename.new.self in
-    let renamed = c.rename.ensures.change (c.write_anew.ensures.honest honest) in
-    subst (λ bytes. Adds (MayBeWritten packed_place bytes old.tree) old new) (c.as_ref.ensures ∙ c.in_ok-packed.ensures.bytes)
-    (rename_beside packed_place c.as_ref.result.now packed_lock refl old old locked new (adds_nothing old) (c.in_ok-write_anew.ensures.allowed honest) (c.in_ok-write_anew.ensures.made honest) (c.write_anew.ensures.moments honest) renamed.moments)
+    let new = g.F.Files.history c.put_packed.new.self.store.files in
+    subst (λ bytes. Adds (MayBeWritten packed_place bytes old.tree) old new) (c.as_ref.ensures ∙ c.in_ok-packed.ensures.bytes) (c.put_packed.ensures.moments honest)
 
-pub returns-in_err-write_anew-clause-folders : goal.returns-in_err-write_anew-clause-folders
-returns-in_err-write_anew-clause-folders g c = λ honest.
-    locked_folders (g.F.Files.history c.args.self.now.store.files) (g.F.Files.history c.write_anew.new.files) (c.write_anew.ensures.moments honest)
-
-pub returns-in_err-rename-clause-folders : goal.returns-in_err-rename-clause-folders
-returns-in_err-rename-clause-folders g c = λ honest.
-    let renamed = c.rename.ensures.change (c.write_anew.ensures.honest honest) in
-    renamed_all (g.F.Files.history c.args.self.now.store.files) (g.F.Files.history c.write_anew.new.files) (g.F.Files.history c.rename.new.self) (c.write_anew.ensures.moments honest) renamed.moments
-
-pub returns-clause-folders : goal.returns-clause-folders
-returns-clause-folders g c = λ honest.
-    let renamed = c.rename.ensures.change (c.write_anew.ensures.honest honest) in
-    renamed_all (g.F.Files.history c.args.self.now.store.files) (g.F.Files.history c.write_anew.new.files) (g.F.Files.history c.rename.new.self) (c.write_anew.ensures.moments honest) renamed.moments
-
-pub returns-in_err-write_anew-clause-failed : goal.returns-in_err-write_anew-clause-failed
-returns-in_err-write_anew-clause-failed g c = λ honest room reads failed.
-    let error = err_from_is_err_and c.from_residual-in_err-write_anew.result c.from_residual-in_err-write_anew.ensures.1 in
-    let same : c.write_anew.result ≡ Err Failed = c.in_err-write_anew.was ∙ ap Err (told_error c.from_residual-in_err-write_anew.result c.in_err-write_anew.field-0.0 error.0 error.1 error.2 failed) in
-    c.write_anew.ensures.failed honest (lock_room (g.F.Files.history c.args.self.now.store.files).tree room) same
-
-pub returns-in_err-rename-clause-failed : goal.returns-in_err-rename-clause-failed
-returns-in_err-rename-clause-failed g c = λ honest room reads failed.
-    let error = err_from_is_err_and c.from_residual-in_err-rename.result c.from_residual-in_err-rename.ensures.1 in
-    let same : c.rename.result ≡ Err Failed = c.in_err-rename.was ∙ ap Err (told_error c.from_residual-in_err-rename.result c.in_err-rename.field-0.0 error.0 error.1 error.2 failed) in
-    ⊎_elim (λ risen. risen) (λ (never : ⊥). absurd never)
-    (caused _ _ _ _ c.rename.result (c.rename.ensures.cause (c.write_anew.ensures.honest honest))
-    (may_follow c.as_ref.result.now (g.F.Files.history c.args.self.now.store.files).tree (g.F.Files.history c.write_anew.new.files).tree room (c.in_ok-write_anew.ensures.made honest)) same c.write_anew.ensures.later)
+pub returns-in_err-put_packed-clause-failed : goal.returns-in_err-put_packed-clause-failed
+returns-in_err-put_packed-clause-failed g c = λ honest room reads failed.
+    let inner = c.in_err-put_packed.ensures.failed honest room in
+    let residual = c.from_residual-in_err-put_packed.ensures in
+    inner (search rules)

@@ -37,7 +37,7 @@ returns-clause-keeps g c = λ named keeps honest.
     let logs = c.in_ok-remove_log.ensures.gone honest in
     let files = log_keeps name (history old.store.files).tree (history mid.store.files).tree logs in
     let kept_mid = keeps_on old mid (history old.store.files).tree (history mid.store.files).tree c.remove_log.ensures.kind c.remove_log.ensures.packed files keeps in
-    let kept_left = c.in_ok-take_record.ensures.keeps kept_mid honest_1 in
+    let kept_left = c.in_ok-take_record.ensures.keeps named kept_mid honest_1 in
     on_ok_weaker c.remove_own_file.result
     (λ gone. keeps_on left new (history left.store.files).tree (history new.store.files).tree c.remove_own_file.ensures.kind c.remove_own_file.ensures.packed (own_keeps name (history left.store.files).tree (history new.store.files).tree named gone) kept_left)
     (c.remove_own_file.ensures.gone (c.take_record.ensures.honest honest_1))
