@@ -1,31 +1,19 @@
 //! The folder that an object's file is in.
-ghost use Rattle.std.specs.Prelude.{◌≡◌, ◌≤◌, IfOk, OnOk, IsErrOf, IsTrue};
-ghost use Rattle.gix_ref_file.specs.Calls.{Finds, HasFault, Passes};
+ghost use Rattle.std.specs.Prelude.{◌≡◌, ◌≤◌, OnOk, IsErrOf, IsTrue};
+ghost use Rattle.gix_ref_file.specs.Calls.{HasFault, Passes};
 ghost use Rattle.gix_ref_file.specs.Tree.{is_path, parent, node_at, is_folder};
 ghost use Rattle.gix_ref_file.specs.declared.files.FileError.TheVariants.{Failed, Memory};
 ghost use Rattle.gix_ref_way.specs.Ways.{SameFiles, FoldersAbove, NoFileAbove, HasFoldersAbove, KeepsFolders};
 
 use gix_ref_file::paths::parent;
-use gix_ref_file::{FileError, Files, Place};
+use gix_ref_file::{FileError, Files};
 use gix_ref_way::make_folders;
 use std::alloc::Global;
 
-/// Returns whether the folder exists that a path is in. Returns `Failed` only if a reading failed.
-pub fn has_folder<F: Files>(files: &F, path: &[u8]) -> Result<bool, FileError>
-    ensures found { Finds F.is_honest F.history files.now (λ tree.
-        IfOk result (λ found. found ≡ is_folder (node_at tree (parent path.now)))) }
-    ensures failed { IsErrOf result Failed → F.reading_may_fail }
-{
-    match files.kind_of(parent(path))? {
-        Place::Folder => Ok(true),
-        Place::Absent | Place::File(_) => Ok(false),
-    }
-}
-
 /// Makes the folder that a path is in, and those above it that are missing; no call is made if it
-/// exists, which the caller has seen (`has_folder`). Files stay. Returns `Failed` if a file exists
+/// exists, which the caller has seen. Files stay. Returns `Failed` if a file exists
 /// at one of the folders or a call of the files failed, and `Memory` if no memory is left.
-pub fn make_missing<F: Files>(
+pub(crate) fn make_missing<F: Files>(
     alloc: Global,
     files: &mut F,
     path: &[u8],

@@ -26,14 +26,15 @@ ghost use Rattle.history_objects.specs.KeptIds.{kept, left};
 ghost use Rattle.history_objects.specs.KnownIds.{AreStanding};
 ghost use Rattle.history_check_objects.specs.Stored.{ids_in};
 
-use crate::folders::{has_folder, make_missing};
+use crate::folders::make_missing;
 use crate::ids::{IdIter, Ids};
 use crate::prefixes::Lookup;
 use gix_hash::{Kind, ObjectId, Prefix};
 use gix_object_lines::cut::strip_prefix;
 use gix_object_lines::{Kind as ObjectKind, encode};
+use gix_ref_file::paths::parent;
 use gix_ref_file::{FileError, Files};
-use gix_ref_way::{is_file, write_anew};
+use gix_ref_way::{is_file, is_folder, write_anew};
 use history_check_objects::Stored;
 use history_texts::{NewObject, UNFINISHED, object_place, parse_header};
 use std::alloc::{AllocError, Global};
@@ -208,7 +209,7 @@ impl<F: Files> Objects<F> {
             (λ seen. seen.1 ≡ is_file_at tree place.now)) }
         ensures failed { IsErrOf result Failed → F.reading_may_fail }
     {
-        if !has_folder(&self.files, place)? {
+        if !is_folder(&self.files, parent(place))? {
             return Ok((false, false));
         }
         let is_file = is_file(&self.files, place)?;
