@@ -1,2 +1,4 @@
+pub mod GivenUp
 pub mod LockLemmas
 pub mod OpenFaults
+pub mod Worse

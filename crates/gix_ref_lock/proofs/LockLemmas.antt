@@ -1,14 +1,16 @@
 -- What there is while a lock is made, filled, removed or put in its place.
-use Rattle.std.proofs.Common.{◌≡◌, ◌≢◌, ◌⊎◌, inl, inr, refl, sym, ◌∙◌, ap, ℕ, Bool, true, false, cond, ◌&&◌, ◌||◌, List, [], ◌∷◌, take, arith, length}
+use Rattle.std.proofs.Common.{◌≡◌, ◌≢◌, ◌⊎◌, inl, inr, refl, sym, ◌∙◌, ap, ℕ, ◌+◌, ◌-◌, Bool, true, false, cond, not, ◌&&◌, ◌||◌, List, [], ◌∷◌, take, arith, length}
 use Rattle.std.specs.Prelude.{Option, Some, None, IsTrue, IsFalse, is_some, is_none, codes, Result, Ok, Err, OnOk, IsErrOf}
-use Rattle.std.specs.List.{list_any}
+use Rattle.std.specs.List.{list_any, prefix_len, suffix_len}
 use Rattle.std.specs.FinMap.{get, insert, remove}
-use Rattle.std.proofs.lemmas.List.{length-append}
-use Rattle.gix_ref_file.specs.Tree.{Tree, Node, file, is_folder, node_at, bytes_at, same_path}
+use Rattle.std.proofs.lemmas.Bool.{and_parts}
+use Rattle.std.proofs.lemmas.List.{length-append, reverse-append, take-append-le}
+use Rattle.gix_ref_file.specs.Tree.{Tree, Node, file, is_folder, is_path, parent, node_at, bytes_of, bytes_at, same_path}
 use Rattle.gix_ref_file.specs.Changes.{to_create, to_write, to_rename, to_remove_file, allows, after, may_hold_file, is_file_at, MayLeave}
 use Rattle.gix_ref_file.specs.History.{History, Adds, HasRisen, HasCause}
 use Rattle.gix_ref_file.specs.declared.files.FileError.{FileError}
 use Rattle.gix_ref_file.specs.declared.files.FileError.TheVariants.{Failed}
+use Rattle.gix_ref_file.proofs.Below.{inside}
 use Rattle.gix_ref_file.proofs.Histories.{adds_weaker, adds_joined}
 use Rattle.gix_ref_file.proofs.Others.{others_stay, rename_gone}
 use Rattle.gix_ref_file.proofs.Rooted.{adds_now}
@@ -178,3 +180,48 @@ folders_now old mid first = from_now (adds_now (SameFolders old.tree) old mid fi
 
 pub folders_joined : (old mid new : History) → Adds (SameFolders old.tree) old mid → Adds (SameFolders mid.tree) mid new → Adds (SameFolders old.tree) old new
 folders_joined old mid new first second = adds_joined old mid new first (adds_weaker mid new second (λ x stay path. stay path ∙ folders_now old mid first path))
+
+-- ---- what holds of a lock whatever comes of a call
+
+-- a lock that is written stays
+pub written_stays : (lock bytes : List ℕ) (old new : History) → Adds (MayLeave (to_write lock bytes) old.tree) old new → IsTrue (is_file_at old.tree lock) → IsTrue (is_file_at new.tree lock)
+written_stays lock bytes old new adds is = from_now (adds_now (MayLeave (to_write lock bytes) old.tree) old new adds)
+  where
+    from_now : (new.tree ≡ old.tree) ⊎ MayLeave (to_write lock bytes) old.tree new.tree → IsTrue (is_file_at new.tree lock)
+    from_now (inl same) = ap (λ t. is_file_at t lock) same ∙ is
+    from_now (inr (inl same)) = ap (λ t. is_file_at t lock) same ∙ is
+    from_now (inr (inr (n, may, made))) = ap (λ o. is_some (bytes_of o)) (filled_by lock (take n bytes) old.tree new.tree may made)
+
+-- a lock is in the folder of its place
+lock_parent : (place : List ℕ) → parent (lock_of place) ≡ parent place
+lock_parent place =
+    let skipped : suffix_len inside (lock_of place) ≡ 1 + (1 + (1 + (1 + (1 + suffix_len inside place)))) = ap (prefix_len inside) (reverse-append place (codes ".lock")) in
+    let long = length-append place (codes ".lock") in
+    let end : length (lock_of place) - suffix_len inside (lock_of place) - 1 ≡ length place - suffix_len inside place - 1 = omega (arith, skipped, long) in
+    ap (λ n. take n (lock_of place)) end ∙ take-append-le (length place - suffix_len inside place - 1) place (codes ".lock") (omega arith)
+
+-- so it can be made if its path is one
+pub blamed_by : (place : List ℕ) (tree : Tree) → IsTrue (may_hold_file tree place) → allows tree (to_create (lock_of place) []) ≡ false → is_path (lock_of place) ≡ false
+blamed_by place tree may barred = by_path (is_path (lock_of place)) refl
+  where
+    there : IsTrue (is_folder (node_at tree (parent (lock_of place))))
+    there =
+        let parts = and_parts (is_path place && is_folder (node_at tree (parent place))) (not (is_folder (node_at tree place))) may in
+        ap (λ p. is_folder (node_at tree p)) (lock_parent place) ∙ (and_parts (is_path place) (is_folder (node_at tree (parent place))) parts.0).1
+
+    by_node : (o : Option Node) → is_path (lock_of place) ≡ true → (is_some o || (is_path (lock_of place) && is_folder (node_at tree (parent (lock_of place))) && not (is_folder o))) ≡ false → ⊥
+    by_node (Some n) is none = clash none
+    by_node None is none = clash (sym (λ i. is i && there i && true) ∙ none)
+
+    by_path : (b : Bool) → is_path (lock_of place) ≡ b → is_path (lock_of place) ≡ false
+    by_path false is = is
+    by_path true is = absurd (by_node (node_at tree (lock_of place)) is barred)
+
+-- a call fails for a cause that is counted, or since the path is none
+pub blamed : {T : Type 0} (place : List ℕ) (tree : Tree) (before now : ℕ) (r : Result T FileError) → IsTrue (may_hold_file tree place) → HasCause (allows tree (to_create (lock_of place) [])) before now r → IsErrOf r Failed
+    → HasRisen before now ⊎ (is_path (lock_of place) ≡ false)
+blamed place tree before now r may cause failed = by_cause (cause failed)
+  where
+    by_cause : HasRisen before now ⊎ (allows tree (to_create (lock_of place) []) ≡ false) → HasRisen before now ⊎ (is_path (lock_of place) ≡ false)
+    by_cause (inl risen) = inl risen
+    by_cause (inr barred) = inr (blamed_by place tree may barred)

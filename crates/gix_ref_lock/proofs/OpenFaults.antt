@@ -27,8 +27,9 @@ no_fault kind (Some text) (Iter number) Fails read (items, are, bad) fails =
 no_fault kind (Some text) HeaderParsing Fails read none fails =
     let wrong : true ≡ false = sym read ∙ ap is_some (ap (option_and_then all_good) none) in absurd (cc wrong)
 
--- the error that is returned is that one, or says that memory was wanting
-pub told_so : (Fails : Type 0) (told : Error) (error : buffer.Error) → (told ≡ BufferOpen error) ⊎ IsShort told → Fails ⊎ IsShort (BufferOpen error) → Fails ⊎ IsShort told
-told_so Fails told error (inl same) (inl fails) = inl fails
-told_so Fails told error (inl same) (inr short) = inr (subst IsShort (sym same) short)
-told_so Fails told error (inr short) fault = inr short
+-- the error that is returned is that one, or a failure was counted, or memory was wanting
+pub told_so : (Risen Fails : Type 0) (told : Error) (error : buffer.Error) → (told ≡ BufferOpen error) ⊎ (Risen ⊎ IsShort told) → Fails ⊎ IsShort (BufferOpen error) → (Risen → Fails) → Fails ⊎ IsShort told
+told_so Risen Fails told error (inl same) (inl fails) rise = inl fails
+told_so Risen Fails told error (inl same) (inr short) rise = inr (subst IsShort (sym same) short)
+told_so Risen Fails told error (inr (inl risen)) fault rise = inl (rise risen)
+told_so Risen Fails told error (inr (inr short)) fault rise = inr short

@@ -1,3 +1,4 @@
+pub mod GivenBacks
 pub mod Locks
 pub mod Records
 pub mod RecordEdits

@@ -3,13 +3,16 @@
 ghost use Rattle.std.specs.Prelude.{◌≡◌, ◌≢◌, ◌≤◌, ◌⊎◌, false, None, Some, IfOk, IfSome, OnOk, IsErrOf, IsTrue};
 ghost use Rattle.gix_ref_file.specs.Changes.{is_file_at, may_hold_file};
 ghost use Rattle.gix_ref_file.specs.History.{HasRisen};
-ghost use Rattle.gix_ref_file.specs.declared.files.FileError.TheVariants.{Failed};
-ghost use Rattle.gix_ref_file.specs.Tree.{file, node_at, bytes_at};
+ghost use Rattle.gix_ref_file.specs.declared.files.FileError.TheVariants.{Failed, Memory};
+ghost use Rattle.gix_ref_lock.specs.declared.lock.GivenBack.TheVariants as given;
+ghost use Rattle.gix_ref_file.specs.Tree.{file, is_path, node_at, bytes_at};
 ghost use Rattle.gix_ref_file.specs.Calls.{Achieves, Passes};
 ghost use Rattle.gix_ref_way.specs.Ways.{SameFolders};
+ghost use Rattle.gix_ref_lock.specs.GivenBacks.{worse};
 ghost use Rattle.gix_ref_lock.specs.Locks.{lock_of, OthersStay, KeepsHeld, IsTaken, MayBePut, IsPut};
 
 use gix_ref_file::{FileError, Files};
+use gix_ref_way::is_file;
 use std::alloc::{AllocError, Global};
 
 /// A lock that is held: a file is at its path.
@@ -20,6 +23,39 @@ pub struct Lock {
     /// The path of the lock itself.
     pub path: Vec<u8>,
     ghost beside: { path.items ≡ lock_of place.items },
+}
+
+/// What came of giving locks back.
+#[derive(Debug, Clone, Copy, PartialEq, Eq)]
+pub enum GivenBack {
+    /// No lock is left.
+    Done,
+    /// A reading failed, so that one may be left.
+    Unread,
+    /// Memory was refused, so that one may be left. No removal failed.
+    Memory,
+    /// A removal failed.
+    Failed,
+}
+
+impl GivenBack {
+    /// Returns the worse of both: `Failed` before `Memory`, that before `Unread`.
+    pub fn or_worse(self, other: GivenBack) -> GivenBack
+        ensures { result ≡ worse self other }
+    {
+        match self {
+            GivenBack::Failed => GivenBack::Failed,
+            GivenBack::Memory => match other {
+                GivenBack::Failed => GivenBack::Failed,
+                GivenBack::Done | GivenBack::Unread | GivenBack::Memory => GivenBack::Memory,
+            },
+            GivenBack::Unread => match other {
+                GivenBack::Done => GivenBack::Unread,
+                GivenBack::Unread | GivenBack::Memory | GivenBack::Failed => other,
+            },
+            GivenBack::Done => other,
+        }
+    }
 }
 
 /// Makes the lock of a place, an empty file; `None` if something is at the lock's path already.
@@ -48,8 +84,13 @@ pub fn acquire<F: Files>(
     ensures failed { F.is_honest files.old
         → IsTrue (may_hold_file (F.history files.old).tree (lock_of place.now))
         → IsErrOf result Failed → HasRisen (F.failures files.old) (F.failures files.new) }
+    ensures blamed { F.is_honest files.old
+        → IsTrue (may_hold_file (F.history files.old).tree place.now) → IsErrOf result Failed
+        → HasRisen (F.failures files.old) (F.failures files.new)
+        ⊎ (is_path (lock_of place.now) ≡ false) }
     ensures later { F.failures files.old ≤ F.failures files.new }
     ensures unfailed { OnOk result (F.failures files.new ≡ F.failures files.old) }
+    ensures memory { IsErrOf result Memory → F.failures files.new ≡ F.failures files.old }
 {
     let path = lock_path(alloc, place)?;
     let place = place.to_vec(alloc)?;
@@ -70,7 +111,7 @@ fn lock_path(alloc: Global, place: &[u8]) -> Result<Vec<u8>, AllocError>
 
 impl Lock {
     /// Writes these bytes into the lock, in place of what it held. Returns `Failed` if a call of
-    /// the files failed.
+    /// the files failed; a lock that is there then stays.
     pub fn fill<F: Files>(
         &self,
         alloc: Global,
@@ -79,8 +120,12 @@ impl Lock {
     ) -> Result<(), FileError>
         ensures honest { F.is_honest files.old → F.is_honest files.new }
         ensures unfailed { OnOk result (F.failures files.new ≡ F.failures files.old) }
+        ensures memory { IsErrOf result Memory → F.failures files.new ≡ F.failures files.old }
         ensures moments { Passes F.is_honest F.history files.old files.new
             (OthersStay self.now.path.items) }
+        ensures stays { F.is_honest files.old
+            → IsTrue (is_file_at (F.history files.old).tree self.now.path.items)
+            → IsTrue (is_file_at (F.history files.new).tree self.now.path.items) }
         ensures folders { Passes F.is_honest F.history files.old files.new SameFolders }
         ensures later { F.failures files.old ≤ F.failures files.new }
         ensures failed { F.is_honest files.old
@@ -97,6 +142,7 @@ impl Lock {
         ensures honest { F.is_honest files.old → F.is_honest files.new }
         ensures later { F.failures files.old ≤ F.failures files.new }
         ensures unfailed { OnOk result (F.failures files.new ≡ F.failures files.old) }
+        ensures memory { IsErrOf result Memory → F.failures files.new ≡ F.failures files.old }
         ensures moments { Passes F.is_honest F.history files.old files.new
             (OthersStay self.now.path.items) }
         ensures folders { Passes F.is_honest F.history files.old files.new SameFolders }
@@ -112,12 +158,41 @@ impl Lock {
         files.remove_file(alloc, &self.path)
     }
 
+    /// Removes the lock if it is there. Returns `Failed` if its removal failed, `Unread` if it
+    /// couldn't be read whether it is there, and `Memory` if no memory is left.
+    pub fn withdraw<F: Files>(&self, alloc: Global, files: &mut F) -> GivenBack
+        ensures honest { F.is_honest files.old → F.is_honest files.new }
+        ensures later { F.failures files.old ≤ F.failures files.new }
+        ensures unfailed { result ≢ given.Failed → F.failures files.new ≡ F.failures files.old }
+        ensures moments { Passes F.is_honest F.history files.old files.new
+            (OthersStay self.now.path.items) }
+        ensures folders { Passes F.is_honest F.history files.old files.new SameFolders }
+        ensures failed { F.is_honest files.old → result ≡ given.Failed
+            → HasRisen (F.failures files.old) (F.failures files.new) }
+        ensures unread { result ≡ given.Unread → F.reading_may_fail }
+        ensures gone { F.is_honest files.old → result ≡ given.Done
+            → is_file_at (F.history files.new).tree self.now.path.items ≡ false }
+    {
+        // The removal of nothing might be counted as a failure.
+        match is_file(files, &self.path) {
+            Ok(true) => match self.give_back(alloc, files) {
+                Ok(()) => GivenBack::Done,
+                Err(FileError::Failed) => GivenBack::Failed,
+                Err(FileError::Memory) => GivenBack::Memory,
+            },
+            Ok(false) => GivenBack::Done,
+            Err(FileError::Failed) => GivenBack::Unread,
+            Err(FileError::Memory) => GivenBack::Memory,
+        }
+    }
+
     /// Puts the lock in its place, replacing a file there whole. Returns `Failed` if a folder is in
     /// the place or a call of the files failed.
     pub fn put<F: Files>(&self, alloc: Global, files: &mut F) -> Result<(), FileError>
         ensures honest { F.is_honest files.old → F.is_honest files.new }
         ensures later { F.failures files.old ≤ F.failures files.new }
         ensures unfailed { OnOk result (F.failures files.new ≡ F.failures files.old) }
+        ensures memory { IsErrOf result Memory → F.failures files.new ≡ F.failures files.old }
         ensures moments { Passes F.is_honest F.history files.old files.new
             (MayBePut self.now.place.items self.now.path.items
             (bytes_at (F.history files.old).tree self.now.path.items)) }

@@ -1,6 +1,6 @@
 //! Transactions of `packed-refs`: a held lock gets the new text and is then put in its place.
 
-ghost use Rattle.std.specs.Prelude.{◌≡◌, ◌≢◌, ◌≤◌, ◌⊎◌, [], true, false, Some, None, Err, map, option_map, IfOk, IfErr, OnOk, IsTrue};
+ghost use Rattle.std.specs.Prelude.{◌≡◌, ◌≢◌, ◌≤◌, ◌⊎◌, [], true, false, Some, None, Err, map, option_map, IfOk, IfErr, IsErrOf, OnOk, IsTrue};
 ghost use Rattle.gix_ref_file.specs.Tree.{node_at, bytes_at};
 ghost use Rattle.gix_ref_file.specs.Changes.{is_file_at, may_hold_file};
 ghost use Rattle.gix_ref_file.specs.Calls.{HasFault, Passes};
@@ -11,12 +11,13 @@ ghost use Rattle.gix_ref_lock.specs.Records.{records_in, IsTextOf, HoldsEdited};
 ghost use Rattle.gix_ref_lock.specs.RecordEdits.{line_in};
 ghost use Rattle.gix_ref_way.specs.Ways.{SameFolders};
 ghost use Rattle.gix_ref_lock.specs.Locks.{lock_of, HasLockPlace, OthersStay, IsTaken, MayBePut, IsPut};
+ghost use Rattle.gix_ref_file.specs.declared.files.FileError.TheVariants as file_case;
 ghost use Rattle.gix_ref_lock.specs.declared.packed.Error.TheVariants.{BufferOpen};
 ghost use Rattle.gix_ref_lock.specs.declared.packed.PrepareError.TheVariants as prepare_case;
 ghost use Rattle.gix_ref_lock.specs.declared.packed.CommitError.TheVariants as commit_case;
 ghost use Rattle.gix_ref_lock.specs.PackedErrors.{IsShort, IsUnprepared, IsUncommitted, as_prepare, as_commit};
 
-use crate::lock::{Lock, acquire};
+use crate::lock::{GivenBack, Lock, acquire};
 use gix_hash::{Kind, ObjectId};
 use gix_ref_file::{FileError, Files};
 use gix_ref_format::packed::{Buffer, Reference, buffer};
@@ -137,7 +138,7 @@ impl Transaction {
 
     /// Makes the lock of the file at this place, and reads the file, whose ids are of this kind.
     /// Returns `Held` if something is at the lock's path already; the other errors are those of
-    /// `Buffer::open`, and the lock is then removed.
+    /// `Buffer::open`, and the lock is then removed; if that fails, the error is `Failed`.
     pub fn new<F: Files>(
         alloc: Global,
         files: &mut F,
@@ -156,6 +157,11 @@ impl Transaction {
             HasFault F.failures F.reading_may_fail files.old files.new ⊎ IsShort error) }
         ensures later { F.failures files.old ≤ F.failures files.new }
         ensures unfailed { OnOk result (F.failures files.new ≡ F.failures files.old) }
+        ensures memory { IfErr result (λ error. IsShort error
+            → F.failures files.new ≡ F.failures files.old) }
+        ensures here { IfOk result (λ t. place_of t ≡ place.now) }
+        ensures held { F.is_honest files.old → IfOk result (λ t.
+            IsTrue (is_file_at (F.history files.new).tree (lock_path_of t))) }
         ensures rolled_back { F.is_honest files.old → IfErr result (λ error.
             (is_file_at (F.history files.new).tree (lock_of place.now)
             ≡ is_file_at (F.history files.old).tree (lock_of place.now))
@@ -215,7 +221,14 @@ impl Transaction {
             HasRisen (F.failures files.old) (F.failures files.new) ⊎ IsUnprepared error) }
         ensures later { F.failures files.old ≤ F.failures files.new }
         ensures unfailed { OnOk result (F.failures files.new ≡ F.failures files.old) }
-        ensures rolled_back { F.is_honest files.old → IfErr result (λ error.
+        ensures memory { IfErr result (λ error. IsUnprepared error
+            → F.failures files.new ≡ F.failures files.old) }
+        ensures held { F.is_honest files.old
+            → IsTrue (is_file_at (F.history files.old).tree (lock_path_of self))
+            → OnOk result (IsTrue (is_file_at (F.history files.new).tree (lock_path_of self))) }
+        ensures rolled_back { F.is_honest files.old
+            → IsTrue (is_file_at (F.history files.old).tree (lock_path_of self))
+            → IfErr result (λ error.
             (is_file_at (F.history files.new).tree (lock_path_of self) ≡ false)
             ⊎ (HasRisen (F.failures files.old) (F.failures files.new) ⊎ IsUnprepared error)) }
     {
@@ -251,6 +264,8 @@ impl Transaction {
         ensures honest { F.is_honest files.old → F.is_honest files.new }
         ensures later { F.failures files.old ≤ F.failures files.new }
         ensures unfailed { OnOk result (F.failures files.new ≡ F.failures files.old) }
+        ensures memory { IsErrOf result commit_case.Memory
+            → F.failures files.new ≡ F.failures files.old }
         ensures moments { Passes F.is_honest F.history files.old files.new
             (MayBePut (place_of self) (lock_path_of self)
             (bytes_at (F.history files.old).tree (lock_path_of self))) }
@@ -287,6 +302,8 @@ impl Transaction {
         ensures honest { F.is_honest files.old → F.is_honest files.new }
         ensures later { F.failures files.old ≤ F.failures files.new }
         ensures unfailed { OnOk result (F.failures files.new ≡ F.failures files.old) }
+        ensures memory { IsErrOf result commit_case.Memory
+            → F.failures files.new ≡ F.failures files.old }
         ensures moments { Passes F.is_honest F.history files.old files.new
             (OthersStay (lock_path_of self)) }
         ensures folders { Passes F.is_honest F.history files.old files.new SameFolders }
@@ -326,6 +343,8 @@ fn take_lock<F: Files>(alloc: Global, files: &mut F, place: &[u8]) -> Result<Loc
         → IfErr result (λ error. HasRisen (F.failures files.old) (F.failures files.new) ⊎ IsShort error) }
     ensures later { F.failures files.old ≤ F.failures files.new }
     ensures unfailed { OnOk result (F.failures files.new ≡ F.failures files.old) }
+    ensures memory { IfErr result (λ error. IsShort error
+        → F.failures files.new ≡ F.failures files.old) }
 {
     match acquire(alloc, files, place) {
         Ok(Some(lock)) => Ok(lock),
@@ -342,14 +361,19 @@ fn unopened<F: Files>(alloc: Global, files: &mut F, lock: &Lock, error: buffer::
     ensures moments { Passes F.is_honest F.history files.old files.new
         (OthersStay lock.now.path.items) }
     ensures folders { Passes F.is_honest F.history files.old files.new SameFolders }
-    ensures told { (result ≡ BufferOpen error) ⊎ IsShort result }
+    ensures memory { IsShort result → F.failures files.new ≡ F.failures files.old }
+    ensures told { F.is_honest files.old
+        → IsTrue (is_file_at (F.history files.old).tree lock.now.path.items)
+        → (result ≡ BufferOpen error)
+        ⊎ (HasRisen (F.failures files.old) (F.failures files.new) ⊎ IsShort result) }
     ensures rolled_back { F.is_honest files.old
+        → IsTrue (is_file_at (F.history files.old).tree lock.now.path.items)
         → (is_file_at (F.history files.new).tree lock.now.path.items ≡ false)
         ⊎ (HasRisen (F.failures files.old) (F.failures files.new) ⊎ IsShort result) }
 {
     match lock.give_back(alloc, files) {
         Ok(()) => Error::BufferOpen(error),
-        Err(FileError::Failed) => Error::BufferOpen(error),
+        Err(FileError::Failed) => Error::TransactionLock(LockError::Failed),
         Err(FileError::Memory) => Error::TransactionLock(LockError::Memory),
     }
 }
@@ -372,6 +396,11 @@ fn write_edited<'a, F: Files>(
         → IfErr result (λ error.
         HasRisen (F.failures files.old) (F.failures files.new) ⊎ IsUnprepared error) }
     ensures unfailed { OnOk result (F.failures files.new ≡ F.failures files.old) }
+    ensures memory { IfErr result (λ error. IsUnprepared error
+        → F.failures files.new ≡ F.failures files.old) }
+    ensures stays { F.is_honest files.old
+        → IsTrue (is_file_at (F.history files.old).tree lock.now.path.items)
+        → IsTrue (is_file_at (F.history files.new).tree lock.now.path.items) }
     ensures held { F.is_honest files.old → OnOk result (HoldsEdited kind (records_in buffer.now)
         (map line_in edits.now) lock.now.path.items (F.history files.new).tree) }
     ensures later { F.failures files.old ≤ F.failures files.new }
@@ -439,7 +468,8 @@ fn new_records<'a>(
     }
 }
 
-// Removes the lock of a transaction that isn't prepared, and returns why.
+// Removes the lock of a transaction that isn't prepared, and returns why: a failed call before want
+// of memory.
 fn unprepared<F: Files>(
     alloc: Global,
     files: &mut F,
@@ -451,15 +481,20 @@ fn unprepared<F: Files>(
     ensures moments { Passes F.is_honest F.history files.old files.new
         (OthersStay lock.now.path.items) }
     ensures folders { Passes F.is_honest F.history files.old files.new SameFolders }
-    ensures told { (result ≡ error) ⊎ IsUnprepared result }
+    ensures kept { IsUnprepared result → IsUnprepared error }
+    ensures memory { IsUnprepared result → F.failures files.new ≡ F.failures files.old }
+    ensures told { F.is_honest files.old
+        → IsTrue (is_file_at (F.history files.old).tree lock.now.path.items)
+        → (result ≡ error) ⊎ HasRisen (F.failures files.old) (F.failures files.new) }
     ensures rolled_back { F.is_honest files.old
+        → IsTrue (is_file_at (F.history files.old).tree lock.now.path.items)
         → (is_file_at (F.history files.new).tree lock.now.path.items ≡ false)
-        ⊎ (HasRisen (F.failures files.old) (F.failures files.new) ⊎ IsUnprepared result) }
+        ⊎ (HasRisen (F.failures files.old) (F.failures files.new) ⊎ (result ≡ error)) }
 {
     match lock.give_back(alloc, files) {
         Ok(()) => error,
-        Err(FileError::Failed) => error,
-        Err(FileError::Memory) => PrepareError::Memory,
+        Err(FileError::Failed) => PrepareError::CloseLock,
+        Err(FileError::Memory) => error,
     }
 }
 
@@ -468,6 +503,8 @@ fn replace<F: Files>(alloc: Global, files: &mut F, lock: &Lock) -> Result<(), Co
     ensures honest { F.is_honest files.old → F.is_honest files.new }
     ensures later { F.failures files.old ≤ F.failures files.new }
     ensures unfailed { OnOk result (F.failures files.new ≡ F.failures files.old) }
+    ensures memory { IsErrOf result commit_case.Memory
+        → F.failures files.new ≡ F.failures files.old }
     ensures moments { Passes F.is_honest F.history files.old files.new
         (MayBePut lock.now.place.items lock.now.path.items
         (bytes_at (F.history files.old).tree lock.now.path.items)) }
@@ -483,10 +520,26 @@ fn replace<F: Files>(alloc: Global, files: &mut F, lock: &Lock) -> Result<(), Co
 {
     match lock.put(alloc, files) {
         Ok(()) => Ok(()),
-        Err(error) => {
-            let _ = lock.give_back(alloc, files);
-            Err(CommitError::from(error))
-        }
+        Err(error) => Err(unreplaced(alloc, files, lock, error)),
+    }
+}
+
+// Removes the lock that couldn't be put in its place, if it is there, and returns why.
+fn unreplaced<F: Files>(alloc: Global, files: &mut F, lock: &Lock, error: FileError) -> CommitError
+    ensures honest { F.is_honest files.old → F.is_honest files.new }
+    ensures later { F.failures files.old ≤ F.failures files.new }
+    ensures moments { Passes F.is_honest F.history files.old files.new
+        (OthersStay lock.now.path.items) }
+    ensures folders { Passes F.is_honest F.history files.old files.new SameFolders }
+    ensures kept { result ≡ commit_case.Memory → error ≡ file_case.Memory }
+    ensures memory { result ≡ commit_case.Memory
+        → F.failures files.new ≡ F.failures files.old }
+    ensures told { F.is_honest files.old
+        → (result ≡ as_commit error) ⊎ HasRisen (F.failures files.old) (F.failures files.new) }
+{
+    match lock.withdraw(alloc, files) {
+        GivenBack::Failed => CommitError::Commit,
+        GivenBack::Done | GivenBack::Unread | GivenBack::Memory => CommitError::from(error),
     }
 }
 
@@ -494,6 +547,8 @@ fn given_back<F: Files>(alloc: Global, files: &mut F, lock: &Lock) -> Result<(),
     ensures honest { F.is_honest files.old → F.is_honest files.new }
     ensures later { F.failures files.old ≤ F.failures files.new }
     ensures unfailed { OnOk result (F.failures files.new ≡ F.failures files.old) }
+    ensures memory { IsErrOf result commit_case.Memory
+        → F.failures files.new ≡ F.failures files.old }
     ensures moments { Passes F.is_honest F.history files.old files.new
         (OthersStay lock.now.path.items) }
     ensures folders { Passes F.is_honest F.history files.old files.new SameFolders }

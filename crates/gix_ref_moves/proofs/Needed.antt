@@ -8,10 +8,12 @@ use Rattle.gix_ref_file.specs.Tree.{Tree, Node, file, folder, bytes_of, place_of
 use Rattle.gix_ref_file.specs.Changes.{may_hold_file, is_file_at}
 use Rattle.gix_ref_file.specs.History.{History, Adds, HasRisen}
 use Rattle.gix_ref_file.specs.declared.files.FileError.{FileError}
-use Rattle.gix_ref_file.specs.declared.files.FileError.TheVariants.{Failed}
+use Rattle.gix_ref_file.specs.declared.files.FileError.TheVariants.{Failed, Memory}
 use Rattle.gix_ref_file.specs.declared.files.Place.TheVariants as places
 use Rattle.gix_ref_file.proofs.Histories.{adds_weaker}
 use Rattle.gix_ref_lock.specs.PackedEdits as packed
+use Rattle.gix_ref_lock.specs.declared.lock.GivenBack.{GivenBack}
+use Rattle.gix_ref_lock.specs.declared.lock.GivenBack.TheVariants as given_case
 use Rattle.gix_ref_lock.specs.declared.packed.Transaction.{Transaction}
 use Rattle.gix_ref_way.specs.Ways.{Bytes, file_at, IsAbove, HasWay, FoldersOnlyOf}
 use Rattle.gix_ref_way.proofs.Rooms.{among_first, among_rest, only_weaker, onlys_joined, room_stays}
@@ -20,7 +22,7 @@ use Rattle.gix_ref_moves.specs.Contents.{Contents, contents, act_line, place_of,
 use Rattle.gix_ref_moves.specs.Moments.{NotesLog, AreApart}
 use Rattle.gix_ref_moves.specs.Moves.{all_paths, paths_of, IsNone, Once}
 use Rattle.gix_ref_moves.specs.Committing.{packed_paths, commit_paths, shown}
-use Rattle.gix_ref_moves.specs.Needs.{noted_logs, logs_of, log_paths, CanNote, CanMove, CanReplace, AreBeside, IsOutOfMemory, KeepsLock, Needs}
+use Rattle.gix_ref_moves.specs.Needs.{noted_logs, logs_of, log_paths, CanNote, CanMove, CanReplace, PackedLocked, AreBeside, IsOutOfMemory, KeepsLock, Needs}
 use Rattle.gix_ref_moves.specs.declared.act.Act.{Act}
 use Rattle.gix_ref_moves.specs.declared.act.Act.TheVariants as acts
 use Rattle.gix_ref_moves.specs.declared.act.CommitError.{CommitError}
@@ -40,6 +42,12 @@ told_cause outcome (Ok u) told cause = tt
 told_cause outcome (Err e) (inl short) cause = inl short
 told_cause outcome (Err e) (inr failed) cause = inr (cause failed)
 
+-- and for want of memory only if the outcome says so
+pub told_short : {T U P : Type 0} (outcome : Result T FileError) (r : Result U CommitError) → IfErr r (λ error. IsOutOfMemory error → outcome ≡ Err Memory)
+    → (IsErrOf outcome Memory → P) → IfErr r (λ error. IsOutOfMemory error → P)
+told_short outcome (Ok u) told then = tt
+told_short outcome (Err e) told then = λ short. then (told short)
+
 -- a failure that was counted meanwhile was counted since before, and until after
 pub wider : {R : Type 0} (a b c d : ℕ) → a ≤ b → c ≤ d → HasRisen b c ⊎ R → HasRisen a d ⊎ R
 wider a b c d first last (inl risen) = inl (risen_later a b c d first risen last)
@@ -54,6 +62,13 @@ pub until : {U : Type 0} (R : Type 0) (a b c : ℕ) (r : Result U CommitError) �
 until R a b c (Ok u) last fails = tt
 until R a b c (Err e) last (inl short) = inl short
 until R a b c (Err e) last (inr fault) = inr (wider a a b c (omega arith) last fault)
+
+-- an error that is told after locks were given back
+pub after_cause : {R : Type 0} (a b c : ℕ) (error result : CommitError) (given : GivenBack) → a ≤ b → b ≤ c → IsOutOfMemory error ⊎ (HasRisen a b ⊎ R) → (result ≡ error) ⊎ (given ≡ given_case.Failed)
+    → (given ≡ given_case.Failed → HasRisen b c) → IsOutOfMemory result ⊎ (HasRisen a c ⊎ R)
+after_cause a b c error result given first last (inl short) (inl same) rise = inl (subst IsOutOfMemory (sym same) short)
+after_cause a b c error result given first last (inr fault) (inl same) rise = inr (wider a a b c (omega arith) last fault)
+after_cause a b c error result given first last fault (inr failed) rise = inr (inl (risen_later a b c c first (rise failed) (omega arith)))
 
 pub file_there : (o : Option Node) (n : ℕ) → places.File n ≡ place_at o → is_some (bytes_of o) ≡ true
 file_there None n is = cc
@@ -175,3 +190,7 @@ replace_stays (Some t) moves old mid once beside only others can = (
       let own = among_first (packed.place_of t) (packed.lock_path_of t ∷ all_paths moves) in
       (beside other (packed.place_of t) is own, beside (packed.place_of t) other own is)),
 )
+
+pub locked_stays : (t : Option Transaction) (moves : List Move) (old mid : Tree) → Once (commit_paths t moves) → ((path : Bytes) → IsNone path (all_paths moves) → file_at mid path ≡ file_at old path) → CanReplace t old → PackedLocked t mid
+locked_stays None moves old mid once others can = tt
+locked_stays (Some t) moves old mid once others can = ap is_some (others (packed.lock_path_of t) (packed_lock_apart t moves once)) ∙ can.0

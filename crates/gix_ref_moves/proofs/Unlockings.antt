@@ -1,16 +1,14 @@
 -- Locks that are given back leave no file that didn't exist.
-use Rattle.std.proofs.Common.{◌≡◌, ◌≢◌, ◌⊎◌, inl, inr, refl, sym, ◌∙◌, ap, subst, Bool, true, false, List, [], ◌∷◌, ◌++◌, append_assoc, append-nil, length, arith, ℕ, ◌≤◌}
-use Rattle.std.specs.Prelude.{IsTrue, is_some, bytes_eq, None, Result, Ok, Err}
+use Rattle.std.proofs.Common.{◌≡◌, ◌≢◌, refl, sym, ◌∙◌, ap, subst, Bool, true, false, List, [], ◌∷◌, ◌++◌, append_assoc, append-nil, length, arith}
+use Rattle.std.specs.Prelude.{IsTrue, is_some, bytes_eq}
 use Rattle.std.specs.List.{AllByRecursion}
 use Rattle.std.proofs.lemmas.Slice.Eq.{bytes_eq-Decides}
-use Rattle.gix_ref_file.specs.Tree.{Tree, node_at, bytes_of}
+use Rattle.gix_ref_file.specs.Tree.{Tree, bytes_of}
 use Rattle.gix_ref_file.specs.Changes.{is_file_at}
-use Rattle.gix_ref_file.specs.History.{HasRisen}
-use Rattle.gix_ref_file.specs.declared.files.FileError.{FileError}
-use Rattle.gix_ref_file.specs.declared.files.FileError.TheVariants.{Failed, Memory}
+use Rattle.gix_ref_lock.specs.declared.lock.GivenBack.{GivenBack}
+use Rattle.gix_ref_lock.specs.declared.lock.GivenBack.TheVariants.{Done}
 use Rattle.gix_ref_lock.specs.Locks.{OthersStay}
 use Rattle.gix_ref_way.specs.Ways.{Bytes}
-use Rattle.gix_ref_way.proofs.FoldersMade.{risen_later}
 use Rattle.gix_ref_moves.specs.Contents.{lock_path_of}
 use Rattle.gix_ref_moves.specs.Committing.{AreUnlocked}
 use Rattle.gix_ref_moves.specs.Moments.{NoFileMore}
@@ -35,14 +33,14 @@ still_gone old new none path gone = by_test (is_file_at new path) refl
     by_test false is = is
     by_test true is = let wrong : true ≡ false = sym (none path is) ∙ gone in absurd (cc wrong)
 
--- The first locks are given back, unless a failure was counted or memory was wanting.
-pub record Unlocking (outcome : Result (Unit {0}) FileError) (a b : ℕ) (moves rest : List Move) (old now : Tree) : Type 0 where
+-- The first locks are given back, if that came to that.
+pub record Unlocking (outcome : GivenBack) (moves rest : List Move) (old now : Tree) : Type 0 where
   pub done : List Move
   pub split : moves ≡ done ++ rest
-  pub told : (outcome ≡ Err Memory) ⊎ (HasRisen a b ⊎ AreUnlocked done old now)
+  pub told : outcome ≡ Done → AreUnlocked done old now
 
-pub unlocking_begun : (a : ℕ) (moves : List Move) (tree : Tree) → Unlocking (Ok tt) a a moves moves tree tree
-unlocking_begun a moves tree = record { done = []; split = refl; told = inr (inr (record { gone = tt; none = λ path there. there })) }
+pub unlocking_begun : (moves : List Move) (tree : Tree) → Unlocking Done moves moves tree tree
+unlocking_begun moves tree = record { done = []; split = refl; told = λ done. record { gone = tt; none = λ path there. there } }
 
 one_more : (done : List Move) (m : Move) (old now x : Tree) → AreUnlocked done old now → OthersStay (lock_path_of m) now x → is_file_at x (lock_path_of m) ≡ false → AreUnlocked (done ++ m ∷ []) old x
 one_more done m old now x unlocked stay gone =
@@ -53,36 +51,16 @@ one_more done m old now x unlocked stay gone =
       none = λ path there. unlocked.none path (none path there);
     }
 
-pub unlocking_on : (outcome later after : Result (Unit {0}) FileError) (a b c : ℕ) (moves : List Move) (m : Move) (rest : List Move) (old now x : Tree)
-    → Unlocking outcome a b moves (m ∷ rest) old now → a ≤ b → b ≤ c → OthersStay (lock_path_of m) now x
-    → (outcome ≡ Err Memory → after ≡ Err Memory) → (later ≡ Err Memory → after ≡ Err Memory)
-    → (later ≡ Ok tt → node_at x (lock_path_of m) ≡ None) → (later ≡ Err Failed → HasRisen b c ⊎ (is_file_at x (lock_path_of m) ≡ false))
-    → Unlocking after a c moves rest old x
-unlocking_on outcome later after a b c moves m rest old now x so_far first second stay one other gone failed = record {
+pub unlocking_on : (outcome later after : GivenBack) (moves : List Move) (m : Move) (rest : List Move) (old now x : Tree)
+    → Unlocking outcome moves (m ∷ rest) old now → OthersStay (lock_path_of m) now x
+    → (after ≡ Done → (outcome ≡ Done) × (later ≡ Done)) → (later ≡ Done → is_file_at x (lock_path_of m) ≡ false)
+    → Unlocking after moves rest old x
+unlocking_on outcome later after moves m rest old now x so_far stay both gone = record {
   done = so_far.done ++ m ∷ [];
   split = so_far.split ∙ sym (append_assoc so_far.done (m ∷ []) rest);
-  told = by_told so_far.told;
+  told = λ is. let all = both is in one_more so_far.done m old now x (so_far.told all.0) stay (gone all.1);
 }
-  where
-    End : Type 0
-    End = (after ≡ Err Memory) ⊎ (HasRisen a c ⊎ AreUnlocked (so_far.done ++ m ∷ []) old x)
 
-    by_failed : AreUnlocked so_far.done old now → HasRisen b c ⊎ (is_file_at x (lock_path_of m) ≡ false) → End
-    by_failed unlocked (inl risen) = inr (inl (risen_later a b c c first risen (omega arith)))
-    by_failed unlocked (inr none) = inr (inr (one_more so_far.done m old now x unlocked stay none))
-
-    by_later : (r : Result (Unit {0}) FileError) → later ≡ r → AreUnlocked so_far.done old now → End
-    by_later (Ok u) is unlocked = inr (inr (one_more so_far.done m old now x unlocked stay (ap (λ n. is_some (bytes_of n)) (gone is))))
-    by_later (Err Failed) is unlocked = by_failed unlocked (failed is)
-    by_later (Err Memory) is unlocked = inl (other is)
-
-    by_told : (outcome ≡ Err Memory) ⊎ (HasRisen a b ⊎ AreUnlocked so_far.done old now) → End
-    by_told (inl memory) = inl (one memory)
-    by_told (inr (inl risen)) = inr (inl (risen_later a a b c (omega arith) risen second))
-    by_told (inr (inr unlocked)) = by_later later refl unlocked
-
-pub unlocking_ended : (outcome : Result (Unit {0}) FileError) (a b : ℕ) (moves rest : List Move) (old new : Tree) → length rest ≡ 0 → Unlocking outcome a b moves rest old new
-    → (outcome ≡ Err Memory) ⊎ (HasRisen a b ⊎ AreUnlocked moves old new)
-unlocking_ended outcome a b moves (m ∷ rest) old new none so_far = absurd (omega (arith, none))
-unlocking_ended outcome a b moves [] old new none so_far =
-    subst (λ ms. (outcome ≡ Err Memory) ⊎ (HasRisen a b ⊎ AreUnlocked ms old new)) (sym (so_far.split ∙ append-nil so_far.done)) so_far.told
+pub unlocking_ended : (outcome : GivenBack) (moves rest : List Move) (old new : Tree) → length rest ≡ 0 → Unlocking outcome moves rest old new → outcome ≡ Done → AreUnlocked moves old new
+unlocking_ended outcome moves (m ∷ rest) old new none so_far is = absurd (omega (arith, none))
+unlocking_ended outcome moves [] old new none so_far is = subst (λ ms. AreUnlocked ms old new) (sym (so_far.split ∙ append-nil so_far.done)) (so_far.told is)

@@ -49,6 +49,11 @@ CanReplace None tree = Unit {0}
 CanReplace (Some t) tree = IsTrue (is_file_at tree (packed.lock_path_of t))
     × IsTrue (may_hold_file tree (packed.place_of t))
 
+-- the lock of packed records is held
+abbrev pub PackedLocked : Option Transaction → Tree → Type 0
+PackedLocked None tree = Unit {0}
+PackedLocked (Some t) tree = IsTrue (is_file_at tree (packed.lock_path_of t))
+
 -- none of these paths is below another
 abbrev pub AreBeside : List Bytes → Type 0
 AreBeside paths =

@@ -1,6 +1,6 @@
 //! What is done to a reference's file and to its log, and why it fails.
 
-ghost use Rattle.std.specs.Prelude.{◌≡◌, ◌⊎◌, IfErr, IsErrOf, OnOk};
+ghost use Rattle.std.specs.Prelude.{◌≡◌, ◌⊎◌, Err, IfErr, IsErrOf, OnOk};
 ghost use Rattle.gix_ref_file.specs.declared.files.FileError.TheVariants as file_case;
 ghost use Rattle.gix_ref_moves.specs.Needs.{IsOutOfMemory};
 
@@ -85,6 +85,8 @@ pub(crate) fn told(outcome: Result<(), FileError>, why: CommitError) -> Result<(
     ensures done { OnOk result (outcome ≡ Ok tt) }
     ensures failed { IfErr result (λ error.
         IsOutOfMemory error ⊎ IsErrOf outcome file_case.Failed) }
+    ensures memory { ¬ IsOutOfMemory why → IfErr result (λ error.
+        IsOutOfMemory error → outcome ≡ Err file_case.Memory) }
 {
     match outcome {
         Ok(()) => Ok(()),

@@ -1,22 +1,22 @@
 //! Commits of moves.
 
-ghost use Rattle.std.specs.Prelude.{◌≡◌, ◌≤◌, ◌⊎◌, Err, IfErr, IsErrOf, IsTrue, OnOk};
+ghost use Rattle.std.specs.Prelude.{◌≡◌, ◌≢◌, ◌≤◌, ◌⊎◌, Err, IfErr, Ok, OnOk};
 ghost use Rattle.std.specs.List.{AllByRecursion};
-ghost use Rattle.gix_ref_file.specs.Changes.{is_file_at};
 ghost use Rattle.gix_ref_file.specs.Calls.{Achieves, HasFault, Passes};
 ghost use Rattle.gix_ref_file.specs.History.{HasRisen};
-ghost use Rattle.gix_ref_file.specs.declared.files.FileError.TheVariants as file_case;
+ghost use Rattle.gix_ref_lock.specs.declared.lock.GivenBack.TheVariants as given;
+ghost use Rattle.gix_ref_lock.specs.declared.packed.CommitError.TheVariants as packed_case;
 ghost use Rattle.gix_ref_way.specs.Ways.{FoldersOnlyOf, SameFolders};
-ghost use Rattle.gix_ref_moves.specs.Contents.{lock_path_of};
 ghost use Rattle.gix_ref_moves.specs.Committing.{AreUnlocked, IsCommitted, IsShowing, KeepsPacked, LocksAlone, MayReplace, NoneLocked, OnTheWay, Replaces, commit_paths, shown};
 ghost use Rattle.gix_ref_moves.specs.Moments.{SameButLocks};
 ghost use Rattle.gix_ref_moves.specs.Moves.{AllHave, AllMay, Once, all_paths};
-ghost use Rattle.gix_ref_moves.specs.Needs.{AreBeside, CanCommit, CanMove, CanReplace, IsOutOfMemory, log_paths};
+ghost use Rattle.gix_ref_moves.specs.Needs.{AreBeside, CanCommit, CanMove, CanReplace, IsOutOfMemory, PackedLocked, log_paths};
 
 use crate::act::{CommitError, Move};
 use crate::steps::{Step, make_all};
-use gix_ref_file::{FileError, Files};
-use gix_ref_lock::packed::Transaction;
+use gix_ref_file::Files;
+use gix_ref_lock::lock::GivenBack;
+use gix_ref_lock::packed::{self, Transaction};
 use std::alloc::Global;
 
 /// Makes moves, and replaces the packed records whose transaction is prepared. First all updates:
@@ -26,7 +26,7 @@ use std::alloc::Global;
 /// the file is; and nothing is removed before all updates show.
 ///
 /// The errors name the call of the files that failed. After one, no lock exists, as far as giving
-/// them back succeeds.
+/// them back succeeds; the error is `LockCommit` if a removal of one failed.
 pub fn commit<F: Files>(
     alloc: Global,
     files: &mut F,
@@ -36,6 +36,8 @@ pub fn commit<F: Files>(
     ensures honest { F.is_honest files.old → F.is_honest files.new }
     ensures later { F.failures files.old ≤ F.failures files.new }
     ensures unfailed { OnOk result (F.failures files.new ≡ F.failures files.old) }
+    ensures memory { IfErr result (λ error. IsOutOfMemory error
+        → F.failures files.new ≡ F.failures files.old) }
     ensures moments { Once (commit_paths packed moves.now)
         → Passes F.is_honest F.history files.old files.new (OnTheWay packed moves.now) }
     ensures done { Once (commit_paths packed moves.now)
@@ -48,61 +50,48 @@ pub fn commit<F: Files>(
         → IfErr result (λ error.
         IsOutOfMemory error ⊎ HasFault F.failures F.reading_may_fail files.old files.new) }
 {
-    let outcome = make(alloc, files, moves, packed);
-    if outcome.is_err() {
-        let _ = give_back_all(alloc, files, moves);
+    match make(alloc, files, moves, packed) {
+        Ok(()) => Ok(()),
+        Err(error) => Err(after(error, give_back_all(alloc, files, moves))),
     }
-    outcome
 }
 
-/// Gives the locks back of all moves; also if one can't be given back, then the others. The error
-/// is `Memory` if memory was wanting for one, else `Failed`.
-pub fn give_back_all<F: Files>(
-    alloc: Global,
-    files: &mut F,
-    moves: &[Move],
-) -> Result<(), FileError>
+/// Gives the locks back of all moves; also if one can't be given back, then the others. A lock that
+/// isn't there any more is passed over. Returns the worst that came of one: `Failed` if a removal
+/// failed, else `Memory` if memory was wanting, else `Unread` if a reading failed.
+pub fn give_back_all<F: Files>(alloc: Global, files: &mut F, moves: &[Move]) -> GivenBack
     ensures honest { F.is_honest files.old → F.is_honest files.new }
     ensures later { F.failures files.old ≤ F.failures files.new }
-    ensures unfailed { OnOk result (F.failures files.new ≡ F.failures files.old) }
+    ensures unfailed { result ≢ given.Failed → F.failures files.new ≡ F.failures files.old }
     ensures locks { Passes F.is_honest F.history files.old files.new SameButLocks }
     ensures moments { Once (all_paths moves.now)
         → Passes F.is_honest F.history files.old files.new (AllMay LocksAlone moves.now) }
-    ensures gone { Once (all_paths moves.now)
-        → Achieves F.is_honest F.history files.old files.new result (NoneLocked moves.now) }
     ensures folders { Passes F.is_honest F.history files.old files.new SameFolders }
-    ensures failed { Once (all_paths moves.now) → F.is_honest files.old
-        → AllByRecursion (λ m. IsTrue (is_file_at (F.history files.old).tree (lock_path_of m)))
-        moves.now
-        → IsErrOf result file_case.Failed
+    ensures failed { F.is_honest files.old → result ≡ given.Failed
         → HasRisen (F.failures files.old) (F.failures files.new) }
-    ensures rolled_back { F.is_honest files.old → (result ≡ Err file_case.Memory)
-        ⊎ (HasRisen (F.failures files.old) (F.failures files.new)
-        ⊎ AreUnlocked moves.now (F.history files.old).tree (F.history files.new).tree) }
+    ensures unread { result ≡ given.Unread → F.reading_may_fail }
+    ensures gone { Once (all_paths moves.now) → F.is_honest files.old → result ≡ given.Done
+        → NoneLocked moves.now (F.history files.old).tree (F.history files.new).tree }
+    ensures rolled_back { F.is_honest files.old → result ≡ given.Done
+        → AreUnlocked moves.now (F.history files.old).tree (F.history files.new).tree }
 {
-    let mut outcome = Ok(());
+    let mut outcome = GivenBack::Done;
     let mut rest = moves;
     'moves: while let Some((first, others)) = rest.split_first() {
-        outcome = both(outcome, first.lock.give_back(alloc, files));
+        outcome = outcome.or_worse(first.lock.withdraw(alloc, files));
         rest = others;
     }
     outcome
 }
 
-// Returns `Memory` if one of them is want of memory, else the error of one that failed.
-fn both(earlier: Result<(), FileError>, later: Result<(), FileError>) -> Result<(), FileError>
-    ensures done { OnOk result ((earlier ≡ Ok tt) × (later ≡ Ok tt)) }
-    ensures told { (result ≡ earlier) ⊎ (result ≡ later) }
-    ensures earlier { earlier ≡ Err file_case.Memory → result ≡ Err file_case.Memory }
-    ensures later { later ≡ Err file_case.Memory → result ≡ Err file_case.Memory }
+// Returns why a commit failed, whose locks were then given back.
+fn after(error: CommitError, locks: GivenBack) -> CommitError
+    ensures told { (result ≡ error) ⊎ (locks ≡ given.Failed) }
+    ensures kept { IsOutOfMemory result → (result ≡ error) × (locks ≢ given.Failed) }
 {
-    match later {
-        Ok(()) => earlier,
-        Err(FileError::Failed) => match earlier {
-            Ok(()) => later,
-            Err(_) => earlier,
-        },
-        Err(FileError::Memory) => later,
+    match locks {
+        GivenBack::Failed => CommitError::LockCommit,
+        GivenBack::Done | GivenBack::Unread | GivenBack::Memory => error,
     }
 }
 
@@ -116,6 +105,8 @@ fn make<F: Files>(
     ensures honest { F.is_honest files.old → F.is_honest files.new }
     ensures later { F.failures files.old ≤ F.failures files.new }
     ensures unfailed { OnOk result (F.failures files.new ≡ F.failures files.old) }
+    ensures memory { IfErr result (λ error. IsOutOfMemory error
+        → F.failures files.new ≡ F.failures files.old) }
     ensures moments { Once (commit_paths packed moves.now)
         → Passes F.is_honest F.history files.old files.new (OnTheWay packed moves.now) }
     ensures done { Once (commit_paths packed moves.now)
@@ -133,10 +124,7 @@ fn make<F: Files>(
             replace_packed(alloc, files, packed)?;
             make_all(alloc, files, Step::Remove, moves)
         }
-        Err(error) => {
-            drop_packed(alloc, files, packed);
-            Err(error)
-        }
+        Err(error) => Err(after(error, drop_packed(alloc, files, packed))),
     }
 }
 
@@ -145,6 +133,8 @@ fn show_updates<F: Files>(alloc: Global, files: &mut F, moves: &[Move]) -> Resul
     ensures honest { F.is_honest files.old → F.is_honest files.new }
     ensures later { F.failures files.old ≤ F.failures files.new }
     ensures unfailed { OnOk result (F.failures files.new ≡ F.failures files.old) }
+    ensures memory { IfErr result (λ error. IsOutOfMemory error
+        → F.failures files.new ≡ F.failures files.old) }
     ensures moments { Once (all_paths moves.now)
         → Passes F.is_honest F.history files.old files.new (IsShowing moves.now) }
     ensures shown { Once (all_paths moves.now)
@@ -170,6 +160,8 @@ fn replace_packed<F: Files>(
     ensures honest { F.is_honest files.old → F.is_honest files.new }
     ensures later { F.failures files.old ≤ F.failures files.new }
     ensures unfailed { OnOk result (F.failures files.new ≡ F.failures files.old) }
+    ensures memory { IfErr result (λ error. IsOutOfMemory error
+        → F.failures files.new ≡ F.failures files.old) }
     ensures moments { Passes F.is_honest F.history files.old files.new (MayReplace packed) }
     ensures replaced { Achieves F.is_honest F.history files.old files.new result
         (Replaces packed) }
@@ -188,13 +180,30 @@ fn replace_packed<F: Files>(
 }
 
 // Gives the lock of packed records back.
-fn drop_packed<F: Files>(alloc: Global, files: &mut F, packed: Option<Transaction>)
+fn drop_packed<F: Files>(alloc: Global, files: &mut F, packed: Option<Transaction>) -> GivenBack
     ensures honest { F.is_honest files.old → F.is_honest files.new }
     ensures later { F.failures files.old ≤ F.failures files.new }
+    ensures unfailed { result ≢ given.Failed → F.failures files.new ≡ F.failures files.old }
     ensures moments { Passes F.is_honest F.history files.old files.new (KeepsPacked packed) }
     ensures folders { Passes F.is_honest F.history files.old files.new SameFolders }
+    ensures failed { F.is_honest files.old → PackedLocked packed (F.history files.old).tree
+        → result ≡ given.Failed → HasRisen (F.failures files.old) (F.failures files.new) }
 {
-    if let Some(packed) = packed {
-        let _ = packed.rollback(alloc, files);
+    match packed {
+        Some(packed) => dropped(packed.rollback(alloc, files)),
+        None => GivenBack::Done,
+    }
+}
+
+// Returns what came of giving the lock of packed records back.
+fn dropped(outcome: Result<(), packed::CommitError>) -> GivenBack
+    ensures failed { result ≡ given.Failed → outcome ≡ Err packed_case.Commit }
+    ensures others { result ≢ given.Failed
+        → (outcome ≡ Ok tt) ⊎ (outcome ≡ Err packed_case.Memory) }
+{
+    match outcome {
+        Ok(()) => GivenBack::Done,
+        Err(packed::CommitError::Commit) => GivenBack::Failed,
+        Err(packed::CommitError::Memory) => GivenBack::Memory,
     }
 }

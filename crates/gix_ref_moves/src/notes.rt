@@ -22,6 +22,8 @@ pub(crate) fn note<F: Files>(
     ensures honest { F.is_honest files.old → F.is_honest files.new }
     ensures later { F.failures files.old ≤ F.failures files.new }
     ensures unfailed { OnOk result (F.failures files.new ≡ F.failures files.old) }
+    ensures memory { IfErr result (λ error. IsOutOfMemory error
+        → F.failures files.new ≡ F.failures files.old) }
     ensures moments { Passes F.is_honest F.history files.old files.new (MayNote line.now log.now) }
     ensures noted { Achieves F.is_honest F.history files.old files.new result
         (NotesLog line.now log.now) }
@@ -46,6 +48,8 @@ fn append<F: Files>(
     ensures honest { F.is_honest files.old → F.is_honest files.new }
     ensures later { F.failures files.old ≤ F.failures files.new }
     ensures unfailed { OnOk result (F.failures files.new ≡ F.failures files.old) }
+    ensures memory { IfErr result (λ error. IsOutOfMemory error
+        → F.failures files.new ≡ F.failures files.old) }
     ensures moments { Passes F.is_honest F.history files.old files.new
         (MayNote (Some line.now) log.now) }
     ensures noted { Achieves F.is_honest F.history files.old files.new result

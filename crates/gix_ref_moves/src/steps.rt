@@ -35,6 +35,8 @@ pub(crate) fn make_all<F: Files>(
     ensures honest { F.is_honest files.old → F.is_honest files.new }
     ensures later { F.failures files.old ≤ F.failures files.new }
     ensures unfailed { OnOk result (F.failures files.new ≡ F.failures files.old) }
+    ensures memory { IfErr result (λ error. IsOutOfMemory error
+        → F.failures files.new ≡ F.failures files.old) }
     ensures moments { Once (all_paths moves.now)
         → Passes F.is_honest F.history files.old files.new (AllMay (IsMaking step) moves.now) }
     ensures made { Once (all_paths moves.now)
@@ -60,6 +62,8 @@ fn make<F: Files>(alloc: Global, files: &mut F, step: Step, made: &Move) -> Resu
     ensures honest { F.is_honest files.old → F.is_honest files.new }
     ensures later { F.failures files.old ≤ F.failures files.new }
     ensures unfailed { OnOk result (F.failures files.new ≡ F.failures files.old) }
+    ensures memory { IfErr result (λ error. IsOutOfMemory error
+        → F.failures files.new ≡ F.failures files.old) }
     ensures moments { AreApart made.now
         → Passes F.is_honest F.history files.old files.new (MayMove (IsMaking step) made.now) }
     ensures made { AreApart made.now
@@ -82,6 +86,8 @@ fn update<F: Files>(alloc: Global, files: &mut F, made: &Move) -> Result<(), Com
     ensures honest { F.is_honest files.old → F.is_honest files.new }
     ensures later { F.failures files.old ≤ F.failures files.new }
     ensures unfailed { OnOk result (F.failures files.new ≡ F.failures files.old) }
+    ensures memory { IfErr result (λ error. IsOutOfMemory error
+        → F.failures files.new ≡ F.failures files.old) }
     ensures moments { AreApart made.now
         → Passes F.is_honest F.history files.old files.new (MayMove IsUpdating made.now) }
     ensures made { AreApart made.now
@@ -111,6 +117,8 @@ fn forget<F: Files>(alloc: Global, files: &mut F, made: &Move) -> Result<(), Com
     ensures honest { F.is_honest files.old → F.is_honest files.new }
     ensures later { F.failures files.old ≤ F.failures files.new }
     ensures unfailed { OnOk result (F.failures files.new ≡ F.failures files.old) }
+    ensures memory { IfErr result (λ error. IsOutOfMemory error
+        → F.failures files.new ≡ F.failures files.old) }
     ensures moments { AreApart made.now
         → Passes F.is_honest F.history files.old files.new (MayMove IsForgetting made.now) }
     ensures made { AreApart made.now
@@ -132,6 +140,8 @@ fn remove<F: Files>(alloc: Global, files: &mut F, made: &Move) -> Result<(), Com
     ensures honest { F.is_honest files.old → F.is_honest files.new }
     ensures later { F.failures files.old ≤ F.failures files.new }
     ensures unfailed { OnOk result (F.failures files.new ≡ F.failures files.old) }
+    ensures memory { IfErr result (λ error. IsOutOfMemory error
+        → F.failures files.new ≡ F.failures files.old) }
     ensures moments { AreApart made.now
         → Passes F.is_honest F.history files.old files.new (MayMove IsRemoving made.now) }
     ensures made { AreApart made.now
@@ -155,6 +165,8 @@ fn remove_locked<F: Files>(alloc: Global, files: &mut F, made: &Move) -> Result<
     ensures honest { F.is_honest files.old → F.is_honest files.new }
     ensures later { F.failures files.old ≤ F.failures files.new }
     ensures unfailed { OnOk result (F.failures files.new ≡ F.failures files.old) }
+    ensures memory { IfErr result (λ error. IsOutOfMemory error
+        → F.failures files.new ≡ F.failures files.old) }
     ensures moments { AreApart made.now
         → Passes F.is_honest F.history files.old files.new (MayMove IsGoing made.now) }
     ensures made { AreApart made.now
@@ -179,6 +191,8 @@ fn remove_file<F: Files>(
     ensures honest { F.is_honest files.old → F.is_honest files.new }
     ensures later { F.failures files.old ≤ F.failures files.new }
     ensures unfailed { OnOk result (F.failures files.new ≡ F.failures files.old) }
+    ensures memory { ¬ IsOutOfMemory why → IfErr result (λ error. IsOutOfMemory error
+        → F.failures files.new ≡ F.failures files.old) }
     ensures moments { Passes F.is_honest F.history files.old files.new (MayGo path.now) }
     ensures gone { Achieves F.is_honest F.history files.old files.new result (IsGone path.now) }
     ensures folders { Passes F.is_honest F.history files.old files.new SameFolders }

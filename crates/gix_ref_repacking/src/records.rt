@@ -1,10 +1,11 @@
 //! The packed records of references that are removed, and of those that are packed.
 
-ghost use Rattle.std.specs.Prelude.{◌≡◌, ◌≢◌, ◌≤◌, ◌⊎◌, ◌++◌, [], is_some, map, option_map, IfErr, IfOk, IfSome, None, OnOk, Some};
+ghost use Rattle.std.specs.Prelude.{◌≡◌, ◌≢◌, ◌≤◌, ◌⊎◌, ◌++◌, [], is_some, map, option_map, IfErr, IfOk, IfSome, IsTrue, None, OnOk, Some};
 ghost use Rattle.std.specs.List.{list_any};
 ghost use Rattle.std.specs.Option.{option_to_list};
 ghost use Rattle.gix_hash_id.specs.Id.{id_of};
 ghost use Rattle.gix_ref_file.specs.Calls.{HasFault, Passes};
+ghost use Rattle.gix_ref_file.specs.Changes.{is_file_at};
 ghost use Rattle.gix_ref_format.specs.Lookup.{packed_hit};
 ghost use Rattle.gix_ref_format.specs.PackedBuffer.{KeepsFile};
 ghost use Rattle.gix_ref_format.specs.PackedKept.{kept};
@@ -15,7 +16,7 @@ ghost use Rattle.gix_ref_store.specs.Stores.{base_of};
 ghost use Rattle.gix_ref_name.specs.Targets.{target_view};
 ghost use Rattle.gix_ref_way.specs.Ways.{SameFolders};
 ghost use Rattle.gix_ref_lock.specs.Locks.{lock_of, HasLockPlace, OthersStay};
-ghost use Rattle.gix_ref_lock.specs.PackedEdits.{IsReadAt, lock_path_of};
+ghost use Rattle.gix_ref_lock.specs.PackedEdits.{IsReadAt, lock_path_of, place_of};
 ghost use Rattle.gix_ref_lock.specs.RecordEdits as record_edits;
 ghost use Rattle.gix_ref_repacking.specs.Modes.{objects_in};
 ghost use Rattle.gix_ref_repacking.specs.Repacking as spec;
@@ -61,10 +62,16 @@ pub fn repack<F: Files, O: FindInto>(
     ensures options { store.new.options ≡ store.old.options }
     ensures later { F.failures store.old.files ≤ F.failures store.new.files }
     ensures unfailed { IfOk result (λ _. F.failures store.new.files ≡ F.failures store.old.files) }
+    ensures memory { IfErr result (λ error. WantsMemory error
+        → F.failures store.new.files ≡ F.failures store.old.files) }
+    ensures held { F.is_honest store.old.files → IfOk result (λ held. IfSome held (λ t.
+        IsTrue (is_file_at (F.history store.new.files).tree (lock_path_of t)))) }
     ensures moments { Passes F.is_honest F.history store.old.files store.new.files
         (OthersStay (lock_of (packed_place (base_of store.old)))) }
     ensures folders { Passes F.is_honest F.history store.old.files store.new.files SameFolders }
     ensures idle { IfOk result (λ held. held ≡ None → store.new ≡ store.old) }
+    ensures at { IfOk result (λ held. IfSome held (λ t.
+        place_of t ≡ packed_place (base_of store.old))) }
     ensures here { F.is_honest store.old.files → IfOk result (λ held. IfSome held (λ t.
         lock_path_of t ≡ lock_of (packed_place (base_of store.old)))) }
     ensures early { IfErr result (λ error. IsEarly error → store.new ≡ store.old) }
@@ -107,6 +114,11 @@ fn written<F: Files>(
     ensures honest { F.is_honest files.old → F.is_honest files.new }
     ensures later { F.failures files.old ≤ F.failures files.new }
     ensures unfailed { IfOk result (λ _. F.failures files.new ≡ F.failures files.old) }
+    ensures memory { IfErr result (λ error. WantsMemory error
+        → F.failures files.new ≡ F.failures files.old) }
+    ensures at { IfOk result (λ t. place_of t ≡ place.now) }
+    ensures locked { F.is_honest files.old → IfOk result (λ t.
+        IsTrue (is_file_at (F.history files.new).tree (lock_path_of t))) }
     ensures moments { Passes F.is_honest F.history files.old files.new
         (OthersStay (lock_of place.now)) }
     ensures folders { Passes F.is_honest F.history files.old files.new SameFolders }

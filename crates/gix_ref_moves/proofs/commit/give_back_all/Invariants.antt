@@ -1,11 +1,7 @@
-use Rattle.std.proofs.Common.{length, ◌≡◌, ◌≤◌}
-use Rattle.std.specs.Prelude.{OnOk, IsErrOf, IsTrue}
-use Rattle.std.specs.List.{AllByRecursion}
-use Rattle.gix_ref_file.specs.Changes.{is_file_at}
-use Rattle.gix_ref_file.specs.declared.files.FileError.TheVariants.{Failed}
+use Rattle.std.proofs.Common.{length, ◌≡◌, ◌≢◌, ◌≤◌}
 use Rattle.gix_ref_way.specs.Ways.{SameFolders}
-use Rattle.gix_ref_moves.specs.Contents.{lock_path_of}
 use Rattle.gix_ref_file.specs.History.{Adds, HasRisen}
+use Rattle.gix_ref_lock.specs.declared.lock.GivenBack.TheVariants.{Unread, Failed}
 use Rattle.gix_ref_moves.specs.Committing.{LocksAlone}
 use Rattle.gix_ref_moves.specs.Moments.{SameButLocks}
 use Rattle.gix_ref_moves.specs.Moves.{AllMay, Once, all_paths}
@@ -13,21 +9,21 @@ use Rattle.gix_ref_moves.proofs.Givings.{Giving}
 use Rattle.gix_ref_moves.proofs.Unlockings.{Unlocking}
 use Rattle.gix_ref_moves.proofs.commit.give_back_all.Given as goal
 
--- only locks are gone: those of all moves but those left, if giving them back succeeded
+-- only locks are gone: those of all moves but those left, if that came of it
 abbrev pub invariant-moves : goal.invariant-moves
 invariant-moves g l =
     let history = g.F.Files.history in
     record {
       honest : g.F.Files.is_honest l.fn.files → g.F.Files.is_honest l.files;
       later : g.F.Files.failures l.fn.files ≤ g.F.Files.failures l.files;
-      unfailed : OnOk l.outcome (g.F.Files.failures l.files ≡ g.F.Files.failures l.fn.files);
+      unfailed : l.outcome ≢ Failed → g.F.Files.failures l.files ≡ g.F.Files.failures l.fn.files;
       folders : g.F.Files.is_honest l.fn.files → Adds (SameFolders (history l.fn.files).tree) (history l.fn.files) (history l.files);
       locks : g.F.Files.is_honest l.fn.files → Adds (SameButLocks (history l.fn.files).tree) (history l.fn.files) (history l.files);
       moments : Once (all_paths l.moves) → g.F.Files.is_honest l.fn.files → Adds (AllMay LocksAlone l.moves (history l.fn.files).tree) (history l.fn.files) (history l.files);
       given : Once (all_paths l.moves) → g.F.Files.is_honest l.fn.files → Giving l.outcome l.moves l.rest (history l.fn.files).tree (history l.files).tree;
-      failed : Once (all_paths l.moves) → g.F.Files.is_honest l.fn.files → AllByRecursion (λ m. IsTrue (is_file_at (history l.fn.files).tree (lock_path_of m))) l.moves
-          → IsErrOf l.outcome Failed → HasRisen (g.F.Files.failures l.fn.files) (g.F.Files.failures l.files);
-      unlocked : g.F.Files.is_honest l.fn.files → Unlocking l.outcome (g.F.Files.failures l.fn.files) (g.F.Files.failures l.files) l.moves l.rest (history l.fn.files).tree (history l.files).tree;
+      failed : g.F.Files.is_honest l.fn.files → l.outcome ≡ Failed → HasRisen (g.F.Files.failures l.fn.files) (g.F.Files.failures l.files);
+      unread : l.outcome ≡ Unread → g.F.Files.reading_may_fail;
+      unlocked : g.F.Files.is_honest l.fn.files → Unlocking l.outcome l.moves l.rest (history l.fn.files).tree (history l.files).tree;
     }
 
 abbrev pub decreases-moves : goal.decreases-moves

@@ -1,10 +1,10 @@
-use Rattle.std.proofs.Common.{inl, inr, ⊎_elim, arith}
+use Rattle.std.proofs.Common.{◌∙◌, subst, None, inl, inr, ⊎_elim, arith}
 use Rattle.std.proofs.lemmas.Result.{on_ok_weaker, err_from_is_err_and}
 use Rattle.gix_ref_file.proofs.Histories.{adds_weaker, adds_joined}
 use Rattle.gix_ref_way.proofs.Rooms.{only_now, onlys_joined, onlys_same}
 use Rattle.gix_ref_moves.specs.Committing.{OnTheWay}
-use Rattle.gix_ref_moves.specs.Needs.{log_paths}
-use Rattle.gix_ref_moves.proofs.Needed.{since, wider as longer, moves_beside, locks_kept, replace_stays}
+use Rattle.gix_ref_moves.specs.Needs.{log_paths, IsOutOfMemory}
+use Rattle.gix_ref_moves.proofs.Needed.{after_cause, since, wider as longer, moves_beside, locks_kept, locked_stays, replace_stays}
 use Rattle.gix_ref_moves.proofs.FileMoves.{now_of}
 use Rattle.gix_ref_moves.proofs.OnWays.{once_moves, wider, replacing, removing, is_committed, then_shown, way_begins, way_dropped}
 use Rattle.gix_ref_moves.proofs.commit.make.Goals as goal
@@ -131,8 +131,19 @@ returns-in-Err-clause-folders g c = λ once honest.
 
 pub returns-in-Err-clause-failed : goal.returns-in-Err-clause-failed
 returns-in-Err-clause-failed g c = λ once honest can.
+    let old = g.F.Files.history c.args.files.now in
+    let mid = g.F.Files.history c.show_updates.new.files in
     let t = c.args.packed in
     let ms = c.args.moves.now in
+    let own = once_moves t ms once in
     let f = g.F.Files.failures in
-    ⊎_elim inl (λ fault. inr (longer (f c.args.files.now) (f c.args.files.now) (f c.show_updates.new.files) (f c.drop_packed.new.files) (omega arith) c.drop_packed.ensures.later fault))
-    (c.in-Err.ensures.failed (once_moves t ms once) (moves_beside t ms can.apart) honest can.each)
+    let first = adds_weaker old mid (c.show_updates.ensures.moments own honest) (λ x showing. showing.way) in
+    let way = now_of (OnTheWay None ms old.tree) old mid (way_begins None ms old.tree) first in
+    after_cause (f c.args.files.now) (f c.show_updates.new.files) (f c.drop_packed.new.files) c.in-Err.error c.after.result c.drop_packed.result c.show_updates.ensures.later c.drop_packed.ensures.later
+    (c.in-Err.ensures.failed own (moves_beside t ms can.apart) honest can.each) c.after.ensures.told
+    (c.drop_packed.ensures.failed (c.show_updates.ensures.honest honest) (locked_stays t ms old.tree mid.tree once way.others can.packed))
+
+pub returns-in-Err-clause-memory : goal.returns-in-Err-clause-memory
+returns-in-Err-clause-memory g c = λ short.
+    let kept = c.after.ensures.kept short in
+    c.drop_packed.ensures.unfailed kept.1 ∙ c.in-Err.ensures.memory (subst IsOutOfMemory kept.0 short)

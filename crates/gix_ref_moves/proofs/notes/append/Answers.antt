@@ -1,4 +1,4 @@
-use Rattle.std.proofs.Common.{subst, inl, inr, ⊎_elim, List, ℕ, [], ◌∷◌}
+use Rattle.std.proofs.Common.{◌≡◌, ◌∙◌, subst, inl, inr, ⊎_elim, List, ℕ, [], ◌∷◌}
 use Rattle.std.proofs.lemmas.Result.{err_from_is_err_and}
 use Rattle.gix_ref_file.specs.Changes.{MayLeave, to_append}
 use Rattle.gix_ref_file.specs.History.{Makes}
@@ -9,7 +9,7 @@ use Rattle.gix_ref_file.specs.Changes.{may_hold_file}
 use Rattle.gix_ref_way.proofs.Clearings.{caused}
 use Rattle.gix_ref_way.proofs.FoldersStay.{while_appended}
 use Rattle.gix_ref_way.proofs.Rooms.{way_only, onlys_joined, onlys_same}
-use Rattle.gix_ref_moves.proofs.Needed.{told_cause, since}
+use Rattle.gix_ref_moves.proofs.Needed.{told_cause, told_short, since}
 use Rattle.gix_ref_moves.proofs.FileMoves.{on_told, same_now, unnoted, noting_joined, is_noted}
 use Rattle.gix_ref_moves.proofs.notes.append.Goals as goal
 
@@ -60,3 +60,14 @@ pub returns-in_err-told-clause-failed : goal.returns-in_err-told-clause-failed
 returns-in_err-told-clause-failed g c = λ honest can.
     let p = err_from_is_err_and c.from_residual.result c.from_residual.ensures.1 in
     rw (p.1, p.2) (⊎_elim inl (λ failed. inr (c.make_way.ensures.failed honest can.0 can.1 failed)) c.in_err-told.ensures.failed)
+
+pub returns-in_err-told-clause-memory : goal.returns-in_err-told-clause-memory
+returns-in_err-told-clause-memory g c =
+    let p = err_from_is_err_and c.from_residual.result c.from_residual.ensures.1 in
+    rw (p.1, p.2) (λ short. c.make_way.ensures.memory (c.in_err-told.ensures.memory (λ no. no) short))
+
+pub returns-clause-memory : goal.returns-clause-memory
+returns-clause-memory g c =
+    let f = g.F.Files.failures in
+    let same = subst (λ o. OnOk o (f c.make_way.new.files ≡ f c.args.files.now)) c.in_ok-told.ensures.done c.make_way.ensures.unfailed in
+    told_short c.append.result c.told-2.result (c.told-2.ensures.memory (λ no. no)) (λ short. c.append.ensures.memory short ∙ same)

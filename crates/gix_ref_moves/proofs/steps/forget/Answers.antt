@@ -11,3 +11,6 @@ returns-in-Remove-clause-moments g c = λ apart honest.
     let new = g.F.Files.history c.remove_file.new.files in
     let first = subst (λ (p : List ℕ). Adds (MayGo p old.tree) old new) c.deref.ensures.value (c.remove_file.ensures.moments honest) in
     adds_weaker old new first (forgetting c.args.made.now apart old.tree c.in-Remove.is)
+
+pub returns-in-Remove-clause-memory : goal.returns-in-Remove-clause-memory
+returns-in-Remove-clause-memory g c = c.remove_file.ensures.memory (λ no. no)

@@ -96,3 +96,8 @@ returns-in_err-make-clause-failed g c = λ once beside honest all.
     let count = g.F.Files.failures in
     let p = err_from_is_err_and c.from_residual.result c.from_residual.ensures.1 in
     rw (p.1, p.2) (⊎_elim inl (λ fault. inr (wider (count c.args.files.now) (count c.moves.files) (count c.make.new.files) (count c.make.new.files) c.moves.invariant.later (omega arith) fault)) fails)
+
+pub returns-in_err-make-clause-memory : goal.returns-in_err-make-clause-memory
+returns-in_err-make-clause-memory g c =
+    let p = err_from_is_err_and c.from_residual.result c.from_residual.ensures.1 in
+    rw (p.1, p.2) (λ short. c.in_err-make.ensures.memory short ∙ c.moves.invariant.unfailed)

@@ -4,7 +4,7 @@ use Rattle.gix_ref_lock.specs.Locks.{OthersStay}
 use Rattle.std.proofs.lemmas.Result.{on_ok_weaker}
 use Rattle.gix_ref_moves.specs.Contents.{contents, lock_path_of}
 use Rattle.gix_ref_moves.specs.Needs.{KeepsLock}
-use Rattle.gix_ref_moves.proofs.Needed.{told_cause}
+use Rattle.gix_ref_moves.proofs.Needed.{told_cause, told_short}
 use Rattle.gix_ref_moves.proofs.ActMoves.{pack_goes, pack_gone, file_goes, file_gone, giving_forgotten, is_given}
 use Rattle.gix_ref_moves.proofs.FileMoves.{on_told, now_of}
 use Rattle.gix_ref_moves.proofs.steps.remove.Goals as goal
@@ -68,3 +68,6 @@ returns-in-Forget-clause-failed g c = λ apart honest kept.
     let m = c.args.made.now in
     let old = (g.F.Files.history c.args.files.now).tree in
     told_cause c.give_back.result c.told.result c.told.ensures.failed (λ failed. inl (c.give_back.ensures.held honest (subst (λ act. KeepsLock act (contents m old)) c.in-Forget.is kept) failed))
+
+pub returns-in-Forget-clause-memory : goal.returns-in-Forget-clause-memory
+returns-in-Forget-clause-memory g c = told_short c.give_back.result c.told.result (c.told.ensures.memory (λ no. no)) (λ short. c.give_back.ensures.memory short)

@@ -1,7 +1,7 @@
 use Rattle.gix_ref_file.specs.Tree.{node_at}
 use Rattle.gix_ref_file.specs.Changes.{is_file_at}
 use Rattle.gix_ref_way.proofs.Clearings.{caused}
-use Rattle.gix_ref_moves.proofs.Needed.{told_cause, file_there}
+use Rattle.gix_ref_moves.proofs.Needed.{told_cause, told_short, file_there}
 use Rattle.gix_ref_file.proofs.Histories.{adds_weaker}
 use Rattle.gix_ref_way.proofs.FoldersStay.{while_removed}
 use Rattle.gix_ref_lock.proofs.LockLemmas.{on_ok_both}
@@ -34,3 +34,6 @@ returns-in-Ok-File-clause-failed g c = λ honest.
     let may = file_there (node_at old path) _ (rw c.in-Ok-File.field-0-is at (c.in-Ok-File.ensures.place honest)) in
     told_cause c.remove_file.result c.told.result c.told.ensures.failed
     (λ failed. caused (is_file_at old path) (f c.args.files.now) (f c.remove_file.new.self) c.remove_file.result may (c.remove_file.ensures.cause honest) failed)
+
+pub returns-in-Ok-File-clause-memory : goal.returns-in-Ok-File-clause-memory
+returns-in-Ok-File-clause-memory g c = λ other. told_short c.remove_file.result c.told.result (c.told.ensures.memory other) (λ short. c.remove_file.ensures.memory short)

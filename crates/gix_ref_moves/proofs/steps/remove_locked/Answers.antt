@@ -4,7 +4,7 @@ use Rattle.gix_ref_file.specs.History.{Adds}
 use Rattle.gix_ref_file.proofs.Histories.{adds_weaker, adds_joined}
 use Rattle.gix_ref_lock.specs.Locks.{OthersStay}
 use Rattle.gix_ref_lock.proofs.LockLemmas.{folders_joined}
-use Rattle.gix_ref_moves.proofs.Needed.{told_cause, since}
+use Rattle.gix_ref_moves.proofs.Needed.{told_cause, told_short, since}
 use Rattle.std.proofs.lemmas.Result.{on_ok_weaker, err_from_is_err_and}
 use Rattle.gix_ref_moves.specs.Contents.{lock_path_of}
 use Rattle.gix_ref_moves.specs.Moments.{MayGo, IsGone}
@@ -61,3 +61,11 @@ pub returns-in_err-remove_file-clause-failed : goal.returns-in_err-remove_file-c
 returns-in_err-remove_file-clause-failed g c = λ apart honest held.
     let p = err_from_is_err_and c.from_residual.result c.from_residual.ensures.1 in
     rw (p.1, p.2) (c.in_err-remove_file.ensures.failed honest)
+
+pub returns-clause-memory : goal.returns-clause-memory
+returns-clause-memory g c = told_short c.give_back.result c.told.result (c.told.ensures.memory (λ no. no)) (λ short. c.give_back.ensures.memory short ∙ c.in_ok-remove_file.ensures.unfailed)
+
+pub returns-in_err-remove_file-clause-memory : goal.returns-in_err-remove_file-clause-memory
+returns-in_err-remove_file-clause-memory g c =
+    let p = err_from_is_err_and c.from_residual.result c.from_residual.ensures.1 in
+    rw (p.1, p.2) (c.in_err-remove_file.ensures.memory (λ no. no))

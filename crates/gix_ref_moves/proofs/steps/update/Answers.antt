@@ -1,4 +1,4 @@
-use Rattle.std.proofs.Common.{inl, refl, sym, subst, List, ℕ}
+use Rattle.std.proofs.Common.{inl, refl, sym, ◌∙◌, subst, List, ℕ}
 use Rattle.std.specs.Prelude.{OnOk}
 use Rattle.gix_ref_file.specs.Tree.{bytes_at}
 use Rattle.gix_ref_file.specs.History.{Adds}
@@ -9,7 +9,7 @@ use Rattle.gix_ref_moves.specs.Contents.{act_line, place_of, lock_path_of, log_p
 use Rattle.gix_ref_moves.specs.Needs.{CanNote, noted_logs, logs_of}
 use Rattle.gix_ref_way.specs.Ways.{FoldersOnlyOf}
 use Rattle.gix_ref_way.proofs.Rooms.{only_now, onlys_joined, onlys_same}
-use Rattle.gix_ref_moves.proofs.Needed.{told_cause, since, lock_after, place_after}
+use Rattle.gix_ref_moves.proofs.Needed.{told_cause, told_short, since, lock_after, place_after}
 use Rattle.gix_ref_moves.specs.Moments.{MayNote, NotesLog}
 use Rattle.gix_ref_moves.proofs.ActMoves.{noting_put, putting, is_put, noting_note, giving_note, is_note, noting_pack, is_pack}
 use Rattle.gix_ref_moves.proofs.FileMoves.{on_told, now_of}
@@ -199,3 +199,20 @@ returns-in_err-note-in-Note-clause-moments g c = λ apart honest.
     let mid = g.F.Files.history c.note-in-Note.new.files in
     let first = subst (λ (p : List ℕ). Adds (MayNote line p old.tree) old mid) c.deref-in-Note.ensures.value (c.note-in-Note.ensures.moments honest) in
     adds_weaker old mid first (noting_note c.args.made.now apart line old.tree c.in-Note.is)
+
+pub returns-in_ok-note-in-Put-clause-memory : goal.returns-in_ok-note-in-Put-clause-memory
+returns-in_ok-note-in-Put-clause-memory g c = told_short c.put.result c.told.result (c.told.ensures.memory (λ no. no)) (λ short. c.put.ensures.memory short ∙ c.in_ok-note-in-Put.ensures.unfailed)
+
+pub returns-in_ok-note-in-Note-clause-memory : goal.returns-in_ok-note-in-Note-clause-memory
+returns-in_ok-note-in-Note-clause-memory g c =
+    told_short c.give_back.result c.told-in-Note.result (c.told-in-Note.ensures.memory (λ no. no)) (λ short. c.give_back.ensures.memory short ∙ c.in_ok-note-in-Note.ensures.unfailed)
+
+pub returns-in_err-note-in-Put-clause-memory : goal.returns-in_err-note-in-Put-clause-memory
+returns-in_err-note-in-Put-clause-memory g c =
+    let p = err_from_is_err_and c.from_residual.result c.from_residual.ensures.1 in
+    rw (p.1, p.2) c.in_err-note-in-Put.ensures.memory
+
+pub returns-in_err-note-in-Note-clause-memory : goal.returns-in_err-note-in-Note-clause-memory
+returns-in_err-note-in-Note-clause-memory g c =
+    let p = err_from_is_err_and c.from_residual-in_err-note-in-Note.result c.from_residual-in_err-note-in-Note.ensures.1 in
+    rw (p.1, p.2) c.in_err-note-in-Note.ensures.memory

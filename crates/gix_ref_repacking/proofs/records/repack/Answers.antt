@@ -80,3 +80,8 @@ returns-clause-here g c = λ honest.
     let lines_some : lines ≢ [] = λ none. some_change records (map line_in lines) some (ap (map line_in) none) in
     let held = c.in_ok-held.ensures.held honest lines_some in
     c.in_ok-held.held.lock.beside ∙ ap lock_of (held.here ∙ c.deref-2.ensures.value ∙ c.in_ok-place.ensures)
+
+pub returns-in_err-held-clause-memory : goal.returns-in_err-held-clause-memory
+returns-in_err-held-clause-memory g c =
+    let p = err_from_is_err_and c.from_residual-in_err-held.result c.from_residual-in_err-held.ensures.1 in
+    rw (p.1, p.2) c.in_err-held.ensures.memory

@@ -1,4 +1,4 @@
-use Rattle.std.proofs.Common.{◌∙◌, ap, map, subst, inl, inr, ⊎_elim, List, ℕ, arith}
+use Rattle.std.proofs.Common.{◌∙◌, ap, sym, map, subst, inl, inr, ⊎_elim, List, ℕ, arith}
 use Rattle.std.specs.Prelude.{is_some}
 use Rattle.std.proofs.lemmas.Result.{err_from_is_err_and}
 use Rattle.gix_ref_file.specs.Tree.{bytes_of}
@@ -7,6 +7,7 @@ use Rattle.gix_ref_way.proofs.FoldersMade.{risen_later}
 use Rattle.gix_ref_file.specs.History.{Adds}
 use Rattle.gix_ref_lock.specs.Locks.{lock_of, OthersStay}
 use Rattle.gix_ref_lock.specs.RecordEdits.{line_in}
+use Rattle.gix_ref_lock.proofs.GivenUp.{second_half}
 use Rattle.gix_ref_lock.proofs.LockLemmas.{others_joined, folders_joined}
 use Rattle.gix_ref_repacking.proofs.RecordLines.{holds_records}
 use Rattle.gix_ref_repacking.proofs.records.written.Goals as goal
@@ -61,3 +62,31 @@ returns-in_err-prepared-clause-folders g c = λ honest.
 pub returns-clause-folders : goal.returns-clause-folders
 returns-clause-folders g c = λ honest.
     folders_joined (g.F.Files.history c.args.files.now) (g.F.Files.history c.new.new.files) (g.F.Files.history c.prepare.new.files) (c.new.ensures.folders honest) (c.prepare.ensures.folders (c.new.ensures.honest honest))
+
+pub returns-clause-locked : goal.returns-clause-locked
+returns-clause-locked g c = λ honest.
+    let new = (g.F.Files.history c.prepare.new.files).tree in
+    let told = c.in_ok-prepared.ensures in
+    ap (λ l. is_file_at new l.path.items) told.lock ∙ told.held (c.new.ensures.honest honest) (c.in_ok-begun.ensures.held honest)
+
+pub returns-in_err-prepared-clause-rolled_back : goal.returns-in_err-prepared-clause-rolled_back
+returns-in_err-prepared-clause-rolled_back g c = λ honest.
+    let new = (g.F.Files.history c.prepare.new.files).tree in
+    let f = g.F.Files.failures in
+    let begun = c.in_ok-begun.ensures.begun honest in
+    let path = c.in_ok-begun.begun.lock.beside ∙ ap lock_of begun.here in
+    let none = ap (λ o. is_some (bytes_of o)) begun.taken.free in
+    let left = c.in_err-prepared.ensures.rolled_back (c.new.ensures.honest honest) (c.in_ok-begun.ensures.held honest) in
+    let p = err_from_is_err_and c.from_residual-in_err-prepared.result c.from_residual-in_err-prepared.ensures.1 in
+    rw (p.1, p.2) (⊎_elim (λ gone. inl (ap (is_file_at new) (sym path) ∙ gone ∙ sym none))
+    (λ rest. inr (⊎_elim (λ risen. inl (second_half (f c.args.files.now) (f c.new.new.files) (f c.prepare.new.files) c.new.ensures.later risen)) inr rest)) left)
+
+pub returns-in_err-begun-clause-memory : goal.returns-in_err-begun-clause-memory
+returns-in_err-begun-clause-memory g c =
+    let p = err_from_is_err_and c.from_residual.result c.from_residual.ensures.1 in
+    rw (p.1, p.2) c.in_err-begun.ensures.memory
+
+pub returns-in_err-prepared-clause-memory : goal.returns-in_err-prepared-clause-memory
+returns-in_err-prepared-clause-memory g c =
+    let p = err_from_is_err_and c.from_residual-in_err-prepared.result c.from_residual-in_err-prepared.ensures.1 in
+    rw (p.1, p.2) (λ short. c.in_err-prepared.ensures.memory short ∙ c.in_ok-begun.ensures.unfailed)

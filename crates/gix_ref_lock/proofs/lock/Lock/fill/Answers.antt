@@ -2,7 +2,7 @@ use Rattle.std.proofs.Common.{subst, List, ℕ, ◌≡◌, sym, true}
 use Rattle.gix_ref_file.specs.Changes.{to_write, may_hold_file}
 use Rattle.gix_ref_file.specs.History.{Makes}
 use Rattle.gix_ref_file.proofs.Histories.{adds_weaker}
-use Rattle.gix_ref_lock.proofs.LockLemmas.{written_others, filled_by, on_ok_both, must_rise}
+use Rattle.gix_ref_lock.proofs.LockLemmas.{written_others, filled_by, on_ok_both, must_rise, written_stays}
 use Rattle.gix_ref_way.proofs.FoldersStay.{while_written}
 use Rattle.gix_ref_file.proofs.Rooted.{file_room}
 use Rattle.gix_ref_lock.proofs.lock.Lock.fill.Goals as goal
@@ -31,3 +31,10 @@ returns-clause-failed g c = λ honest is failed.
     let old = (g.F.Files.history c.args.files.now).tree in
     let may = file_room old c.args.self.now.path.items (g.met.F.Files.rooted c.args.files.now honest) is in
     must_rise (may_hold_file old c.deref.result.now) _ _ c.write.result (subst (λ (path : List ℕ). may_hold_file old path ≡ true) (sym c.deref.ensures.value) may) (c.write.ensures.cause honest) failed
+
+pub returns-clause-stays : goal.returns-clause-stays
+returns-clause-stays g c = λ honest is.
+    let old = g.F.Files.history c.args.files.now in
+    let new = g.F.Files.history c.write.new.self in
+    let change = subst (λ (path : List ℕ). Makes (to_write path c.args.bytes.now) old new c.write.result) c.deref.ensures.value (c.write.ensures.change honest) in
+    written_stays c.args.self.now.path.items c.args.bytes.now old new change.moments is
