@@ -12,3 +12,10 @@ mod Faults
 mod RecordKinds
 mod Prepares
 mod Rollbacks
+mod Lockings
+mod Committable
+mod Counting
+mod Takings
+mod Givings
+mod LockedEdits
+mod Readies

@@ -99,6 +99,7 @@ no_line_weaker P Q (fault.PackedTransactionAcquire e) f h = absurd h
 no_line_weaker P Q (fault.PackedTransactionPrepare e) f h = absurd h
 no_line_weaker P Q (fault.PreprocessingFailed e) f h = absurd h
 no_line_weaker P Q fault.SamePlace f h = absurd h
+no_line_weaker P Q fault.Uncomposed f h = absurd h
 no_line_weaker P Q fault.LockAcquire f h = absurd h
 no_line_weaker P Q (fault.Refused e) f h = absurd h
 no_line_weaker P Q (fault.ReferenceDecode e) f h = absurd h

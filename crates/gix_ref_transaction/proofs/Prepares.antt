@@ -1,39 +1,31 @@
 -- What is prepared can be committed as its edits say.
-use Rattle.std.proofs.Common.{◌≡◌, ◌≢◌, refl, sym, ◌∙◌, ap, subst, Bool, true, false, cond, ◌||◌, List, [], ◌∷◌, ◌++◌, bytes_eq, Option, Some, None, option_map}
-use Rattle.std.specs.Prelude.{IfSome, IsSome, is_some}
-use Rattle.std.specs.List.{list_any}
-use Rattle.std.proofs.lemmas.Bool.{or_parts}
+use Rattle.std.proofs.Common.{◌≡◌, refl, sym, subst, Bool, true, false, List, Option, Some, None, option_map}
+use Rattle.std.specs.Prelude.{IsSome}
 use Rattle.gix_object_lookup.specs.Table.{Table}
 use Rattle.gix_ref_file.specs.Tree.{Tree}
 use Rattle.gix_ref_edit.specs.declared.change.RefEdit.{RefEdit}
 use Rattle.gix_ref_packed.specs.Edited.{Line}
 use Rattle.gix_ref_store.specs.Places.{Base, packed_place}
 use Rattle.gix_ref_lock.specs.declared.packed.Transaction.{Transaction}
-use Rattle.gix_ref_moves.specs.Committing.{commit_paths}
 use Rattle.gix_ref_moves.specs.Moments.{SameButLocks}
-use Rattle.gix_ref_moves.specs.Moves.{IsNone, Once, all_paths}
+use Rattle.gix_ref_moves.specs.Moves.{IsNone, all_paths}
 use Rattle.gix_ref_moves.specs.declared.act.Move.{Move}
 use Rattle.gix_ref_way.specs.Ways.{file_at}
 use Rattle.gix_ref_repacking.specs.Modes.{objects_in, removes}
-use Rattle.gix_ref_transaction.specs.Paths.{has_twice, paths_apart}
+use Rattle.gix_ref_transaction.specs.Paths.{edit_paths, has_twice}
 use Rattle.gix_ref_transaction.specs.Plans.{AllHold, AllPlanned}
 use Rattle.gix_ref_transaction.specs.Reads.{AllGiveKind, AllReadBack, AreReadBack, IsAsPrepared, Prepared}
 use Rattle.gix_ref_repacking.specs.Repacking.{AreRepacked, HoldsIf, SayOfRecords}
 use Rattle.gix_ref_repacking.specs.declared.packed_refs.PackedRefs.{PackedRefs}
 use Rattle.gix_ref_repacking.specs.declared.packed_refs.PackedRefs.TheVariants.{DeletionsOnly, DeletionsAndNonSymbolicUpdates, DeletionsAndNonSymbolicUpdatesRemoveLooseSourceReference}
 use Rattle.gix_ref_transaction.proofs.RecordKinds.{edited_kinds, kept_kinds, said_kinds}
+use Rattle.gix_ref_transaction.proofs.Committable.{plans_paths}
 use Rattle.gix_ref_transaction.proofs.Twice.{once_of}
 
 -- ---- paths that are apart
 
-pub apart_twice : (b : Base) (t : Option Transaction) (moves : List Move) → has_twice (paths_apart b t moves) ≡ false → has_twice (commit_paths t moves) ≡ false
-apart_twice b None moves apart = (or_parts (list_any (bytes_eq (packed_place b)) (all_paths moves)) (has_twice (all_paths moves)) apart).1
-apart_twice b (Some t) moves apart = apart
-
-records_apart : (b : Base) (old new : Tree) (lines : List Line) (t : Option Transaction) (moves : List Move) → HoldsIf b old new lines t → has_twice (paths_apart b t moves) ≡ false → IsNone (packed_place b) (all_paths moves)
-records_apart b old new lines None moves holds apart = (once_of (packed_place b ∷ all_paths moves) apart).0
-records_apart b old new lines (Some t) moves (changes, holds) apart =
-    subst (λ place. IsNone place (all_paths moves)) holds.here (once_of (paths_apart b (Some t) moves) apart).0.1
+records_apart : (b : Base) (gone : Bool) (edits : List RefEdit) (moves : List Move) → AllPlanned b gone edits moves → has_twice (edit_paths b edits) ≡ false → IsNone (packed_place b) (all_paths moves)
+records_apart b gone edits moves planned apart = subst (λ ps. IsNone (packed_place b) ps) (sym (plans_paths b gone edits moves planned)) (once_of (edit_paths b edits) apart).0.1
 
 -- ---- what is written is read back
 
@@ -50,7 +42,7 @@ mode_packs table (DeletionsAndNonSymbolicUpdates objects) gone = cc
 mode_packs table (DeletionsAndNonSymbolicUpdatesRemoveLooseSourceReference objects) gone = refl
 
 pub is_prepared : (b : Base) (packs : Option Table) (gone : Bool) (old new : Tree) (t : Prepared) → (gone ≡ true → IsSome packs) → AllPlanned b gone t.edits t.moves → AllHold new t.edits t.moves → SameButLocks old new
-    → has_twice (paths_apart b t.packed t.moves) ≡ false → (AllGiveKind b.kind t.edits → AllReadBack b.kind t.edits) → AreRepacked b packs old new t.edits t.packed
+    → has_twice (edit_paths b t.edits) ≡ false → (AllGiveKind b.kind t.edits → AllReadBack b.kind t.edits) → AreRepacked b packs old new t.edits t.packed
     → AllGiveKind b.kind t.edits → IsAsPrepared b packs gone old new t
 is_prepared b packs gone old new t mode planned texts locks apart back (lines, say, holds) give = record {
   mode = mode;
@@ -62,5 +54,5 @@ is_prepared b packs gone old new t mode planned texts locks apart back (lines, s
   holds = holds;
   files = back give;
   records = records_back b packs old new t.edits lines t.packed holds give say;
-  apart = records_apart b old new lines t.packed t.moves holds apart;
+  apart = records_apart b gone t.edits t.moves planned apart;
 }

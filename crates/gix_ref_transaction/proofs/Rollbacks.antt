@@ -1,6 +1,6 @@
 -- What is left of edits that aren't prepared: no lock, unless a failure was counted or memory was wanting.
-use Rattle.std.proofs.Common.{◌≡◌, ◌≢◌, ◌⊎◌, inl, inr, refl, sym, ◌∙◌, ap, subst, Bool, true, false, List, [], ◌∷◌, ◌++◌, map, arith, ℕ, ◌≤◌, Option, Some, None}
-use Rattle.std.specs.Prelude.{IsTrue, is_some, bytes_eq, Result, Ok, Err, IfOk, IfSome}
+use Rattle.std.proofs.Common.{◌≡◌, ◌≢◌, ◌⊎◌, inl, inr, refl, sym, ◌∙◌, ap, subst, Bool, true, false, List, [], ◌∷◌, ◌++◌, arith, ℕ, ◌≤◌, Option, Some, None}
+use Rattle.std.specs.Prelude.{IsTrue, is_some, bytes_eq, IfSome}
 use Rattle.std.proofs.lemmas.Slice.Eq.{bytes_eq-Decides}
 use Rattle.std.specs.List.{AllByRecursion}
 use Rattle.gix_ref_file.specs.Tree.{Tree, bytes_of, node_at}
@@ -8,28 +8,28 @@ use Rattle.gix_ref_file.specs.Changes.{is_file_at}
 use Rattle.gix_ref_file.specs.History.{HasRisen}
 use Rattle.gix_ref_file.specs.declared.files.FileError.{FileError}
 use Rattle.gix_ref_file.specs.declared.files.FileError.TheVariants.{Failed}
-use Rattle.gix_ref_lock.specs.declared.lock.Lock.{Lock}
+use Rattle.gix_ref_file.specs.declared.files.FileError.TheVariants as file_case
 use Rattle.gix_ref_lock.specs.Locks.{OthersStay}
+use Rattle.gix_ref_lock.specs.declared.packed.PrepareError.TheVariants as writing
 use Rattle.gix_ref_lock.specs.declared.packed.Transaction.{Transaction}
 use Rattle.gix_ref_way.specs.Ways.{Bytes, SameFiles, file_at}
 use Rattle.gix_ref_way.proofs.FoldersMade.{risen_later}
 use Rattle.gix_ref_moves.specs.Contents.{lock_path_of}
 use Rattle.gix_ref_moves.specs.Moments.{NoFileMore}
-use Rattle.gix_ref_moves.specs.Moves.{IsNone, Once, all_paths}
+use Rattle.gix_ref_moves.specs.Moves.{IsNone}
 use Rattle.gix_ref_moves.specs.declared.act.Move.{Move}
-use Rattle.gix_ref_file.specs.declared.files.FileError.TheVariants as file_case
-use Rattle.gix_ref_lock.specs.declared.packed.CommitError as packed_error
-use Rattle.gix_ref_lock.specs.declared.packed.CommitError.TheVariants as packed_case
-use Rattle.gix_ref_moves.specs.Committing.{AreUnlocked, commit_paths}
+use Rattle.gix_ref_moves.specs.Committing.{AreUnlocked}
 use Rattle.gix_ref_moves.proofs.Unlockings.{none_more, still_gone}
 use Rattle.gix_ref_repacking.specs.Rollback as repacking
 use Rattle.gix_ref_repacking.specs.declared.error.RepackError.{RepackError}
 use Rattle.gix_ref_repacking.specs.declared.error.RepackError.TheVariants as repack
 use Rattle.gix_ref_lock.specs.PackedEdits.{lock_path_of as lock_path_of_records}
-use Rattle.gix_ref_transaction.specs.Causes.{of_repacking}
-use Rattle.gix_ref_transaction.specs.Rollback.{IsRolledBack, MoreFilesAt, WantsMemory, AllGone, IsDropped, PackedGone, lock_paths, packed_locks}
+use Rattle.gix_ref_transaction.specs.Errors.{Counts, IsAfter, MayBeLeft, MayStay, of_file, of_repacking}
+use Rattle.gix_ref_transaction.specs.Locking.{RecordsHeld}
+use Rattle.gix_ref_transaction.specs.Rollback.{IsRolledBack, MoreFilesAt, AllGone, PackedGone, lock_paths, packed_locks}
 use Rattle.gix_ref_transaction.specs.declared.error.PrepareError.{PrepareError}
-use Rattle.gix_ref_transaction.specs.declared.error.PrepareError.TheVariants.{Memory}
+use Rattle.gix_ref_transaction.specs.declared.error.PrepareError.TheVariants.{Io}
+use Rattle.gix_ref_transaction.proofs.Counting.{left_stays, or_after, short_stays}
 
 pub same_more : (old new : Tree) → SameFiles old new → NoFileMore old new
 same_more old new same path there = sym (ap is_some (same path)) ∙ there
@@ -55,24 +55,16 @@ one_dropped lock old new more gone path there = more path (apart_of path lock ne
 
 -- ---- one edit
 
-pub or_wanted : (P : PrepareError → Type 0) (told error : PrepareError) → P Memory → (told ≡ error) ⊎ (told ≡ Memory) → P error → P told
-or_wanted P told error memory (inl same) h = subst P (sym same) h
-or_wanted P told error memory (inr is) h = subst P (sym is) memory
-
-pub unplanned_back : (a b c : ℕ) (lock : Bytes) (old new : Tree) (told : PrepareError) → a ≤ b → MoreFilesAt (lock ∷ []) old new → (is_file_at new lock ≡ false) ⊎ (HasRisen b c ⊎ (told ≡ Memory)) → IsRolledBack a c old new told
-unplanned_back a b c lock old new told first more (inl gone) = inl (one_dropped lock old new more gone)
-unplanned_back a b c lock old new told first more (inr (inl risen)) = inr (inl (risen_later a b c c first risen (omega arith)))
-unplanned_back a b c lock old new told first more (inr (inr is)) = inr (inr (subst WantsMemory (sym is) tt))
+pub unplanned_back : (a c : ℕ) (lock : Bytes) (old new : Tree) (told : PrepareError) → MoreFilesAt (lock ∷ []) old new → (is_file_at new lock ≡ false) ⊎ MayBeLeft told → Counts a c told → IsRolledBack a c old new told
+unplanned_back a c lock old new told more (inl gone) counts = inl (one_dropped lock old new more gone)
+unplanned_back a c lock old new told more (inr left) counts = inr (left_stays a c told left counts)
 
 -- its lock isn't taken
-pub untaken : (a b c : ℕ) (old mid new : Tree) (made : Result (Option Lock) FileError) (error : PrepareError) → a ≤ b → NoFileMore old mid → (error ≡ Memory) ⊎ ((made ≡ Ok None) ⊎ (made ≡ Err Failed))
-    → IfOk made (λ found. found ≡ None → new ≡ mid) → (made ≡ Err Failed → HasRisen b c ⊎ (new ≡ mid)) → IsRolledBack a c old new error
-untaken a b c old mid new made error first none (inl is) kept refused = inr (inr (subst WantsMemory (sym is) tt))
-untaken a b c old mid new made error first none (inr (inl is)) kept refused =
-    let same = subst (λ r. IfOk r (λ (found : Option Lock). found ≡ None → new ≡ mid)) is kept in inl (λ path there. none path (trees_more mid new (same refl) path there))
-untaken a b c old mid new made error first none (inr (inr is)) kept refused = by_cause (refused is)
+pub untaken : (e : FileError) (a b c : ℕ) (old mid new : Tree) → a ≤ b → NoFileMore old mid → (e ≡ Failed → HasRisen b c ⊎ (new ≡ mid)) → IsRolledBack a c old new (of_file e)
+untaken file_case.Memory a b c old mid new first none refused = inr (inr tt)
+untaken file_case.Failed a b c old mid new first none refused = by_cause (refused refl)
   where
-    by_cause : HasRisen b c ⊎ (new ≡ mid) → IsRolledBack a c old new error
+    by_cause : HasRisen b c ⊎ (new ≡ mid) → IsRolledBack a c old new Io
     by_cause (inl risen) = inr (inl (risen_later a b c c first risen (omega arith)))
     by_cause (inr same) = inl (λ path there. none path (trees_more mid new same path there))
 
@@ -87,10 +79,10 @@ one_more ms after m old mid new is first second path none there =
     let parts = lock_paths_more ms m path (subst (λ (l : List Move). IsNone path (lock_paths l)) is none) in
     first path parts.0 (second path parts.1 there)
 
-pub after_error : (a b c : ℕ) (paths : List Bytes) (old mid new : Tree) (error : PrepareError) → a ≤ b → MoreFilesAt paths old mid → IsRolledBack b c mid new error → MoreFilesAt paths old new ⊎ (HasRisen a c ⊎ WantsMemory error)
+pub after_error : (a b c : ℕ) (paths : List Bytes) (old mid new : Tree) (error : PrepareError) → a ≤ b → MoreFilesAt paths old mid → IsRolledBack b c mid new error → MoreFilesAt paths old new ⊎ (HasRisen a c ⊎ MayStay error)
 after_error a b c paths old mid new error first more (inl none) = inl (λ path apart there. more path apart (none path there))
 after_error a b c paths old mid new error first more (inr (inl risen)) = inr (inl (risen_later a b c c first risen (omega arith)))
-after_error a b c paths old mid new error first more (inr (inr short)) = inr (inr short)
+after_error a b c paths old mid new error first more (inr (inr stays)) = inr (inr stays)
 
 all_apart : (path : Bytes) (moves : List Move) (new : Tree) → IsTrue (is_file_at new path) → AllByRecursion (λ m. is_file_at new (lock_path_of m) ≡ false) moves → IsNone path (lock_paths moves)
 all_apart path [] new there gone = tt
@@ -105,24 +97,13 @@ all_dropped moves t old mid then new first second gone path there =
     first path (packed_apart path t new there gone.packed) (second path (all_apart path moves new there gone.locks) (gone.none path there))
 
 -- the locks are given back after an error
-pub dropped_back : (a b c d : ℕ) (moves : List Move) (t : Option Transaction) (old mid then new : Tree) (error told : PrepareError) → a ≤ b → b ≤ c → c ≤ d → MoreFilesAt (packed_locks t) old mid
-    → MoreFilesAt (lock_paths moves) mid then ⊎ (HasRisen b c ⊎ WantsMemory error) → (told ≡ error) ⊎ (told ≡ Memory) → IsDropped moves t c d then new told → IsRolledBack a d old new told
-dropped_back a b c d moves t old mid then new error told one two three first (inr (inl risen)) says dropped = inr (inl (risen_later a b c d one risen three))
-dropped_back a b c d moves t old mid then new error told one two three first (inr (inr short)) says dropped = inr (inr (or_wanted WantsMemory told error tt says short))
-dropped_back a b c d moves t old mid then new error told one two three first (inl more) says (inl gone) = inl (all_dropped moves t old mid then new first more gone)
-dropped_back a b c d moves t old mid then new error told one two three first (inl more) says (inr (inl risen)) = inr (inl (risen_later a c d d (omega (arith, one, two)) risen (omega arith)))
-dropped_back a b c d moves t old mid then new error told one two three first (inl more) says (inr (inr is)) = inr (inr (subst WantsMemory (sym is) tt))
-
--- what was planned can't be finished
-pub finished_back : (a b c d : ℕ) (moves : List Move) (t : Option Transaction) (old mid then new : Tree) (told : PrepareError) → a ≤ b → b ≤ c → c ≤ d → MoreFilesAt (packed_locks t) old mid
-    → MoreFilesAt (lock_paths moves) mid then ⊎ HasRisen b c → IsDropped moves t c d then new told → IsRolledBack a d old new told
-finished_back a b c d moves t old mid then new told one two three first (inl more) dropped = dropped_back a b c d moves t old mid then new told told one two three first (inl more) (inl refl) dropped
-finished_back a b c d moves t old mid then new told one two three first (inr risen) dropped = dropped_back a b c d moves t old mid then new told told one two three first (inr (inl risen)) (inl refl) dropped
-
-pub no_short : {P Q : Type 0} → P ⊎ (Q ⊎ ⊥) → P ⊎ Q
-no_short (inl p) = inl p
-no_short (inr (inl q)) = inr q
-no_short (inr (inr short)) = absurd short
+pub dropped_back : (a b c d : ℕ) (moves : List Move) (t : Option Transaction) (old mid then new : Tree) (may : Type 0) (error told : PrepareError) → a ≤ b → c ≤ d → MoreFilesAt (packed_locks t) old mid
+    → MoreFilesAt (lock_paths moves) mid then ⊎ (HasRisen b c ⊎ MayStay error) → IsAfter may error told → Counts a d told → AllGone moves t then new ⊎ MayBeLeft told → IsRolledBack a d old new told
+dropped_back a b c d moves t old mid then new may error told one three first (inr (inl risen)) after counts dropped = inr (inl (risen_later a b c d one risen three))
+dropped_back a b c d moves t old mid then new may error told one three first (inr (inr stays)) after counts dropped =
+    inr (or_after (λ e. Counts a d e → HasRisen a d ⊎ MayStay e) may error told after (λ n. inl n) (λ n. inr tt) (λ m n. inr tt) (λ n. inr stays) counts)
+dropped_back a b c d moves t old mid then new may error told one three first (inl more) after counts (inl gone) = inl (all_dropped moves t old mid then new first more gone)
+dropped_back a b c d moves t old mid then new may error told one three first (inl more) after counts (inr left) = inr (left_stays a d told left counts)
 
 -- ---- packed records
 records_same : (lock : Bytes) (old new : Tree) → OthersStay lock old new → is_file_at new lock ≡ is_file_at old lock → NoFileMore old new
@@ -135,9 +116,10 @@ records_same lock old new stay same path there = by_test (bytes_eq path lock) re
 pub of_records : (before now : ℕ) (lock : Bytes) (old new : Tree) (error : RepackError) → OthersStay lock old new → repacking.IsRolledBack lock before now old new error → IsRolledBack before now old new (of_repacking error)
 of_records before now lock old new error stay (inl same) = inl (records_same lock old new stay same)
 of_records before now lock old new (repack.PackedTransactionAcquire e) stay (inr (inl risen)) = inr (inl risen)
-of_records before now lock old new (repack.PackedTransactionAcquire e) stay (inr (inr short)) = inr (inr short)
+of_records before now lock old new (repack.PackedTransactionAcquire e) stay (inr (inr short)) = inr (inr (short_stays e short))
 of_records before now lock old new (repack.PackedTransactionPrepare e) stay (inr (inl risen)) = inr (inl risen)
-of_records before now lock old new (repack.PackedTransactionPrepare e) stay (inr (inr short)) = inr (inr short)
+of_records before now lock old new (repack.PackedTransactionPrepare writing.Memory) stay (inr (inr short)) = inr (inr tt)
+of_records before now lock old new (repack.PackedTransactionPrepare writing.CloseLock) stay (inr (inr short)) = absurd short
 of_records before now lock old new (repack.Resolve e) stay (inr may) = absurd may
 of_records before now lock old new repack.Memory stay (inr may) = absurd may
 
@@ -151,37 +133,20 @@ still_unlocked : (t : Option Transaction) (mid new : Tree) → NoFileMore mid ne
 still_unlocked None mid new none gone = tt
 still_unlocked (Some t) mid new none gone = still_gone mid new none t.lock.path.items gone
 
-pub both_dropped : (a b c : ℕ) (moves : List Move) (t : Option Transaction) (old mid new : Tree) (records : Result (Unit {0}) packed_error.CommitError) (locks : Result (Unit {0}) FileError) (Short : Type 0) → a ≤ b → b ≤ c
-    → (records ≡ Err packed_case.Memory) ⊎ (HasRisen a b ⊎ (PackedGone t mid × NoFileMore old mid)) → (locks ≡ Err file_case.Memory) ⊎ (HasRisen b c ⊎ AreUnlocked moves mid new)
-    → (records ≡ Err packed_case.Memory → Short) → (locks ≡ Err file_case.Memory → Short) → Short ⊎ (HasRisen a c ⊎ AllGone moves t old new)
-both_dropped a b c moves t old mid new records locks Short one two (inl is) second f h = inl (f is)
-both_dropped a b c moves t old mid new records locks Short one two (inr (inl risen)) second f h = inr (inl (risen_later a a b c (omega arith) risen two))
-both_dropped a b c moves t old mid new records locks Short one two (inr (inr gone)) (inl is) f h = inl (h is)
-both_dropped a b c moves t old mid new records locks Short one two (inr (inr gone)) (inr (inl risen)) f h = inr (inl (risen_later a b c c one risen (omega arith)))
-both_dropped a b c moves t old mid new records locks Short one two (inr (inr gone)) (inr (inr unlocked)) f h = inr (inr (record {
+pub all_gone : (moves : List Move) (t : Option Transaction) (old mid new : Tree) → PackedGone t mid × NoFileMore old mid → AreUnlocked moves mid new → AllGone moves t old new
+all_gone moves t old mid new gone unlocked = record {
   locks = unlocked.gone;
   packed = still_unlocked t mid new unlocked.none gone.0;
   none = λ path there. gone.1 path (unlocked.none path there);
-}))
-
-pub turned_so : {S R G : Type 0} → S ⊎ (R ⊎ G) → G ⊎ (R ⊎ S)
-turned_so (inl s) = inr (inr s)
-turned_so (inr (inl r)) = inr (inl r)
-turned_so (inr (inr g)) = inl g
-
--- the lock of packed records is none of the moves' paths
-pub packed_still_gone : (t : Option Transaction) (moves : List Move) (mid new : Tree) → Once (commit_paths t moves) → ((path : Bytes) → IsNone path (all_paths moves) → file_at new path ≡ file_at mid path) → PackedGone t mid → PackedGone t new
-packed_still_gone None moves mid new once others gone = tt
-packed_still_gone (Some t) moves mid new once others gone = ap is_some (others t.lock.path.items once.1.0) ∙ gone
+}
 
 -- the lock of packed records has gone
-pub records_gone : (t : Option Transaction) (r : Transaction) (tree : Tree) → t ≡ Some r → node_at tree r.lock.path.items ≡ None → PackedGone t tree
-records_gone t r tree is none = subst (λ t. PackedGone t tree) (sym is) (ap (λ n. is_some (bytes_of n)) none)
+pub records_gone : (t : Option Transaction) (r : Transaction) (old new : Tree) → t ≡ Some r → OthersStay r.lock.path.items old new → node_at new r.lock.path.items ≡ None → PackedGone t new × NoFileMore old new
+records_gone t r old new is stay none =
+    let gone = ap (λ n. is_some (bytes_of n)) none in (subst (λ t. PackedGone t new) (sym is) gone, none_more r.lock.path.items old new stay gone)
 
-pub records_back : (a b : ℕ) (t : Option Transaction) (r : Transaction) (old new : Tree) (Short : Type 0) → t ≡ Some r → OthersStay r.lock.path.items old new → Short ⊎ (HasRisen a b ⊎ (is_file_at new r.lock.path.items ≡ false)) → Short ⊎ (HasRisen a b ⊎ (PackedGone t new × NoFileMore old new))
-records_back a b t r old new Short is stay (inl short) = inl short
-records_back a b t r old new Short is stay (inr (inl risen)) = inr (inl risen)
-records_back a b t r old new Short is stay (inr (inr gone)) = inr (inr (subst (λ t. PackedGone t new) (sym is) gone, none_more r.lock.path.items old new stay gone))
+pub none_gone : (t : Option Transaction) (tree : Tree) → t ≡ None → PackedGone t tree × NoFileMore tree tree
+none_gone t tree is = (subst (λ t. PackedGone t tree) (sym is) tt, λ path there. there)
 
-pub none_back : (a b : ℕ) (t : Option Transaction) (tree : Tree) (Short : Type 0) → t ≡ None → Short ⊎ (HasRisen a b ⊎ (PackedGone t tree × NoFileMore tree tree))
-none_back a b t tree Short is = inr (inr (subst (λ t. PackedGone t tree) (sym is) tt, λ path there. there))
+pub records_held : (t : Option Transaction) (r : Transaction) (tree : Tree) → t ≡ Some r → RecordsHeld t tree → IsTrue (is_file_at tree r.lock.path.items)
+records_held t r tree is held = subst (λ t. RecordsHeld t tree) is held

@@ -1,5 +1,6 @@
 -- Why a transaction isn't prepared.
-use Rattle.std.specs.Prelude.{ℕ, ◌≡◌, ◌⊎◌, Bool, true, List, Option, Some, None, option_map, Ok, Err, Contains, IsTrue}
+use Rattle.std.specs.Prelude.{ℕ, ◌≡◌, ◌⊎◌, Bool, true, false, List, Option, Some, None, option_map, Ok, Err, Contains, IsTrue}
+use Rattle.std.specs.List.{list_all}
 use Rattle.bstr.specs.BStr.{bstr_bytes}
 use Rattle.gix_hash_id.specs.Id.{Id}
 use Rattle.gix_object_lines.specs.Actor.{IsSpellable, TellsTime}
@@ -8,7 +9,7 @@ use Rattle.gix_object_lines.specs.NameTest.{is_full_name}
 use Rattle.gix_object_lines.specs.Time.{SpellsTime}
 use Rattle.gix_object_lines.specs.declared.lines.actor.ActorRef.{ActorRef}
 use Rattle.gix_object_lines.specs.declared.lines.time.Time.{Time}
-use Rattle.gix_ref_file.specs.Tree.{Tree}
+use Rattle.gix_ref_file.specs.Tree.{Tree, is_path}
 use Rattle.gix_ref_name.specs.Targets.{Points, ToObject, ToName, target_view}
 use Rattle.gix_ref_edit.specs.Ready.{PreFault}
 use Rattle.gix_ref_edit.specs.declared.change.Change.{Change}
@@ -21,7 +22,6 @@ use Rattle.gix_ref_format.specs.PackedBuffer.{FileFault}
 use Rattle.gix_ref_log.specs.declared.line.Line.{Line}
 use Rattle.gix_ref_format.specs.declared.packed.buffer.Error.TheVariants as opening
 use Rattle.gix_ref_moves.specs.declared.act.LogError.{LogError}
-use Rattle.gix_ref_moves.specs.declared.act.Move.{Move}
 use Rattle.gix_ref_moves.specs.declared.act.LogError.TheVariants.{CreateLeadingDirectories, Append, MessageWithNewlines, MissingCommitter, Unspellable}
 use Rattle.gix_ref_store.specs.Finds as finds
 use Rattle.gix_ref_store.specs.Finds.{TellsState}
@@ -32,19 +32,20 @@ use Rattle.gix_ref_store.specs.declared.store.file.find.Error.TheVariants as fin
 use Rattle.gix_ref_store.specs.declared.store.file.find.ExistingError.TheVariants as existing
 use Rattle.gix_ref_store.specs.declared.store.file.follow.Error.{Error as FollowError}
 use Rattle.gix_ref_store.specs.declared.store.file.follow.Error.TheVariants as follow
-use Rattle.gix_ref_lock.specs.declared.packed.Transaction.{Transaction}
-use Rattle.gix_ref_repacking.specs.declared.error.RepackError.{RepackError}
-use Rattle.gix_ref_repacking.specs.declared.error.RepackError.TheVariants as repack
+use Rattle.gix_ref_repacking.specs.Resolving.{SomeChangeFault}
+use Rattle.gix_ref_store.specs.declared.store.file.peel.Error.{Error as PeelError}
 use Rattle.gix_ref_way.specs.Ways.{Bytes}
 use Rattle.gix_ref_transaction.specs.Asked.{MeetsOf, points_of}
 use Rattle.gix_ref_transaction.specs.Found.{points_at}
 use Rattle.gix_ref_transaction.specs.LogLines.{Logging, adds_line, has_log}
-use Rattle.gix_ref_transaction.specs.Paths.{has_twice, paths_apart, places_of}
+use Rattle.gix_ref_transaction.specs.Errors.{of_opening}
+use Rattle.gix_ref_transaction.specs.Locking.{AreLockable, are_known}
+use Rattle.gix_ref_transaction.specs.Paths.{edit_paths, has_twice}
 use Rattle.gix_ref_transaction.specs.Plans.{AreSplit}
 use Rattle.gix_ref_transaction.specs.declared.asked.Refusal.{Refusal}
 use Rattle.gix_ref_transaction.specs.declared.asked.Refusal.TheVariants.{DeleteReferenceMustExist, DeleteMustNotExist, MustExist, MustNotExist, ReferenceOutOfDate}
 use Rattle.gix_ref_transaction.specs.declared.error.PrepareError.{PrepareError}
-use Rattle.gix_ref_transaction.specs.declared.error.PrepareError.TheVariants.{Packed, PackedTransactionAcquire, PackedTransactionPrepare, PreprocessingFailed, SamePlace, LockAcquire, Io, Refused, ReferenceDecode, CreateOrUpdateRefLog, Resolve, Memory}
+use Rattle.gix_ref_transaction.specs.declared.error.PrepareError.TheVariants.{Packed, PackedTransactionAcquire, PackedTransactionPrepare, PreprocessingFailed, SamePlace, Uncomposed, LockAcquire, Io, Refused, ReferenceDecode, CreateOrUpdateRefLog, Resolve, Memory}
 
 -- ---- a reference isn't as its edit expects
 
@@ -111,33 +112,15 @@ Unlined l stands name (Delete expected mode) error = ⊥
 
 -- a file couldn't be read, or no memory is left
 abbrev pub ReadFault : Type 0 → PrepareError → Type 0
-ReadFault may_fail Io = may_fail
+ReadFault may_fail (ReferenceDecode find.ReadFileContents) = may_fail
 ReadFault may_fail Memory = Unit {0}
-ReadFault may_fail (Packed error) = ⊥
-ReadFault may_fail (PackedTransactionAcquire error) = ⊥
-ReadFault may_fail (PackedTransactionPrepare error) = ⊥
-ReadFault may_fail (PreprocessingFailed error) = ⊥
-ReadFault may_fail SamePlace = ⊥
-ReadFault may_fail LockAcquire = ⊥
-ReadFault may_fail (Refused why) = ⊥
-ReadFault may_fail (ReferenceDecode error) = ⊥
-ReadFault may_fail (CreateOrUpdateRefLog error) = ⊥
-ReadFault may_fail (Resolve error) = ⊥
+ReadFault may_fail _ = ⊥
 
 -- a committer, a message or a name's log has no line
 abbrev pub NoLine : (LogError → Type 0) → PrepareError → Type 0
 NoLine Why (CreateOrUpdateRefLog error) = Why error
 NoLine Why Memory = Unit {0}
-NoLine Why Io = ⊥
-NoLine Why (Packed error) = ⊥
-NoLine Why (PackedTransactionAcquire error) = ⊥
-NoLine Why (PackedTransactionPrepare error) = ⊥
-NoLine Why (PreprocessingFailed error) = ⊥
-NoLine Why SamePlace = ⊥
-NoLine Why LockAcquire = ⊥
-NoLine Why (Refused why) = ⊥
-NoLine Why (ReferenceDecode error) = ⊥
-NoLine Why (Resolve error) = ⊥
+NoLine Why _ = ⊥
 
 abbrev pub LineFault : Logging → Bool → Type 0 → Bytes → Change → PrepareError → Type 0
 LineFault l stands may_fail name change error =
@@ -149,8 +132,9 @@ end_fault follow.Cycle = None
 end_fault follow.DepthLimitExceeded = None
 end_fault (follow.Follow existing.NotFound) = None
 end_fault (follow.Follow (existing.Find (find.ReferenceCreation error))) = None
-end_fault (follow.Follow (existing.Find (find.PackedOpen error))) = Some (Packed error)
-end_fault (follow.Follow (existing.Find find.ReadFileContents)) = Some Io
+end_fault (follow.Follow (existing.Find (find.PackedOpen error))) = Some (of_opening error)
+end_fault (follow.Follow (existing.Find find.ReadFileContents)) =
+    Some (ReferenceDecode find.ReadFileContents)
 end_fault (follow.Follow (existing.Find find.Memory)) = Some Memory
 end_fault follow.Memory = Some Memory
 
@@ -163,15 +147,7 @@ TestFault may_fail edit state (Refused why) =
 TestFault may_fail edit state (ReferenceDecode error) =
     TellsState edit.name state (Err error) × finds.MayTell may_fail error
 TestFault may_fail edit state Memory = Unit {0}
-TestFault may_fail edit state Io = ⊥
-TestFault may_fail edit state (Packed error) = ⊥
-TestFault may_fail edit state (PackedTransactionAcquire error) = ⊥
-TestFault may_fail edit state (PackedTransactionPrepare error) = ⊥
-TestFault may_fail edit state (PreprocessingFailed error) = ⊥
-TestFault may_fail edit state SamePlace = ⊥
-TestFault may_fail edit state LockAcquire = ⊥
-TestFault may_fail edit state (CreateOrUpdateRefLog error) = ⊥
-TestFault may_fail edit state (Resolve error) = ⊥
+TestFault may_fail edit state _ = ⊥
 
 -- ---- one edit, by what its name reads as and whether its log exists
 abbrev pub EditFault : Logging → Bool → Type 0 → RefEdit → PrepareError → Type 0
@@ -184,12 +160,7 @@ EditFault l stands may_fail edit (CreateOrUpdateRefLog error) =
 EditFault l stands may_fail edit LockAcquire = Unit {0}
 EditFault l stands may_fail edit Io = Unit {0}
 EditFault l stands may_fail edit Memory = Unit {0}
-EditFault l stands may_fail edit (Packed error) = ⊥
-EditFault l stands may_fail edit (PackedTransactionAcquire error) = ⊥
-EditFault l stands may_fail edit (PackedTransactionPrepare error) = ⊥
-EditFault l stands may_fail edit (PreprocessingFailed error) = ⊥
-EditFault l stands may_fail edit SamePlace = ⊥
-EditFault l stands may_fail edit (Resolve error) = ⊥
+EditFault l stands may_fail edit _ = ⊥
 
 -- one of the edits is refused
 abbrev pub SomeEditFault : Logging → Base → Tree → Type 0 → List RefEdit → PrepareError → Type 0
@@ -199,73 +170,73 @@ SomeEditFault l b tree may_fail edits error =
 
 -- ---- all edits
 
--- they aren't made ready: those of symbolic references aren't split, or two are of one name or place
-abbrev pub ReadyFault : (Bytes → RefState) → Base → Type 0 → List RefEdit → PrepareError → Type 0
-ReadyFault read b may_fail asked (PreprocessingFailed error) =
+-- they aren't made ready: those of symbolic references aren't split, two are of one name or path, a
+-- name isn't composed, or a path is none
+abbrev pub ReadyFault : (Bytes → RefState) → Base → Bool → Tree → Type 0 → List RefEdit → PrepareError
+    → Type 0
+ReadyFault read b composes tree may_fail asked (PreprocessingFailed error) =
     (edits : List RefEdit)
     × PreFault (Unit {0}) may_fail (λ name. points_at (read name)) asked edits error
-ReadyFault read b may_fail asked SamePlace =
-    (edits : List RefEdit) × AreSplit read asked edits × (has_twice (places_of b edits) ≡ true)
-ReadyFault read b may_fail asked Memory = Unit {0}
-ReadyFault read b may_fail asked Io = ⊥
-ReadyFault read b may_fail asked (Packed error) = ⊥
-ReadyFault read b may_fail asked (PackedTransactionAcquire error) = ⊥
-ReadyFault read b may_fail asked (PackedTransactionPrepare error) = ⊥
-ReadyFault read b may_fail asked LockAcquire = ⊥
-ReadyFault read b may_fail asked (Refused why) = ⊥
-ReadyFault read b may_fail asked (ReferenceDecode error) = ⊥
-ReadyFault read b may_fail asked (CreateOrUpdateRefLog error) = ⊥
-ReadyFault read b may_fail asked (Resolve error) = ⊥
+ReadyFault read b composes tree may_fail asked SamePlace =
+    (edits : List RefEdit) × AreSplit read asked edits × (has_twice (edit_paths b edits) ≡ true)
+ReadyFault read b composes tree may_fail asked Uncomposed =
+    (edits : List RefEdit) × AreSplit read asked edits × (are_known composes edits ≡ false)
+ReadyFault read b composes tree may_fail asked LockAcquire =
+    (edits : List RefEdit) × AreSplit read asked edits × ¬ AreLockable b tree edits
+ReadyFault read b composes tree may_fail asked Memory = Unit {0}
+ReadyFault read b composes tree may_fail asked _ = ⊥
 
--- packed records aren't locked, or no object is found whose id one is to hold
-abbrev pub of_repacking : RepackError → PrepareError
-of_repacking (repack.PackedTransactionAcquire error) = PackedTransactionAcquire error
-of_repacking (repack.PackedTransactionPrepare error) = PackedTransactionPrepare error
-of_repacking (repack.Resolve error) = Resolve error
-of_repacking repack.Memory = Memory
+-- the names or the paths of edits aren't allowed
+abbrev pub NotAllowed : Base → Bool → List RefEdit → PrepareError → Type 0
+NotAllowed b composes edits Uncomposed = are_known composes edits ≡ false
+NotAllowed b composes edits SamePlace = has_twice (edit_paths b edits) ≡ true
+NotAllowed b composes edits LockAcquire = list_all is_path (edit_paths b edits) ≡ false
+NotAllowed b composes edits Memory = Unit {0}
+NotAllowed b composes edits _ = ⊥
 
--- they aren't locked: packed records aren't, or an edit is refused, or two paths are one
+-- they aren't locked: packed records aren't, an edit is refused, or a lock can't be made
 abbrev pub LockFault : Logging → Base → Tree → Type 0 → List RefEdit → PrepareError → Type 0
 LockFault l b tree may_fail edits (PackedTransactionAcquire error) = Unit {0}
 LockFault l b tree may_fail edits (PackedTransactionPrepare error) = Unit {0}
 LockFault l b tree may_fail edits (Resolve error) = Unit {0}
-LockFault l b tree may_fail edits SamePlace =
-    (t : Option Transaction) × (moves : List Move) × (has_twice (paths_apart b t moves) ≡ true)
 LockFault l b tree may_fail edits (Refused why) =
     SomeEditFault l b tree may_fail edits (Refused why)
 LockFault l b tree may_fail edits (ReferenceDecode error) =
     SomeEditFault l b tree may_fail edits (ReferenceDecode error)
 LockFault l b tree may_fail edits (CreateOrUpdateRefLog error) =
     SomeEditFault l b tree may_fail edits (CreateOrUpdateRefLog error)
-LockFault l b tree may_fail edits LockAcquire = Unit {0}
+LockFault l b tree may_fail edits LockAcquire = ¬ AreLockable b tree edits
 LockFault l b tree may_fail edits Io = Unit {0}
 LockFault l b tree may_fail edits Memory = Unit {0}
-LockFault l b tree may_fail edits (Packed error) = ⊥
-LockFault l b tree may_fail edits (PreprocessingFailed error) = ⊥
+LockFault l b tree may_fail edits _ = ⊥
 
 -- packed references can't be opened
 abbrev pub OpenFault : Base → Tree → Type 0 → PrepareError → Type 0
 OpenFault b tree may_fail (Packed error) =
     FileFault b.kind (packed_text_in b tree) error × (error ≡ opening.Io → may_fail)
-OpenFault b tree may_fail (PackedTransactionAcquire error) = ⊥
-OpenFault b tree may_fail (PackedTransactionPrepare error) = ⊥
-OpenFault b tree may_fail (PreprocessingFailed error) = ⊥
-OpenFault b tree may_fail SamePlace = ⊥
-OpenFault b tree may_fail LockAcquire = ⊥
-OpenFault b tree may_fail Io = ⊥
-OpenFault b tree may_fail (Refused why) = ⊥
-OpenFault b tree may_fail (ReferenceDecode error) = ⊥
-OpenFault b tree may_fail (CreateOrUpdateRefLog error) = ⊥
-OpenFault b tree may_fail (Resolve error) = ⊥
-OpenFault b tree may_fail Memory = ⊥
+OpenFault b tree may_fail Memory = Unit {0}
+OpenFault b tree may_fail _ = ⊥
 
 -- why one isn't prepared if packed references are given
-abbrev pub GivenFault : Logging → Base → Tree → Type 0 → List RefEdit → PrepareError → Type 0
-GivenFault l b tree may_fail asked error =
-    ReadyFault l.read b may_fail asked error
+abbrev pub GivenFault : Logging → Base → Bool → Tree → Type 0 → List RefEdit → PrepareError → Type 0
+GivenFault l b composes tree may_fail asked error =
+    ReadyFault l.read b composes tree may_fail asked error
     ⊎ ((edits : List RefEdit) × AreSplit l.read asked edits × LockFault l b tree may_fail edits error)
 
 -- why a transaction of these edits isn't prepared
-abbrev pub PrepareFault : Logging → Base → Tree → Type 0 → List RefEdit → PrepareError → Type 0
-PrepareFault l b tree may_fail asked error =
-    OpenFault b tree may_fail error ⊎ GivenFault l b tree may_fail asked error
+abbrev pub PrepareFault : Logging → Base → Bool → Tree → Type 0 → List RefEdit → PrepareError
+    → Type 0
+PrepareFault l b composes tree may_fail asked error =
+    OpenFault b tree may_fail error ⊎ GivenFault l b composes tree may_fail asked error
+
+-- ---- no object is found whose id a record is to hold
+
+abbrev pub Unresolved : (PeelError → Type 0) → PrepareError → Type 0
+Unresolved Why (Resolve error) = Why error
+Unresolved Why _ = Unit {0}
+
+abbrev pub IfUnresolved : (Bytes → RefState) → (Id → PeelError → Type 0) → List RefEdit → PrepareError
+    → Type 0
+IfUnresolved read why asked (Resolve error) =
+    (edits : List RefEdit) × AreSplit read asked edits × SomeChangeFault why edits error
+IfUnresolved read why asked _ = Unit {0}

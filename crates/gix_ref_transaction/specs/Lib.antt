@@ -1,6 +1,8 @@
 pub mod Asked
 pub mod Found
 pub mod Paths
+pub mod Locking
+pub mod Errors
 pub mod Alike
 pub mod Plans
 pub mod LogLines

@@ -12,18 +12,20 @@ use Rattle.gix_ref_edit.specs.declared.log.RefLog.{RefLog}
 use Rattle.gix_ref_edit.specs.declared.log.RefLog.TheVariants.{AndReference, Only}
 use Rattle.gix_ref_edit.specs.Splits.{Splits}
 use Rattle.gix_ref_format.specs.Lookup.{packed_key}
+use Rattle.gix_ref_lock.specs.Locks.{lock_of}
 use Rattle.gix_ref_format.specs.Loose.{loose_text}
 use Rattle.gix_ref_store.specs.Finds.{TellsState}
 use Rattle.gix_ref_store.specs.Places.{Base, place, log_place}
 use Rattle.gix_ref_store.specs.RefStates.{RefState}
 use Rattle.gix_ref_store.specs.declared.reference.Reference.{Reference}
-use Rattle.gix_ref_way.specs.Ways.{Bytes, file_at}
+use Rattle.gix_ref_way.specs.Ways.{Bytes, FoldersOnlyOf, file_at}
 use Rattle.gix_ref_moves.specs.Contents.{place_of, log_path_of, lock_path_of}
 use Rattle.gix_ref_moves.specs.declared.act.Act.{Act}
 use Rattle.gix_ref_moves.specs.declared.act.Act.TheVariants as acts
 use Rattle.gix_ref_moves.specs.declared.act.Move.{Move}
 use Rattle.gix_ref_transaction.specs.Asked.{MeetsOf, points_of}
 use Rattle.gix_ref_transaction.specs.Found.{points_at}
+use Rattle.gix_ref_transaction.specs.Paths.{places_of}
 
 -- the name reads as this, which passes the edit's test
 abbrev pub IsFoundSo : RefEdit → RefState → Option Reference → Type 0
@@ -71,6 +73,7 @@ IsActOf removes name (Delete expected mode) act = IsDeletionBy mode act
 pub record IsPlanOf (b : Base) (removes : Bool) (edit : RefEdit) (made : Move) : Type 0 where
   pub full : IsTrue (is_full_name edit.name)
   pub file : place_of made ≡ place b edit.name
+  pub lock : lock_path_of made ≡ lock_of (place b edit.name)
   pub log : log_path_of made ≡ log_place b edit.name
   pub act : IsActOf removes edit.name edit.change made.act
 
@@ -97,6 +100,12 @@ KeepsFiles old new = (path text : Bytes) → file_at old path ≡ Some text → 
 abbrev pub AreSplit : (List ℕ → RefState) → List RefEdit → List RefEdit → Type 0
 AreSplit read asked edits = (places : List ℕ) × Splits (λ name. points_at (read name)) asked edits places
 
+-- folders came only above the files of these edits, those of symbolic references split, and went only
+-- at them or below
+abbrev pub FoldersOfEdits : (List ℕ → RefState) → Base → List RefEdit → Tree → Tree → Type 0
+FoldersOfEdits read b asked old tree =
+    (edits : List RefEdit) × AreSplit read asked edits × FoldersOnlyOf (places_of b edits) old tree
+
 -- what each name reads as passes its test
 abbrev pub AllTested : (List ℕ → RefState) → List RefEdit → Type 0
 AllTested read edits = AllByRecursion (λ edit. IsTested edit (read edit.name)) edits
@@ -108,7 +117,3 @@ AllPlanned b removes edits moves = AllZip (IsPlanOf b removes) edits moves
 abbrev pub AllHold : Tree → List RefEdit → List Move → Type 0
 AllHold tree edits moves =
     AllZip (λ edit made. HoldsText edit.change made.act (lock_path_of made) tree) edits moves
-
--- none of these locks exists
-abbrev pub LocksGone : List Move → Tree → Type 0
-LocksGone moves tree = AllByRecursion (λ made. file_at tree (lock_path_of made) ≡ None) moves

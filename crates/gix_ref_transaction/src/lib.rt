@@ -5,6 +5,7 @@
 mod asked;
 mod error;
 mod finder;
+mod known;
 mod lines;
 mod once;
 mod plan;

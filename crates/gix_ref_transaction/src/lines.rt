@@ -89,7 +89,9 @@ fn is_logged<F: Files>(
             }
             match store.reflog_exists(alloc, name) {
                 Ok(found) => Ok(found),
-                Err(log::Error::Io(_)) => Err(PrepareError::Io),
+                Err(log::Error::Io(_)) => Err(PrepareError::ReferenceDecode(
+                    find::Error::ReadFileContents,
+                )),
                 Err(log::Error::Memory) => Err(PrepareError::Memory),
             }
         }
@@ -140,10 +142,10 @@ fn none_reached(error: follow::Error, null: ObjectId) -> Result<ObjectId, Prepar
         follow::Error::Follow(ExistingError::NotFound) => Ok(null),
         follow::Error::Follow(ExistingError::Find(find::Error::ReferenceCreation(_))) => Ok(null),
         follow::Error::Follow(ExistingError::Find(find::Error::PackedOpen(error))) => {
-            Err(PrepareError::Packed(error))
+            Err(PrepareError::from(error))
         }
         follow::Error::Follow(ExistingError::Find(find::Error::ReadFileContents)) => {
-            Err(PrepareError::Io)
+            Err(PrepareError::ReferenceDecode(find::Error::ReadFileContents))
         }
         follow::Error::Follow(ExistingError::Find(find::Error::Memory)) => {
             Err(PrepareError::Memory)

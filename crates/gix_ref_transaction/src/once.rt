@@ -1,98 +1,74 @@
-//! Whether paths are all different.
+//! The paths that edits concern: whether they are ones, and all different.
 
 ghost use Rattle.std.specs.Prelude.{◌≡◌, ◌++◌, IfOk, OnOk, map};
-ghost use Rattle.gix_ref_moves.specs.Moves.{all_paths};
-ghost use Rattle.gix_ref_transaction.specs.Paths as spec;
-ghost use Rattle.gix_ref_transaction.specs.Paths.{bytes_of, has_twice};
+ghost use Rattle.std.specs.List.{list_all};
+ghost use Rattle.gix_ref_file.specs.Tree as tree;
+ghost use Rattle.gix_ref_lock.specs.Locks.{lock_of};
 ghost use Rattle.gix_ref_store.specs.Stores.{base_of};
+ghost use Rattle.gix_ref_transaction.specs.Paths.{bytes_of, edit_paths, has_twice, name_paths};
 
 use gix_ref_edit::RefEdit;
 use gix_ref_file::Files;
-use gix_ref_lock::packed::Transaction;
-use gix_ref_moves::Move;
+use gix_ref_file::paths::is_path;
 use gix_ref_store::store::file::Store;
 use std::alloc::{AllocError, Global};
 use std::collections::BTreeSet;
 
-// Returns whether two edits have the same place.
-pub(crate) fn share_place<F: Files>(
-    alloc: Global,
-    store: &Store<F>,
-    edits: &[RefEdit],
-) -> Result<bool, AllocError>
-    ensures { IfOk result (λ twice. twice ≡ has_twice (spec.places_of (base_of store.now) edits.now)) }
-{
-    let places = places_of(alloc, store, edits)?;
-    have_twice(alloc, &places)
-}
-
-// Returns the paths of the files of the edits' names.
-fn places_of<F: Files>(
+// Returns the paths that the edits concern, and those of packed records and of their lock.
+pub(crate) fn paths_of<F: Files>(
     alloc: Global,
     store: &Store<F>,
     edits: &[RefEdit],
 ) -> Result<Vec<Vec<u8>>, AllocError>
-    ensures { IfOk result (λ places. map bytes_of places.items
-        ≡ spec.places_of (base_of store.now) edits.now) }
-{
-    let mut places = Vec::new(alloc);
-    for edit in edits {
-        places.push(store.reference_path(alloc, edit.name.as_ref())?)?;
-    }
-    Ok(places)
-}
-
-// Returns whether two of the paths that a commit concerns are equal, or one of the moves' is that
-// of packed records.
-pub(crate) fn stand_twice<F: Files>(
-    alloc: Global,
-    store: &Store<F>,
-    moves: &[Move],
-    packed: &Option<Transaction>,
-) -> Result<bool, AllocError>
-    ensures { IfOk result (λ twice.
-        twice ≡ has_twice (spec.paths_apart (base_of store.now) packed.now moves.now)) }
-{
-    let mut paths = paths_of_records(alloc, store, packed)?;
-    add_paths(alloc, moves, &mut paths)?;
-    have_twice(alloc, &paths)
-}
-
-// Returns the path of packed records, and that of their lock if it is held.
-fn paths_of_records<F: Files>(
-    alloc: Global,
-    store: &Store<F>,
-    packed: &Option<Transaction>,
-) -> Result<Vec<Vec<u8>>, AllocError>
-    ensures { IfOk result (λ paths.
-        map bytes_of paths.items ≡ spec.records_paths (base_of store.now) packed.now) }
+    ensures { IfOk result (λ paths. map bytes_of paths.items ≡ edit_paths (base_of store.now) edits.now) }
 {
     let mut paths = Vec::new(alloc);
-    match packed {
-        Some(packed) => {
-            paths.push(packed.lock().place.to_vec(alloc)?)?;
-            paths.push(packed.lock().path.to_vec(alloc)?)?;
-        }
-        None => paths.push(store.packed_refs_path(alloc)?)?,
-    }
+    let place = store.packed_refs_path(alloc)?;
+    let lock = lock_path(alloc, &place)?;
+    paths.push(place)?;
+    paths.push(lock)?;
+    add_paths(alloc, store, edits, &mut paths)?;
     Ok(paths)
 }
 
-// Adds the paths of the moves.
-fn add_paths(alloc: Global, moves: &[Move], paths: &mut Vec<Vec<u8>>) -> Result<(), AllocError>
-    ensures { OnOk result
-        (map bytes_of paths.new.items ≡ map bytes_of paths.old.items ++ all_paths moves.now) }
+// Adds the paths of the edits.
+fn add_paths<F: Files>(
+    alloc: Global,
+    store: &Store<F>,
+    edits: &[RefEdit],
+    paths: &mut Vec<Vec<u8>>,
+) -> Result<(), AllocError>
+    ensures { OnOk result (map bytes_of paths.new.items
+        ≡ map bytes_of paths.old.items ++ name_paths (base_of store.now) edits.now) }
 {
-    for made in moves {
-        paths.push(made.lock.place.to_vec(alloc)?)?;
-        paths.push(made.lock.path.to_vec(alloc)?)?;
-        paths.push(made.log.to_vec(alloc)?)?;
+    for edit in edits {
+        let place = store.reference_path(alloc, edit.name.as_ref())?;
+        let lock = lock_path(alloc, &place)?;
+        paths.push(place)?;
+        paths.push(lock)?;
+        paths.push(store.reflog_path(alloc, edit.name.as_ref())?)?;
     }
     Ok(())
 }
 
+// Returns the path of a place's lock.
+fn lock_path(alloc: Global, place: &[u8]) -> Result<Vec<u8>, AllocError>
+    ensures { IfOk result (λ path. path.items ≡ lock_of place.now) }
+{
+    let mut path = place.to_vec(alloc)?;
+    path.extend_from_slice(b".lock")?;
+    Ok(path)
+}
+
+// Returns whether each of them is a path.
+pub(crate) fn are_paths(paths: &[Vec<u8>]) -> bool
+    ensures { result ≡ list_all (λ path. tree.is_path path.items) paths.now }
+{
+    paths.iter().all(|path| is_path(path))
+}
+
 // Returns whether a path occurs twice.
-fn have_twice(alloc: Global, paths: &[Vec<u8>]) -> Result<bool, AllocError>
+pub(crate) fn have_twice(alloc: Global, paths: &[Vec<u8>]) -> Result<bool, AllocError>
     ensures { IfOk result (λ twice. twice ≡ has_twice (map bytes_of paths.now)) }
 {
     let mut seen = BTreeSet::new(alloc);

@@ -1,21 +1,23 @@
 //! What becomes of one reference: its lock is made, what it is is tested, and its new text is written into the lock.
 
-ghost use Rattle.std.specs.Prelude.{◌≡◌, ◌≤◌, ◌⊎◌, [], ◌∷◌, false, None, Some, Ok, Err, IfErr, IfOk, IsTrue, OnOk};
+ghost use Rattle.std.specs.Prelude.{◌≡◌, ◌≤◌, ◌⊎◌, ℕ, [], ◌∷◌, false, None, Some, Ok, IfErr, IfOk, IsErrOf, IsTrue, OnOk};
 ghost use Rattle.gix_object_lines.specs.NameTest.{is_full_name};
-ghost use Rattle.gix_ref_file.specs.Calls.{Achieves, Passes};
-ghost use Rattle.gix_ref_file.specs.Changes.{is_file_at};
-ghost use Rattle.gix_ref_file.specs.History.{HasRisen};
-ghost use Rattle.gix_ref_file.specs.Tree.{file, node_at};
-ghost use Rattle.gix_ref_file.specs.declared.files.FileError.TheVariants as file_case;
+ghost use Rattle.gix_ref_file.specs.Calls.{Passes};
+ghost use Rattle.gix_ref_file.specs.Changes.{is_file_at, may_hold_file};
+ghost use Rattle.gix_ref_file.specs.Tree.{file, is_path, node_at};
 ghost use Rattle.gix_ref_name.specs.Targets.{target_view};
 ghost use Rattle.gix_ref_format.specs.Loose.{loose_text};
 ghost use Rattle.gix_ref_store.specs.Lookups.{reads_with};
+ghost use Rattle.gix_ref_store.specs.Places.{place};
 ghost use Rattle.gix_ref_store.specs.Stores.{base_of};
 ghost use Rattle.gix_ref_lock.specs.Locks.{lock_of, OthersStay};
-ghost use Rattle.gix_ref_way.specs.Ways.{file_at};
-ghost use Rattle.gix_ref_moves.specs.Contents.{lock_path_of};
+ghost use Rattle.gix_ref_way.specs.Ways.{file_at, FoldersOnlyOf, HasWay, SameFiles, SameFolders};
+ghost use Rattle.gix_ref_moves.specs.Contents.{lock_path_of, place_of};
 ghost use Rattle.gix_ref_moves.specs.Moments.{SameButLocks};
 ghost use Rattle.gix_ref_transaction.specs.Causes.{EditFault, TestFault};
+ghost use Rattle.gix_ref_transaction.specs.Errors.{Counts, IsAfter, IsOfEdit, MayBeLeft, TakeFault, after_giving};
+ghost use Rattle.gix_ref_transaction.specs.Errors as errors;
+ghost use Rattle.gix_ref_transaction.specs.Locking.{ArePaths, IsLockable};
 ghost use Rattle.gix_ref_transaction.specs.LogLines.{IsLineOf, has_log, line_in, logging};
 ghost use Rattle.gix_ref_repacking.specs.Modes.{removes};
 ghost use Rattle.gix_ref_transaction.specs.Plans as spec;
@@ -28,17 +30,17 @@ use crate::error::PrepareError;
 use crate::lines::line_of;
 use gix_object_lines::lines::ActorRef;
 use gix_ref_edit::{Change, RefEdit, RefLog};
-use gix_ref_file::{FileError, Files};
+use gix_ref_file::Files;
 use gix_ref_format::lookup::key_of;
 use gix_ref_format::loose;
 use gix_ref_format::packed::Buffer;
-use gix_ref_lock::lock::{Lock, acquire};
+use gix_ref_lock::lock::{GivenBack, Lock, acquire};
 use gix_ref_moves::{Act, Move};
 use gix_ref_name::Target;
 use gix_ref_repacking::PackedRefs;
 use gix_ref_store::Reference;
-use gix_ref_store::store::file::Store;
-use gix_ref_way::make_way;
+use gix_ref_store::store::file::{Store, find};
+use gix_ref_way::{Way, try_make_way};
 use std::alloc::Global;
 
 // Locks a reference, tests it, and returns what becomes of its files. After an error its lock is
@@ -51,11 +53,14 @@ pub(crate) fn plan<F: Files, O>(
     committer: Option<ActorRef<'_>>,
     packed_refs: &PackedRefs<'_, O>,
 ) -> Result<Move, PrepareError>
+    requires { ArePaths (place (base_of store.old) edit.now.name) }
     ensures honest { F.is_honest store.old.files → F.is_honest store.new.files }
     ensures base { base_of store.new ≡ base_of store.old }
     ensures options { store.new.options ≡ store.old.options }
     ensures full { IsTrue (is_full_name edit.now.name) }
     ensures moments { Passes F.is_honest F.history store.old.files store.new.files SameButLocks }
+    ensures folders { Passes F.is_honest F.history store.old.files store.new.files
+        (FoldersOnlyOf (place (base_of store.old) edit.now.name ∷ [])) }
     ensures tested { F.is_honest store.old.files → IfOk result (λ _. IsTested edit.now
         (reads_with store.old (F.history store.old.files).tree packed.entry edit.now.name)) }
     ensures planned { IfOk result (IsPlanOf (base_of store.old) (removes packed_refs.now) edit.now) }
@@ -69,6 +74,10 @@ pub(crate) fn plan<F: Files, O>(
         let l = logging store.old.options (reads_with store.old tree packed.entry) committer.entry in
         IfErr result (EditFault l (has_log (base_of store.old) tree edit.now.name)
         F.reading_may_fail edit.now) }
+    ensures refused { F.is_honest store.old.files → IsErrOf result LockAcquire
+        → ¬ IsLockable (F.history store.old.files).tree (place (base_of store.old) edit.now.name) }
+    ensures counted { F.is_honest store.old.files
+        → IfErr result (Counts (F.failures store.old.files) (F.failures store.new.files)) }
     ensures later { F.failures store.old.files ≤ F.failures store.new.files }
     ensures unfailed { IfOk result (λ _. F.failures store.new.files ≡ F.failures store.old.files) }
     ensures rolled_back { F.is_honest store.old.files → IfErr result (λ error.
@@ -76,8 +85,12 @@ pub(crate) fn plan<F: Files, O>(
         (F.history store.old.files).tree (F.history store.new.files).tree error) }
     ensures locked { F.is_honest store.old.files → IfOk result (λ made. MoreFilesAt
         (lock_path_of made ∷ []) (F.history store.old.files).tree (F.history store.new.files).tree) }
-    ensures keeps { Achieves F.is_honest F.history store.old.files store.new.files result
-        KeepsFiles }
+    ensures held { F.is_honest store.old.files → IfOk result (λ made.
+        IsTrue (is_file_at (F.history store.new.files).tree (lock_path_of made))) }
+    ensures room { F.is_honest store.old.files → IfOk result (λ made.
+        IsTrue (may_hold_file (F.history store.new.files).tree (place_of made))) }
+    ensures keeps { F.is_honest store.old.files
+        → KeepsFiles (F.history store.old.files).tree (F.history store.new.files).tree }
 {
     let place = store.reference_path(alloc, edit.name.as_ref())?;
     let log = store.reflog_path(alloc, edit.name.as_ref())?;
@@ -88,7 +101,7 @@ pub(crate) fn plan<F: Files, O>(
     }
 }
 
-// Gives the lock of an edit back that isn't planned, and returns the error, or `Memory`.
+// Gives the lock of an edit back that isn't planned, and returns why it isn't.
 fn unplanned<F: Files>(
     alloc: Global,
     files: &mut F,
@@ -99,63 +112,101 @@ fn unplanned<F: Files>(
     ensures later { F.failures files.old ≤ F.failures files.new }
     ensures moments { Passes F.is_honest F.history files.old files.new
         (OthersStay lock.now.path.items) }
-    ensures told { (result ≡ error) ⊎ (result ≡ Memory) }
+    ensures folders { Passes F.is_honest F.history files.old files.new SameFolders }
+    ensures told { IsAfter F.reading_may_fail error result }
+    ensures counted { (before : ℕ) → F.is_honest files.old → before ≤ F.failures files.old
+        → IsOfEdit error → Counts before (F.failures files.old) error
+        → Counts before (F.failures files.new) result }
     ensures rolled_back { F.is_honest files.old
-        → (is_file_at (F.history files.new).tree lock.now.path.items ≡ false)
-        ⊎ (HasRisen (F.failures files.old) (F.failures files.new) ⊎ (result ≡ Memory)) }
+        → (is_file_at (F.history files.new).tree lock.now.path.items ≡ false) ⊎ MayBeLeft result }
 {
-    match lock.give_back(alloc, files) {
-        Ok(()) => error,
-        Err(FileError::Failed) => error,
-        Err(FileError::Memory) => PrepareError::Memory,
+    let outcome = lock.withdraw(alloc, files);
+    afterwards(outcome, error)
+}
+
+// Returns why edits aren't prepared, if it was this error before their locks were given back so.
+pub(crate) fn afterwards(outcome: GivenBack, error: PrepareError) -> PrepareError
+    ensures { result ≡ after_giving outcome error }
+{
+    match outcome {
+        GivenBack::Done => error,
+        GivenBack::Failed => PrepareError::Io,
+        GivenBack::Memory => unless_failed(error, PrepareError::Memory),
+        GivenBack::Unread => unless_failed(
+            error,
+            PrepareError::ReferenceDecode(find::Error::ReadFileContents),
+        ),
+    }
+}
+
+// Returns `Io` if the error is that, and else the other.
+fn unless_failed(error: PrepareError, other: PrepareError) -> PrepareError
+    ensures { result ≡ errors.unless_failed error other }
+{
+    match error {
+        PrepareError::Io => PrepareError::Io,
+        _ => other,
     }
 }
 
 // Makes room for a file, and its lock.
 fn take<F: Files>(alloc: Global, files: &mut F, place: &[u8]) -> Result<Lock, PrepareError>
+    requires { ArePaths place.now }
     ensures honest { F.is_honest files.old → F.is_honest files.new }
     ensures moments { Passes F.is_honest F.history files.old files.new SameButLocks }
+    ensures folders { Passes F.is_honest F.history files.old files.new
+        (FoldersOnlyOf (place.now ∷ [])) }
     ensures place { IfOk result (λ lock. lock.place.items ≡ place.now) }
     ensures free { F.is_honest files.old → OnOk result
         (file_at (F.history files.old).tree (lock_of place.now) ≡ None) }
-    ensures keeps { Achieves F.is_honest F.history files.old files.new result KeepsFiles }
+    ensures keeps { F.is_honest files.old
+        → KeepsFiles (F.history files.old).tree (F.history files.new).tree }
     ensures later { F.failures files.old ≤ F.failures files.new }
     ensures unfailed { IfOk result (λ _. F.failures files.new ≡ F.failures files.old) }
+    ensures counted { F.is_honest files.old
+        → IfErr result (Counts (F.failures files.old) (F.failures files.new)) }
     ensures rolled_back { F.is_honest files.old → IfErr result (λ error. IsRolledBack
         (F.failures files.old) (F.failures files.new) (F.history files.old).tree
         (F.history files.new).tree error) }
     ensures locked { F.is_honest files.old → IfOk result (λ _. MoreFilesAt
         (lock_of place.now ∷ []) (F.history files.old).tree (F.history files.new).tree) }
-    ensures failed { IfErr result (λ error. (error ≡ LockAcquire) ⊎ (error ≡ Memory)) }
+    ensures held { F.is_honest files.old → OnOk result
+        (IsTrue (is_file_at (F.history files.new).tree (lock_of place.now))) }
+    ensures room { F.is_honest files.old → OnOk result
+        (IsTrue (may_hold_file (F.history files.new).tree place.now)) }
+    ensures refused { F.is_honest files.old → IsErrOf result LockAcquire
+        → ¬ IsLockable (F.history files.old).tree place.now }
+    ensures failed { IfErr result (TakeFault F.reading_may_fail) }
 {
-    told(make_way(alloc, files, place), PrepareError::LockAcquire)?;
-    held(acquire(alloc, files, place))
-}
-
-// Returns this error if a call of the files failed.
-fn told(outcome: Result<(), FileError>, why: PrepareError) -> Result<(), PrepareError>
-    ensures ok { OnOk result (outcome ≡ Ok tt) }
-    ensures failed { IfErr result (λ error. (error ≡ why) ⊎ (error ≡ Memory)) }
-{
-    match outcome {
-        Ok(()) => Ok(()),
-        Err(FileError::Failed) => Err(why),
-        Err(FileError::Memory) => Err(PrepareError::Memory),
+    clear(alloc, files, place)?;
+    let made = acquire(alloc, files, place)?;
+    match made {
+        Some(lock) => Ok(lock),
+        None => Err(PrepareError::LockAcquire),
     }
 }
 
-// Returns the lock that was made, or `LockAcquire` if none was.
-fn held(made: Result<Option<Lock>, FileError>) -> Result<Lock, PrepareError>
-    ensures ok { IfOk result (λ lock. made ≡ Ok (Some lock)) }
-    ensures none { IfErr result (λ error. (error ≡ Memory)
-        ⊎ ((made ≡ Ok None) ⊎ (made ≡ Err file_case.Failed))) }
-    ensures failed { IfErr result (λ error. (error ≡ LockAcquire) ⊎ (error ≡ Memory)) }
+// Makes room for a file.
+fn clear<F: Files>(alloc: Global, files: &mut F, place: &[u8]) -> Result<(), PrepareError>
+    requires { IsTrue (is_path place.now) }
+    ensures honest { F.is_honest files.old → F.is_honest files.new }
+    ensures moments { Passes F.is_honest F.history files.old files.new SameFiles }
+    ensures folders { Passes F.is_honest F.history files.old files.new
+        (FoldersOnlyOf (place.now ∷ [])) }
+    ensures later { F.failures files.old ≤ F.failures files.new }
+    ensures unfailed { OnOk result (F.failures files.new ≡ F.failures files.old) }
+    ensures counted { F.is_honest files.old
+        → IfErr result (Counts (F.failures files.old) (F.failures files.new)) }
+    ensures room { F.is_honest files.old → OnOk result
+        (IsTrue (may_hold_file (F.history files.new).tree place.now)) }
+    ensures refused { F.is_honest files.old → IsErrOf result LockAcquire
+        → ¬ HasWay place.now (F.history files.old).tree }
+    ensures failed { IfErr result (TakeFault F.reading_may_fail) }
 {
-    match made {
-        Ok(Some(lock)) => Ok(lock),
-        Ok(None) => Err(PrepareError::LockAcquire),
-        Err(FileError::Failed) => Err(PrepareError::LockAcquire),
-        Err(FileError::Memory) => Err(PrepareError::Memory),
+    match try_make_way(alloc, files, place)? {
+        Way::Free => Ok(()),
+        Way::Blocked => Err(PrepareError::LockAcquire),
+        Way::Unread => Err(PrepareError::ReferenceDecode(find::Error::ReadFileContents)),
     }
 }
 
@@ -181,6 +232,14 @@ fn act_of<F: Files, O>(
     ensures text { F.is_honest store.old.files → IfOk result (λ act. HoldsText edit.now.change act
         lock.now.path.items (F.history store.new.files).tree) }
     ensures options { store.new.options ≡ store.old.options }
+    ensures folders { Passes F.is_honest F.history store.old.files store.new.files SameFolders }
+    ensures held { F.is_honest store.old.files
+        → IsTrue (is_file_at (F.history store.old.files).tree lock.now.path.items)
+        → OnOk result (IsTrue (is_file_at (F.history store.new.files).tree lock.now.path.items)) }
+    ensures locked { F.is_honest store.old.files → ¬ IsErrOf result LockAcquire }
+    ensures counted { F.is_honest store.old.files
+        → IsTrue (is_file_at (F.history store.old.files).tree lock.now.path.items)
+        → IfErr result (Counts (F.failures store.old.files) (F.failures store.new.files)) }
     ensures line { F.is_honest store.old.files → let tree = (F.history store.old.files).tree in
         let l = logging store.old.options (reads_with store.old tree packed.entry) committer.entry in
         let name = edit.now.name in IfOk result (λ act.
@@ -243,6 +302,13 @@ fn update_by<F: Files>(
     ensures text { F.is_honest files.old → IfOk result (λ act. IsPut act
         → node_at (F.history files.new).tree lock.now.path.items
         ≡ Some (file (loose_text (target_view new.now)))) }
+    ensures folders { Passes F.is_honest F.history files.old files.new SameFolders }
+    ensures held { F.is_honest files.old
+        → IsTrue (is_file_at (F.history files.old).tree lock.now.path.items)
+        → OnOk result (IsTrue (is_file_at (F.history files.new).tree lock.now.path.items)) }
+    ensures counted { F.is_honest files.old
+        → IsTrue (is_file_at (F.history files.old).tree lock.now.path.items)
+        → IfErr result (Counts (F.failures files.old) (F.failures files.new)) }
     ensures failed { IfErr result (λ error. (error ≡ Io) ⊎ (error ≡ Memory)) }
 {
     match log {
@@ -291,9 +357,14 @@ fn fill<F: Files>(
     ensures filled { F.is_honest files.old → OnOk result
         (node_at (F.history files.new).tree lock.now.path.items
         ≡ Some (file (loose_text (target_view target.now)))) }
+    ensures folders { Passes F.is_honest F.history files.old files.new SameFolders }
+    ensures counted { F.is_honest files.old
+        → IsTrue (is_file_at (F.history files.old).tree lock.now.path.items)
+        → IfErr result (Counts (F.failures files.old) (F.failures files.new)) }
     ensures failed { IfErr result (λ error. (error ≡ Io) ⊎ (error ≡ Memory)) }
 {
     let mut text = Vec::new(alloc);
     loose::write(target.to_ref(), &mut text)?;
-    told(lock.fill(alloc, files, &text), PrepareError::Io)
+    lock.fill(alloc, files, &text)?;
+    Ok(())
 }

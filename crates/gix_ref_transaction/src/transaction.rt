@@ -1,44 +1,52 @@
 //! Transactions: prepared, and then committed or rolled back.
 
-ghost use Rattle.std.specs.Prelude.{◌≡◌, ◌≤◌, ◌⊎◌, [], Bool, true, false, Option, option_map, Ok, Err, IfErr, IfOk, IfSome, OnOk};
+ghost use Rattle.std.specs.Prelude.{◌≡◌, ◌≤◌, ◌⊎◌, ◌≢◌, ℕ, [], Bool, true, false, Option, option_map, Ok, IfErr, IfOk, IfSome, IsErrOf, IsTrue, OnOk};
+ghost use Rattle.std.specs.List.{AllByRecursion, list_all};
 ghost use Rattle.gix_object_lookup.specs.Table.{Table};
 ghost use Rattle.gix_ref_file.specs.History.{Adds, HasRisen};
-ghost use Rattle.gix_ref_file.specs.Tree.{Tree};
+ghost use Rattle.gix_ref_file.specs.Tree.{Tree, is_path};
+ghost use Rattle.gix_ref_file.specs.Changes.{is_file_at, may_hold_file};
 ghost use Rattle.gix_ref_file.specs.Calls.{Achieves, HasFault, Passes};
-ghost use Rattle.gix_ref_file.specs.declared.files.FileError.TheVariants as file_case;
 ghost use Rattle.gix_ref_way.specs.Ways.{FoldersOnlyOf, SameFolders};
-ghost use Rattle.gix_ref_lock.specs.declared.packed.CommitError.TheVariants as packed_case;
 ghost use Rattle.gix_ref_edit.specs.Names.{AllOnce, names_of};
 ghost use Rattle.gix_ref_format.specs.PackedBuffer.{KeepsFile};
 ghost use Rattle.gix_ref_format.specs.PackedKept.{kept};
 ghost use Rattle.gix_ref_store.specs.Lookups.{reads_with};
-ghost use Rattle.gix_ref_store.specs.Places.{Base};
+ghost use Rattle.gix_ref_store.specs.Places.{Base, place};
 ghost use Rattle.gix_ref_store.specs.RefStates.{packed_text_in, ref_state};
 ghost use Rattle.gix_ref_store.specs.Stores.{base_of};
+ghost use Rattle.gix_ref_lock.specs.declared.lock.GivenBack.TheVariants as given;
+ghost use Rattle.gix_ref_moves.specs.Contents.{lock_path_of, place_of};
 ghost use Rattle.gix_ref_moves.specs.Moments.{NoFileMore, SameButLocks};
-ghost use Rattle.gix_ref_moves.specs.Needs.{CanCommit, IsOutOfMemory, log_paths};
+ghost use Rattle.gix_ref_moves.specs.Needs.{AreBeside, CanCommit, IsOutOfMemory, log_paths};
 ghost use Rattle.gix_ref_moves.specs.Committing.{IsCommitted, OnTheWay, commit_paths};
-ghost use Rattle.gix_ref_transaction.specs.Alike.{ReadsAlike};
-ghost use Rattle.gix_ref_transaction.specs.Causes.{GivenFault, LockFault, PrepareFault, ReadyFault, SomeEditFault};
-ghost use Rattle.gix_ref_transaction.specs.LogLines.{AllLined, logging};
 ghost use Rattle.gix_ref_repacking.specs.Modes.{objects_in, removes};
-ghost use Rattle.gix_ref_transaction.specs.Paths.{has_twice, paths_apart};
-ghost use Rattle.gix_ref_transaction.specs.Plans.{AllHold, AllPlanned, AllTested, AreSplit, KeepsFiles, LocksGone};
-ghost use Rattle.gix_ref_transaction.specs.Reads.{AllGiveKind, AllReadBack, IsAsPrepared, prepared_of, ReadsEdited, ReadsOnWay};
 ghost use Rattle.gix_ref_repacking.specs.Repacking.{AreRepacked};
-ghost use Rattle.gix_ref_transaction.specs.Rollback.{AllGone, FailsForMemory, FailsShort, IsDropped, IsRolledBack, MoreFilesAt, PackedGone, lock_paths};
-ghost use Rattle.gix_ref_transaction.specs.declared.error.PrepareError.TheVariants.{Memory, SamePlace};
+ghost use Rattle.gix_ref_repacking.specs.Resolving.{PackFault, SomeChangeFault};
+ghost use Rattle.gix_ref_transaction.specs.Alike.{ReadsAlike};
+ghost use Rattle.gix_ref_transaction.specs.Causes.{GivenFault, IfUnresolved, LockFault, NotAllowed, PrepareFault, ReadyFault, SomeEditFault, Unresolved};
+ghost use Rattle.gix_ref_transaction.specs.Errors.{Counts, IsAfter, IsOfEdit, IsOfRecords, MayBeLeft};
+ghost use Rattle.gix_ref_transaction.specs.Locking.{AreHeld, AreRecordsLockable, HaveRoom, IsLockable, RecordsHeld, are_known};
+ghost use Rattle.gix_ref_transaction.specs.LogLines.{AllLined, logging};
+ghost use Rattle.gix_ref_transaction.specs.Paths.{edit_paths, has_twice, name_paths, places_of};
+ghost use Rattle.gix_ref_transaction.specs.Plans.{AllHold, AllPlanned, AllTested, AreSplit, FoldersOfEdits, KeepsFiles};
+ghost use Rattle.gix_ref_transaction.specs.Reads.{AllGiveKind, AllReadBack, IsAsPrepared, prepared_of, ReadsEdited, ReadsOnWay};
+ghost use Rattle.gix_ref_transaction.specs.Rollback.{AllGone, FailsStaying, IsRolledBack, MoreFilesAt, PackedGone, SameFilesBut, all_locks, lock_paths, of_giving};
+ghost use Rattle.gix_ref_transaction.specs.Rollback as rolls;
+ghost use Rattle.gix_ref_transaction.specs.declared.error.PrepareError.TheVariants.{LockAcquire};
 
 use crate::error::PrepareError;
 use crate::finder::Names;
-use crate::once::{share_place, stand_twice};
-use crate::plan::plan;
+use crate::known::are_known;
+use crate::once::{are_paths, have_twice, paths_of};
+use crate::plan::{afterwards, plan};
 use crate::targets::targets_are_read;
 use gix_object_lines::lines::ActorRef;
 use gix_object_lookup::FindInto;
 use gix_ref_edit::{RefEdit, RefEditsExt};
-use gix_ref_file::{FileError, Files};
+use gix_ref_file::Files;
 use gix_ref_format::packed::Buffer;
+use gix_ref_lock::lock::GivenBack;
 use gix_ref_lock::packed;
 use gix_ref_moves::commit::{commit, give_back_all};
 use gix_ref_moves::{CommitError, Move};
@@ -62,14 +70,16 @@ pub struct Transaction {
 /// object; a tag's has also the id that the tag leads to. In the last mode the own files of these
 /// go with [`Transaction::commit`].
 ///
-/// Returns `PreprocessingFailed` if symbolic references lead too far or a name has two edits,
-/// `SamePlace` if two edits concern one file, or one concerns that of packed references,
-/// `LockAcquire` if a lock exists or a file is in its way, `Refused` if a reference isn't as its
-/// edit expects, `ReferenceDecode` if it can't be read, `CreateOrUpdateRefLog` if a line for its
-/// log can't be made, `Packed`, `PackedTransactionAcquire` and `PackedTransactionPrepare` if packed
-/// references can't be opened, locked or written, `Resolve` if no object is found whose id a packed
-/// record is to hold, and `Io` if a lock can't be written. At each moment each file but locks is as
-/// before, and after an error the locks are gone, as far as that succeeds.
+/// Before any lock is made it returns `PreprocessingFailed` if symbolic references lead too far or a
+/// name has two edits, `Uncomposed` if a name isn't composed and the store composes names, and
+/// `SamePlace` if two of the files, locks and logs of the edits and of packed references are one.
+/// `LockAcquire` if a lock exists, a file is in the way of one, or a path is none, `Refused` if a
+/// reference isn't as its edit expects, `ReferenceDecode` if it can't be read,
+/// `CreateOrUpdateRefLog` if a line for its log can't be made, `Packed`, `PackedTransactionAcquire`
+/// and `PackedTransactionPrepare` if packed references can't be opened, locked or written, `Resolve`
+/// if no object is found whose id a packed record is to hold, `Io` if a change of the files failed,
+/// and `Memory` if memory was refused. At each moment each file but locks is as before, and after an
+/// error the locks are gone, as far as that succeeds.
 pub fn prepare<F: Files, O: FindInto>(
     alloc: Global,
     store: &mut Store<F>,
@@ -83,9 +93,16 @@ pub fn prepare<F: Files, O: FindInto>(
     ensures moments { Passes F.is_honest F.history store.old.files store.new.files SameButLocks }
     ensures alike { Passes F.is_honest F.history store.old.files store.new.files
         (ReadsAlike (base_of store.old)) }
+    ensures folders { F.is_honest store.old.files → let tree = (F.history store.old.files).tree in
+        Adds (FoldersOfEdits (ref_state (base_of store.old) tree) (base_of store.old) edits.items tree)
+        (F.history store.old.files) (F.history store.new.files) }
     ensures split { F.is_honest store.old.files → let tree = (F.history store.old.files).tree in
         IfOk result (λ t. AreSplit (ref_state (base_of store.old) tree) edits.items t.edits.items) }
     ensures once { IfOk result (λ t. AllOnce (names_of t.edits.items)) }
+    ensures known { IfOk result (λ t.
+        IsTrue (are_known store.old.options.precompose_unicode t.edits.items)) }
+    ensures apart { IfOk result (λ t.
+        has_twice (edit_paths (base_of store.old) t.edits.items) ≡ false) }
     ensures tested { F.is_honest store.old.files → let tree = (F.history store.old.files).tree in
         IfOk result (λ t. AllTested (ref_state (base_of store.old) tree) t.edits.items) }
     ensures planned { IfOk result (λ t. AllPlanned (base_of store.old) (removes packed_refs.entry)
@@ -94,29 +111,54 @@ pub fn prepare<F: Files, O: FindInto>(
         IfOk result (λ t. AllHold tree t.edits.items t.moves.items) }
     ensures lines { F.is_honest store.old.files → let tree = (F.history store.old.files).tree in
         let b = base_of store.old in
-        let l = logging store.old.options (ref_state b tree) committer.entry in
+        let l = logging store.old.options (ref_state (base_of store.old) tree) committer.entry in
         IfOk result (λ t. AllLined l b tree t.edits.items t.moves.items) }
+    // Each file but its own locks is as before, and these exist.
+    ensures locked { F.is_honest store.old.files → IfOk result (λ t.
+        SameFilesBut (all_locks t.packed t.moves.items) (F.history store.old.files).tree
+        (F.history store.new.files).tree) }
+    ensures held { F.is_honest store.old.files → IfOk result (λ t.
+        AreHeld t.packed t.moves.items (F.history store.new.files).tree) }
+    // It can be committed, if the logs and packed records have room.
+    ensures room { F.is_honest store.old.files → let tree = (F.history store.old.files).tree in
+        IfOk result (λ t. HaveRoom (base_of store.old) tree t.edits.items
+        → CanCommit t.packed t.moves.items (F.history store.new.files).tree) }
     ensures repacked { F.is_honest store.old.files → IfSome (objects_in packed_refs.entry) O.is_honest
-        → IfOk result (λ t. AreRepacked (base_of store.old)
-        (option_map O.table (objects_in packed_refs.entry)) (F.history store.old.files).tree
+        → let b = base_of store.old in let old = (F.history store.old.files).tree in
+        IfOk result (λ t. AreRepacked b (option_map O.table (objects_in packed_refs.entry)) old
         (F.history store.new.files).tree t.edits.items t.packed) }
     // What is prepared can be committed as its edits say, if their ids are of the store's hash
     // function.
     ensures prepared { F.is_honest store.old.files → IfSome (objects_in packed_refs.entry) O.is_honest
-        → IfOk result (λ t. AllGiveKind (base_of store.old).kind t.edits.items
-        → IsAsPrepared (base_of store.old) (option_map O.table (objects_in packed_refs.entry))
-        (removes packed_refs.entry) (F.history store.old.files).tree
+        → let b = base_of store.old in let old = (F.history store.old.files).tree in
+        IfOk result (λ t. AllGiveKind b.kind t.edits.items
+        → IsAsPrepared b (option_map O.table (objects_in packed_refs.entry))
+        (removes packed_refs.entry) old
         (F.history store.new.files).tree (prepared_of t.edits.items t.moves.items t.packed)) }
     ensures later { F.failures store.old.files ≤ F.failures store.new.files }
     ensures unfailed { IfOk result (λ _. F.failures store.new.files ≡ F.failures store.old.files) }
-    // After an error no lock is left, unless a failure was counted or memory was wanting.
+    // Errors for which no change failed count nothing.
+    ensures counted { F.is_honest store.old.files
+        → IfErr result (Counts (F.failures store.old.files) (F.failures store.new.files)) }
+    // Packed records aren't locked only if they can't be, or if a call of the files failed.
+    ensures records { F.is_honest store.old.files
+        → AreRecordsLockable (base_of store.old) (F.history store.old.files).tree
+        → IfErr result (λ error. IsOfRecords error
+        → HasFault F.failures F.reading_may_fail store.old.files store.new.files) }
+    // After an error no lock is left, unless a failure was counted, memory was wanting or a reading
+    // failed.
     ensures rolled_back { F.is_honest store.old.files → IfErr result (λ error.
         IsRolledBack (F.failures store.old.files) (F.failures store.new.files)
         (F.history store.old.files).tree (F.history store.new.files).tree error) }
     ensures causes { F.is_honest store.old.files → let tree = (F.history store.old.files).tree in
-        let b = base_of store.old in
-        let l = logging store.old.options (ref_state b tree) committer.entry in
-        IfErr result (PrepareFault l b tree F.reading_may_fail edits.items) }
+        let b = base_of store.old in let composes = store.old.options.precompose_unicode in
+        let l = logging store.old.options (ref_state (base_of store.old) tree) committer.entry in
+        IfErr result (PrepareFault l b composes tree F.reading_may_fail edits.items) }
+    // No object is found only if one is missing.
+    ensures resolves { F.is_honest store.old.files → IfSome (objects_in packed_refs.entry) O.is_honest
+        → let tree = (F.history store.old.files).tree in
+        let why = PackFault F.reading_may_fail O.may_fail O.table (objects_in packed_refs.entry) in
+        IfErr result (IfUnresolved (ref_state (base_of store.old) tree) why edits.items) }
 {
     let records = store.open_packed_buffer(alloc)?;
     prepare_with(
@@ -145,10 +187,16 @@ pub fn prepare_with<F: Files, O: FindInto>(
     ensures moments { Passes F.is_honest F.history store.old.files store.new.files SameButLocks }
     ensures alike { Passes F.is_honest F.history store.old.files store.new.files
         (ReadsAlike (base_of store.old)) }
+    ensures folders { F.is_honest store.old.files → let tree = (F.history store.old.files).tree in
+        Adds (FoldersOfEdits (reads_with store.old tree packed.entry) (base_of store.old) edits.items tree)
+        (F.history store.old.files) (F.history store.new.files) }
     ensures split { F.is_honest store.old.files → let tree = (F.history store.old.files).tree in
-        IfOk result (λ t.
-        AreSplit (reads_with store.old tree packed.entry) edits.items t.edits.items) }
+        IfOk result (λ t. AreSplit (reads_with store.old tree packed.entry) edits.items t.edits.items) }
     ensures once { IfOk result (λ t. AllOnce (names_of t.edits.items)) }
+    ensures known { IfOk result (λ t.
+        IsTrue (are_known store.old.options.precompose_unicode t.edits.items)) }
+    ensures apart { IfOk result (λ t.
+        has_twice (edit_paths (base_of store.old) t.edits.items) ≡ false) }
     ensures tested { F.is_honest store.old.files → let tree = (F.history store.old.files).tree in
         IfOk result (λ t. AllTested (reads_with store.old tree packed.entry) t.edits.items) }
     ensures planned { IfOk result (λ t. AllPlanned (base_of store.old) (removes packed_refs.entry)
@@ -159,37 +207,63 @@ pub fn prepare_with<F: Files, O: FindInto>(
         let b = base_of store.old in
         let l = logging store.old.options (reads_with store.old tree packed.entry) committer.entry in
         IfOk result (λ t. AllLined l b tree t.edits.items t.moves.items) }
+    // Each file but its own locks is as before, and these exist.
+    ensures locked { F.is_honest store.old.files → IfOk result (λ t.
+        SameFilesBut (all_locks t.packed t.moves.items) (F.history store.old.files).tree
+        (F.history store.new.files).tree) }
+    ensures held { F.is_honest store.old.files → IfOk result (λ t.
+        AreHeld t.packed t.moves.items (F.history store.new.files).tree) }
+    // It can be committed, if the logs and packed records have room.
+    ensures room { F.is_honest store.old.files → let tree = (F.history store.old.files).tree in
+        IfOk result (λ t. HaveRoom (base_of store.old) tree t.edits.items
+        → CanCommit t.packed t.moves.items (F.history store.new.files).tree) }
     ensures repacked { F.is_honest store.old.files → IfSome (objects_in packed_refs.entry) O.is_honest
         → let b = base_of store.old in let old = (F.history store.old.files).tree in
         KeepsFile b.kind (packed_text_in b old) (option_map (λ buffer. kept buffer.now) packed.entry)
-        → IfOk result (λ t. AreRepacked b (option_map O.table (objects_in packed_refs.entry)) old
+        →
+        IfOk result (λ t. AreRepacked b (option_map O.table (objects_in packed_refs.entry)) old
         (F.history store.new.files).tree t.edits.items t.packed) }
     // What is prepared can be committed as its edits say, if their ids are of the store's hash
     // function.
     ensures prepared { F.is_honest store.old.files → IfSome (objects_in packed_refs.entry) O.is_honest
         → let b = base_of store.old in let old = (F.history store.old.files).tree in
         KeepsFile b.kind (packed_text_in b old) (option_map (λ buffer. kept buffer.now) packed.entry)
-        → IfOk result (λ t. AllGiveKind b.kind t.edits.items
+        →
+        IfOk result (λ t. AllGiveKind b.kind t.edits.items
         → IsAsPrepared b (option_map O.table (objects_in packed_refs.entry))
         (removes packed_refs.entry) old
         (F.history store.new.files).tree (prepared_of t.edits.items t.moves.items t.packed)) }
     ensures later { F.failures store.old.files ≤ F.failures store.new.files }
     ensures unfailed { IfOk result (λ _. F.failures store.new.files ≡ F.failures store.old.files) }
-    // After an error no lock is left, unless a failure was counted or memory was wanting.
+    // Errors for which no change failed count nothing.
+    ensures counted { F.is_honest store.old.files
+        → IfErr result (Counts (F.failures store.old.files) (F.failures store.new.files)) }
+    // Packed records aren't locked only if they can't be, or if a call of the files failed.
+    ensures records { F.is_honest store.old.files
+        → AreRecordsLockable (base_of store.old) (F.history store.old.files).tree
+        → IfErr result (λ error. IsOfRecords error
+        → HasFault F.failures F.reading_may_fail store.old.files store.new.files) }
+    // After an error no lock is left, unless a failure was counted, memory was wanting or a reading
+    // failed.
     ensures rolled_back { F.is_honest store.old.files → IfErr result (λ error.
         IsRolledBack (F.failures store.old.files) (F.failures store.new.files)
         (F.history store.old.files).tree (F.history store.new.files).tree error) }
     ensures causes { F.is_honest store.old.files → let tree = (F.history store.old.files).tree in
-        let b = base_of store.old in
+        let b = base_of store.old in let composes = store.old.options.precompose_unicode in
         let l = logging store.old.options (reads_with store.old tree packed.entry) committer.entry in
-        IfErr result (GivenFault l b tree F.reading_may_fail edits.items) }
+        IfErr result (GivenFault l b composes tree F.reading_may_fail edits.items) }
+    // No object is found only if one is missing.
+    ensures resolves { F.is_honest store.old.files → IfSome (objects_in packed_refs.entry) O.is_honest
+        → let tree = (F.history store.old.files).tree in
+        let why = PackFault F.reading_may_fail O.may_fail O.table (objects_in packed_refs.entry) in
+        IfErr result (IfUnresolved (reads_with store.old tree packed.entry) why edits.items) }
 {
     let mut edits = edits;
     ready(alloc, &*store, packed, &mut edits)?;
     locked(alloc, store, edits, packed, committer, &packed_refs)
 }
 
-// Splits the edits of symbolic references, and tests that no two are of one place.
+// Splits the edits of symbolic references, and tests their names and their paths.
 fn ready<F: Files>(
     alloc: Global,
     store: &Store<F>,
@@ -200,13 +274,36 @@ fn ready<F: Files>(
         OnOk result (AreSplit (reads_with store.now tree packed.entry) edits.old.items
         edits.new.items) }
     ensures once { OnOk result (AllOnce (names_of edits.new.items)) }
+    ensures known { OnOk result
+        (IsTrue (are_known store.now.options.precompose_unicode edits.new.items)) }
+    ensures apart { OnOk result (has_twice (edit_paths (base_of store.now) edits.new.items) ≡ false) }
+    ensures paths { OnOk result
+        (IsTrue (list_all is_path (edit_paths (base_of store.now) edits.new.items))) }
     ensures failed { F.is_honest store.now.files → let tree = (F.history store.now.files).tree in
         IfErr result (ReadyFault (reads_with store.now tree packed.entry) (base_of store.now)
-        F.reading_may_fail edits.old.items) }
+        store.now.options.precompose_unicode tree F.reading_may_fail edits.old.items) }
 {
     edits.pre_process(alloc, &Names { store, packed })?;
-    if share_place(alloc, store, edits.as_slice())? {
+    allowed(alloc, store, edits.as_slice())
+}
+
+// Tests the names and the paths of edits.
+fn allowed<F: Files>(alloc: Global, store: &Store<F>, edits: &[RefEdit]) -> Result<(), PrepareError>
+    ensures known { OnOk result (IsTrue (are_known store.now.options.precompose_unicode edits.now)) }
+    ensures apart { OnOk result (has_twice (edit_paths (base_of store.now) edits.now) ≡ false) }
+    ensures paths { OnOk result (IsTrue (list_all is_path (edit_paths (base_of store.now) edits.now))) }
+    ensures failed { IfErr result
+        (NotAllowed (base_of store.now) store.now.options.precompose_unicode edits.now) }
+{
+    if !are_known(alloc, store.options().precompose_unicode, edits)? {
+        return Err(PrepareError::Uncomposed);
+    }
+    let paths = paths_of(alloc, store, edits)?;
+    if have_twice(alloc, &paths)? {
         return Err(PrepareError::SamePlace);
+    }
+    if !are_paths(&paths) {
+        return Err(PrepareError::LockAcquire);
     }
     Ok(())
 }
@@ -220,15 +317,33 @@ fn locked<F: Files, O: FindInto>(
     committer: Option<ActorRef<'_>>,
     packed_refs: &PackedRefs<'_, O>,
 ) -> Result<Transaction, PrepareError>
+    requires once { has_twice (edit_paths (base_of store.old) edits.items) ≡ false }
+    requires paths { IsTrue (list_all is_path (edit_paths (base_of store.old) edits.items)) }
     ensures honest { F.is_honest store.old.files → F.is_honest store.new.files }
     ensures base { base_of store.new ≡ base_of store.old }
     ensures options { store.new.options ≡ store.old.options }
     ensures later { F.failures store.old.files ≤ F.failures store.new.files }
     ensures unfailed { IfOk result (λ _. F.failures store.new.files ≡ F.failures store.old.files) }
+    ensures counted { F.is_honest store.old.files
+        → IfErr result (Counts (F.failures store.old.files) (F.failures store.new.files)) }
+    ensures records { F.is_honest store.old.files
+        → AreRecordsLockable (base_of store.old) (F.history store.old.files).tree
+        → IfErr result (λ error. IsOfRecords error
+        → HasFault F.failures F.reading_may_fail store.old.files store.new.files) }
     ensures rolled_back { F.is_honest store.old.files → IfErr result (λ error.
         IsRolledBack (F.failures store.old.files) (F.failures store.new.files)
         (F.history store.old.files).tree (F.history store.new.files).tree error) }
     ensures moments { Passes F.is_honest F.history store.old.files store.new.files SameButLocks }
+    ensures folders { Passes F.is_honest F.history store.old.files store.new.files
+        (FoldersOnlyOf (places_of (base_of store.old) edits.items)) }
+    ensures locked { F.is_honest store.old.files → IfOk result (λ t.
+        SameFilesBut (all_locks t.packed t.moves.items) (F.history store.old.files).tree
+        (F.history store.new.files).tree) }
+    ensures held { F.is_honest store.old.files → IfOk result (λ t.
+        AreHeld t.packed t.moves.items (F.history store.new.files).tree) }
+    ensures room { F.is_honest store.old.files → let tree = (F.history store.old.files).tree in
+        IfOk result (λ t. HaveRoom (base_of store.old) tree edits.items
+        → CanCommit t.packed t.moves.items (F.history store.new.files).tree) }
     ensures edits { IfOk result (λ t. t.edits ≡ edits) }
     ensures tested { F.is_honest store.old.files → let tree = (F.history store.old.files).tree in
         IfOk result (λ t. AllTested (reads_with store.old tree packed.entry) t.edits.items) }
@@ -240,8 +355,6 @@ fn locked<F: Files, O: FindInto>(
         let b = base_of store.old in
         let l = logging store.old.options (reads_with store.old tree packed.entry) committer.entry in
         IfOk result (λ t. AllLined l b tree t.edits.items t.moves.items) }
-    ensures apart { IfOk result (λ t.
-        has_twice (paths_apart (base_of store.old) t.packed t.moves.items) ≡ false) }
     ensures back { IfOk result (λ t. let kind = (base_of store.old).kind in
         AllGiveKind kind t.edits.items → AllReadBack kind t.edits.items) }
     ensures repacked { F.is_honest store.old.files → IfSome (objects_in packed_refs.now) O.is_honest
@@ -253,6 +366,9 @@ fn locked<F: Files, O: FindInto>(
         let b = base_of store.old in
         let l = logging store.old.options (reads_with store.old tree packed.entry) committer.entry in
         IfErr result (LockFault l b tree F.reading_may_fail edits.items) }
+    ensures resolves { F.is_honest store.old.files → IfSome (objects_in packed_refs.now) O.is_honest
+        → let why = PackFault F.reading_may_fail O.may_fail O.table (objects_in packed_refs.now) in
+        IfErr result (Unresolved (SomeChangeFault why edits.items)) }
 {
     let records = repack(alloc, store, packed, &edits, packed_refs)?;
     let mut moves = Vec::new(alloc);
@@ -265,7 +381,7 @@ fn locked<F: Files, O: FindInto>(
         packed_refs,
         &mut moves,
     ) {
-        Ok(()) => finish(alloc, store, edits, moves, records),
+        Ok(()) => Ok(finish(store, edits, moves, records)),
         Err(error) => Err(drop_all(alloc, &mut store.files, &moves, records, error)),
     }
 }
@@ -280,23 +396,42 @@ fn plan_all<F: Files, O>(
     packed_refs: &PackedRefs<'_, O>,
     moves: &mut Vec<Move>,
 ) -> Result<(), PrepareError>
+    requires paths { IsTrue (list_all is_path (name_paths (base_of store.old) edits.now)) }
+    requires none { moves.old.items ≡ [] }
     ensures honest { F.is_honest store.old.files → F.is_honest store.new.files }
     ensures base { base_of store.new ≡ base_of store.old }
     ensures options { store.new.options ≡ store.old.options }
     ensures later { F.failures store.old.files ≤ F.failures store.new.files }
     ensures unfailed { IfOk result (λ _. F.failures store.new.files ≡ F.failures store.old.files) }
+    ensures counted { F.is_honest store.old.files
+        → IfErr result (Counts (F.failures store.old.files) (F.failures store.new.files)) }
     ensures rolled_back { F.is_honest store.old.files
         → let old = (F.history store.old.files).tree in
         let new = (F.history store.new.files).tree in
         MoreFilesAt (lock_paths moves.new.items) old new
         ⊎ (HasRisen (F.failures store.old.files) (F.failures store.new.files)
-        ⊎ FailsShort result) }
-    ensures keeps { Achieves F.is_honest F.history store.old.files store.new.files result
-        KeepsFiles }
+        ⊎ FailsStaying result) }
+    ensures keeps { F.is_honest store.old.files
+        → KeepsFiles (F.history store.old.files).tree (F.history store.new.files).tree }
+    ensures locked { F.is_honest store.old.files → OnOk result (MoreFilesAt
+        (lock_paths moves.new.items) (F.history store.old.files).tree
+        (F.history store.new.files).tree) }
+    ensures held { F.is_honest store.old.files → OnOk result (AllByRecursion
+        (λ m. IsTrue (is_file_at (F.history store.new.files).tree (lock_path_of m))) moves.new.items) }
+    ensures folders { Passes F.is_honest F.history store.old.files store.new.files
+        (FoldersOnlyOf (places_of (base_of store.old) edits.now)) }
+    ensures room { F.is_honest store.old.files → AreBeside (name_paths (base_of store.old) edits.now)
+        → OnOk result (AllByRecursion (λ m.
+        IsTrue (may_hold_file (F.history store.new.files).tree (place_of m))) moves.new.items) }
+    ensures refused { F.is_honest store.old.files → let b = base_of store.old in
+        IsErrOf result LockAcquire → has_twice (name_paths b edits.now) ≡ false
+        → AreBeside (name_paths b edits.now)
+        → ¬ AllByRecursion (λ edit. IsLockable (F.history store.old.files).tree (place b edit.name))
+        edits.now }
     ensures lines { F.is_honest store.old.files → let tree = (F.history store.old.files).tree in
         let b = base_of store.old in
         let l = logging store.old.options (reads_with store.old tree packed.entry) committer.entry in
-        moves.old.items ≡ [] → OnOk result (AllLined l b tree edits.now moves.new.items) }
+        OnOk result (AllLined l b tree edits.now moves.new.items) }
     ensures failed { F.is_honest store.old.files → let tree = (F.history store.old.files).tree in
         let b = base_of store.old in
         let l = logging store.old.options (reads_with store.old tree packed.entry) committer.entry in
@@ -304,9 +439,9 @@ fn plan_all<F: Files, O>(
     ensures moments { Passes F.is_honest F.history store.old.files store.new.files SameButLocks }
     ensures tested { F.is_honest store.old.files → let tree = (F.history store.old.files).tree in
         OnOk result (AllTested (reads_with store.old tree packed.entry) edits.now) }
-    ensures planned { moves.old.items ≡ [] → OnOk result (AllPlanned (base_of store.old)
-        (removes packed_refs.now) edits.now moves.new.items) }
-    ensures texts { F.is_honest store.old.files → moves.old.items ≡ [] → OnOk result
+    ensures planned { OnOk result (AllPlanned (base_of store.old) (removes packed_refs.now) edits.now
+        moves.new.items) }
+    ensures texts { F.is_honest store.old.files → OnOk result
         (AllHold (F.history store.new.files).tree edits.now moves.new.items) }
 {
     let mut rest = edits;
@@ -318,65 +453,29 @@ fn plan_all<F: Files, O>(
     Ok(())
 }
 
-// The transaction of these moves, if no two of their paths are one; else their locks go.
+// Returns the transaction of these moves.
 fn finish<F: Files>(
-    alloc: Global,
-    store: &mut Store<F>,
+    store: &Store<F>,
     edits: Vec<RefEdit>,
     moves: Vec<Move>,
     packed: Option<packed::Transaction>,
-) -> Result<Transaction, PrepareError>
-    ensures honest { F.is_honest store.old.files → F.is_honest store.new.files }
-    ensures base { base_of store.new ≡ base_of store.old }
-    ensures options { store.new.options ≡ store.old.options }
-    ensures later { F.failures store.old.files ≤ F.failures store.new.files }
-    ensures rolled_back { F.is_honest store.old.files → IfErr result (λ error.
-        IsDropped moves.items packed (F.failures store.old.files) (F.failures store.new.files)
-        (F.history store.old.files).tree (F.history store.new.files).tree error) }
-    ensures edits { IfOk result (λ t. t.edits ≡ edits) }
-    ensures moves { IfOk result (λ t. t.moves ≡ moves) }
-    ensures packed { IfOk result (λ t. t.packed ≡ packed) }
-    ensures causes { IfErr result (λ error. (error ≡ Memory)
-        ⊎ ((error ≡ SamePlace)
-        × (has_twice (paths_apart (base_of store.old) packed moves.items) ≡ true))) }
-    ensures apart { IfOk result (λ t.
-        has_twice (paths_apart (base_of store.old) t.packed t.moves.items) ≡ false) }
-    ensures back { IfOk result (λ t. let kind = (base_of store.old).kind in
-        AllGiveKind kind t.edits.items → AllReadBack kind t.edits.items) }
-    ensures still { IfOk result (λ _. store.new ≡ store.old) }
-    ensures moments { Passes F.is_honest F.history store.old.files store.new.files SameButLocks }
+) -> Transaction
+    requires { has_twice (commit_paths packed moves.items) ≡ false }
+    ensures edits { result.edits ≡ edits }
+    ensures moves { result.moves ≡ moves }
+    ensures packed { result.packed ≡ packed }
+    ensures back { let kind = (base_of store.now).kind in
+        AllGiveKind kind edits.items → AllReadBack kind edits.items }
 {
     targets_are_read(&edits, store.options().object_hash);
-    match are_apart(alloc, store, &moves, &packed) {
-        Ok(()) => Ok(Transaction {
-            edits,
-            moves,
-            packed,
-        }),
-        Err(error) => Err(drop_all(alloc, &mut store.files, &moves, packed, error)),
+    Transaction {
+        edits,
+        moves,
+        packed,
     }
 }
 
-// Tests that no two paths of the moves and of packed records are one.
-fn are_apart<F: Files>(
-    alloc: Global,
-    store: &Store<F>,
-    moves: &[Move],
-    packed: &Option<packed::Transaction>,
-) -> Result<(), PrepareError>
-    ensures causes { IfErr result (λ error. (error ≡ Memory)
-        ⊎ ((error ≡ SamePlace)
-        × (has_twice (paths_apart (base_of store.now) packed.now moves.now) ≡ true))) }
-    ensures apart { OnOk result
-        (has_twice (paths_apart (base_of store.now) packed.now moves.now) ≡ false) }
-{
-    if stand_twice(alloc, store, moves, packed)? {
-        return Err(PrepareError::SamePlace);
-    }
-    Ok(())
-}
-
-// Gives all locks back of edits that aren't prepared, and returns the error, or `Memory`.
+// Gives all locks back of edits that aren't prepared, and returns why they aren't.
 fn drop_all<F: Files>(
     alloc: Global,
     files: &mut F,
@@ -387,33 +486,18 @@ fn drop_all<F: Files>(
     ensures honest { F.is_honest files.old → F.is_honest files.new }
     ensures later { F.failures files.old ≤ F.failures files.new }
     ensures moments { Passes F.is_honest F.history files.old files.new SameButLocks }
-    ensures told { (result ≡ error) ⊎ (result ≡ Memory) }
-    ensures rolled_back { F.is_honest files.old → IsDropped moves.now packed
-        (F.failures files.old) (F.failures files.new) (F.history files.old).tree
-        (F.history files.new).tree result }
+    ensures folders { Passes F.is_honest F.history files.old files.new SameFolders }
+    ensures told { IsAfter F.reading_may_fail error result }
+    ensures counted { (before : ℕ) → F.is_honest files.old → before ≤ F.failures files.old
+        → RecordsHeld packed (F.history files.old).tree
+        → IsOfEdit error → Counts before (F.failures files.old) error
+        → Counts before (F.failures files.new) result }
+    ensures rolled_back { F.is_honest files.old → AllGone moves.now packed (F.history files.old).tree
+        (F.history files.new).tree ⊎ MayBeLeft result }
 {
     let records = drop_records(alloc, files, packed);
     let locks = give_back_all(alloc, files, moves);
-    or_memory(records, locks, error)
-}
-
-// Returns `Memory` if one of the outcomes is want of memory, and else this error.
-fn or_memory(
-    records: Result<(), packed::CommitError>,
-    locks: Result<(), FileError>,
-    error: PrepareError,
-) -> PrepareError
-    ensures told { (result ≡ error) ⊎ (result ≡ Memory) }
-    ensures records { records ≡ Err packed_case.Memory → result ≡ Memory }
-    ensures locks { locks ≡ Err file_case.Memory → result ≡ Memory }
-{
-    match locks {
-        Ok(()) | Err(FileError::Failed) => match records {
-            Ok(()) | Err(packed::CommitError::Commit) => error,
-            Err(packed::CommitError::Memory) => PrepareError::Memory,
-        },
-        Err(FileError::Memory) => PrepareError::Memory,
-    }
+    afterwards(records.or_worse(locks), error)
 }
 
 // Gives the lock of packed records back.
@@ -421,49 +505,55 @@ fn drop_records<F: Files>(
     alloc: Global,
     files: &mut F,
     packed: Option<packed::Transaction>,
-) -> Result<(), packed::CommitError>
+) -> GivenBack
     ensures honest { F.is_honest files.old → F.is_honest files.new }
     ensures later { F.failures files.old ≤ F.failures files.new }
-    ensures unfailed { OnOk result (F.failures files.new ≡ F.failures files.old) }
+    ensures unfailed { result ≢ given.Failed → F.failures files.new ≡ F.failures files.old }
+    ensures read { result ≢ given.Unread }
+    ensures failed { F.is_honest files.old → RecordsHeld packed (F.history files.old).tree
+        → result ≡ given.Failed → HasRisen (F.failures files.old) (F.failures files.new) }
     ensures moments { Passes F.is_honest F.history files.old files.new SameButLocks }
     ensures folders { Passes F.is_honest F.history files.old files.new SameFolders }
-    ensures gone { F.is_honest files.old → OnOk result
-        (PackedGone packed (F.history files.new).tree) }
-    ensures rolled_back { F.is_honest files.old → let old = (F.history files.old).tree in
-        let new = (F.history files.new).tree in (result ≡ Err packed_case.Memory)
-        ⊎ (HasRisen (F.failures files.old) (F.failures files.new)
-        ⊎ (PackedGone packed new × NoFileMore old new)) }
+    ensures gone { F.is_honest files.old → result ≡ given.Done
+        → PackedGone packed (F.history files.new).tree
+        × NoFileMore (F.history files.old).tree (F.history files.new).tree }
 {
     match packed {
-        Some(packed) => packed.rollback(alloc, files),
-        None => Ok(()),
+        Some(packed) => of_commit(packed.rollback(alloc, files)),
+        None => GivenBack::Done,
+    }
+}
+
+// Returns what came of the lock of packed records.
+fn of_commit(outcome: Result<(), packed::CommitError>) -> GivenBack
+    ensures { result ≡ rolls.of_commit outcome }
+{
+    match outcome {
+        Ok(()) => GivenBack::Done,
+        Err(packed::CommitError::Commit) => GivenBack::Failed,
+        Err(packed::CommitError::Memory) => GivenBack::Memory,
     }
 }
 
 // Returns whether the locks were given back, of packed records and of references.
-fn given_back(
-    records: Result<(), packed::CommitError>,
-    locks: Result<(), FileError>,
-) -> Result<(), CommitError>
-    ensures done { OnOk result ((records ≡ Ok tt) × (locks ≡ Ok tt)) }
-    ensures records { records ≡ Err packed_case.Memory → FailsForMemory result }
-    ensures locks { locks ≡ Err file_case.Memory → FailsForMemory result }
+fn given_back(records: GivenBack, locks: GivenBack) -> Result<(), CommitError>
+    ensures { result ≡ of_giving records locks }
+{
+    match records {
+        GivenBack::Failed => Err(CommitError::PackedTransactionCommit(packed::CommitError::Commit)),
+        GivenBack::Done | GivenBack::Memory | GivenBack::Unread => {
+            of_back(records.or_worse(locks))
+        }
+    }
+}
+
+fn of_back(locks: GivenBack) -> Result<(), CommitError>
+    ensures { result ≡ rolls.of_back locks }
 {
     match locks {
-        Ok(()) => match records {
-            Ok(()) => Ok(()),
-            Err(packed::CommitError::Commit) => Err(CommitError::PackedTransactionCommit(
-                packed::CommitError::Commit,
-            )),
-            Err(packed::CommitError::Memory) => Err(CommitError::PackedTransactionCommit(
-                packed::CommitError::Memory,
-            )),
-        },
-        Err(FileError::Failed) => match records {
-            Ok(()) | Err(packed::CommitError::Commit) => Err(CommitError::LockCommit),
-            Err(packed::CommitError::Memory) => Err(CommitError::Memory),
-        },
-        Err(FileError::Memory) => Err(CommitError::Memory),
+        GivenBack::Done => Ok(()),
+        GivenBack::Memory => Err(CommitError::Memory),
+        GivenBack::Unread | GivenBack::Failed => Err(CommitError::LockCommit),
     }
 }
 
@@ -489,6 +579,8 @@ impl Transaction {
         ensures unfailed { IfOk result (λ _. F.failures files.new ≡ F.failures files.old) }
         ensures folders { Passes F.is_honest F.history files.old files.new
             (FoldersOnlyOf (log_paths self.moves.items)) }
+        ensures memory { IfErr result (λ error. IsOutOfMemory error
+            → F.failures files.new ≡ F.failures files.old) }
         ensures failed { F.is_honest files.old
             → CanCommit self.packed self.moves.items (F.history files.old).tree
             → IfErr result (λ error.
@@ -518,8 +610,8 @@ impl Transaction {
     }
 
     /// Gives all locks back; nothing else changes. Returns the edits. Returns
-    /// `PackedTransactionCommit` or `LockCommit` if one couldn't be given back: then the others
-    /// are.
+    /// `PackedTransactionCommit` or `LockCommit` if one couldn't be given back, and `Memory` if
+    /// memory was refused: then the others are.
     pub fn rollback<F: Files>(
         self,
         alloc: Global,
@@ -531,13 +623,17 @@ impl Transaction {
         ensures folders { Passes F.is_honest F.history files.old files.new SameFolders }
         ensures edits { IfOk result (λ edits. edits ≡ self.edits) }
         ensures moments { Passes F.is_honest F.history files.old files.new SameButLocks }
+        // No lock is left.
         ensures gone { Achieves F.is_honest F.history files.old files.new result
-            (λ _ new. LocksGone self.moves.items new × PackedGone self.packed new) }
-        // No lock is left, also after an error, unless a failure was counted or memory was wanting.
-        ensures rolled_back { F.is_honest files.old → let old = (F.history files.old).tree in
-            let new = (F.history files.new).tree in FailsForMemory result
-            ⊎ (HasRisen (F.failures files.old) (F.failures files.new)
-            ⊎ AllGone self.moves.items self.packed old new) }
+            (AllGone self.moves.items self.packed) }
+        // Want of memory counts no failure, and if the locks exist, each other error is that of a
+        // call that failed.
+        ensures memory { IfErr result (λ error. IsOutOfMemory error
+            → F.failures files.new ≡ F.failures files.old) }
+        ensures failed { F.is_honest files.old
+            → AreHeld self.packed self.moves.items (F.history files.old).tree
+            → IfErr result (λ error.
+            IsOutOfMemory error ⊎ HasFault F.failures F.reading_may_fail files.old files.new) }
     {
         let Transaction {
             edits,

@@ -1,5 +1,10 @@
+use Rattle.std.proofs.Common.{◌∙◌, ⊎_elim, sym}
+use Rattle.gix_ref_lock.proofs.LockLemmas.{folders_joined}
 use Rattle.gix_ref_moves.proofs.LockPaths.{locks_joined}
-use Rattle.gix_ref_transaction.proofs.Rollbacks.{both_dropped, turned_so}
+use Rattle.gix_ref_transaction.specs.Rollback.{AllGone}
+use Rattle.gix_ref_transaction.proofs.Counting.{counts_after, is_after, left_or, worse_done, worse_unread}
+use Rattle.gix_ref_transaction.proofs.Givings.{both_risen, both_same}
+use Rattle.gix_ref_transaction.proofs.Rollbacks.{all_gone}
 use Rattle.gix_ref_transaction.proofs.transaction.drop_all.Goals as goal
 
 pub returns-clause-moments : goal.returns-clause-moments
@@ -7,11 +12,36 @@ returns-clause-moments g c = λ honest.
     locks_joined (g.F.Files.history c.args.files.now) (g.F.Files.history c.drop_records-records.new.files) (g.F.Files.history c.give_back_all-locks.new.files)
     (c.drop_records-records.ensures.moments honest) (c.give_back_all-locks.ensures.locks (c.drop_records-records.ensures.honest honest))
 
+pub returns-clause-folders : goal.returns-clause-folders
+returns-clause-folders g c = λ honest.
+    folders_joined (g.F.Files.history c.args.files.now) (g.F.Files.history c.drop_records-records.new.files) (g.F.Files.history c.give_back_all-locks.new.files)
+    (c.drop_records-records.ensures.folders honest) (c.give_back_all-locks.ensures.folders (c.drop_records-records.ensures.honest honest))
+
+pub returns-clause-told : goal.returns-clause-told
+returns-clause-told g c =
+    let records = c.drop_records-records in
+    let locks = c.give_back_all-locks in
+    is_after g.F.Files.reading_may_fail c.or_worse.result c.args.error c.afterwards.result c.afterwards.ensures
+    (λ is. ⊎_elim (λ read. absurd (records.ensures.read read)) locks.ensures.unread (worse_unread records.result locks.result (sym c.or_worse.ensures ∙ is)))
+
+pub returns-clause-counted : goal.returns-clause-counted
+returns-clause-counted g c = λ before honest first held of counts.
+    let f = g.F.Files.failures in
+    let records = c.drop_records-records in
+    let locks = c.give_back_all-locks in
+    let then = records.ensures.honest honest in
+    counts_after before (f c.args.files.now) (f locks.new.files) c.or_worse.result c.args.error c.afterwards.result c.afterwards.ensures first of counts
+    (λ none. both_same (f c.args.files.now) (f records.new.files) (f locks.new.files) records.result locks.result records.ensures.unfailed locks.ensures.unfailed (λ is. none (c.or_worse.ensures ∙ is)))
+    (λ is. both_risen (f c.args.files.now) (f records.new.files) (f locks.new.files) records.result locks.result records.ensures.later locks.ensures.later (records.ensures.failed honest held) (locks.ensures.failed then) (sym c.or_worse.ensures ∙ is))
+
 pub returns-clause-rolled_back : goal.returns-clause-rolled_back
 returns-clause-rolled_back g c = λ honest.
-    let f = g.F.Files.failures in
     let history = g.F.Files.history in
-    let first = c.drop_records-records in
-    let second = c.give_back_all-locks in
-    turned_so (both_dropped (f c.args.files.now) (f first.new.files) (f second.new.files) c.args.moves.now c.args.packed (history c.args.files.now).tree (history first.new.files).tree (history second.new.files).tree first.result second.result _
-    first.ensures.later second.ensures.later (first.ensures.rolled_back honest) (second.ensures.rolled_back (first.ensures.honest honest)) c.or_memory.ensures.records c.or_memory.ensures.locks)
+    let records = c.drop_records-records in
+    let locks = c.give_back_all-locks in
+    let old = (history c.args.files.now).tree in
+    let mid = (history records.new.files).tree in
+    let new = (history locks.new.files).tree in
+    left_or (AllGone c.args.moves.now c.args.packed old new) c.or_worse.result c.args.error c.afterwards.result c.afterwards.ensures
+    (λ is. let parts = worse_done records.result locks.result (sym c.or_worse.ensures ∙ is) in
+    all_gone c.args.moves.now c.args.packed old mid new (records.ensures.gone honest parts.0) (locks.ensures.rolled_back (records.ensures.honest honest) parts.1))

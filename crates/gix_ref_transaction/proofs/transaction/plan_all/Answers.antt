@@ -1,12 +1,23 @@
-use Rattle.std.proofs.Common.{◌∙◌, inl, inr, refl, subst, arith}
+use Rattle.std.proofs.Common.{◌≡◌, ◌∙◌, ◌++◌, [], ◌∷◌, inl, inr, refl, sym, ap, subst, arith}
 use Rattle.std.proofs.lemmas.Result.{err_from_is_err_and}
-use Rattle.gix_ref_file.proofs.Histories.{adds_nothing}
+use Rattle.gix_ref_file.proofs.Histories.{adds_nothing, adds_weaker}
 use Rattle.gix_ref_store.specs.Finds.{records_in}
 use Rattle.gix_ref_store.specs.Lookups.{reads_with}
-use Rattle.gix_ref_store.specs.Places.{Base}
+use Rattle.std.specs.Prelude.{Contains, IsTrue, Err}
+use Rattle.gix_ref_transaction.specs.declared.error.PrepareError.TheVariants.{LockAcquire}
+use Rattle.gix_ref_transaction.proofs.Takings.{err_same}
+use Rattle.std.specs.List.{AllByRecursion, list_all}
+use Rattle.gix_ref_file.specs.Changes.{is_file_at, may_hold_file}
+use Rattle.gix_ref_file.specs.History.{Adds}
+use Rattle.gix_ref_file.specs.Tree.{is_path}
+use Rattle.gix_ref_way.specs.Ways.{FoldersOnlyOf}
+use Rattle.gix_ref_way.proofs.Rooms.{only_now, only_weaker, onlys_joined}
+use Rattle.gix_ref_store.specs.Places.{Base, place}
 use Rattle.gix_ref_store.specs.RefStates.{RefState, state_among}
 use Rattle.gix_ref_store.specs.Stores.{base_of}
+use Rattle.gix_ref_moves.specs.Contents.{lock_path_of, place_of}
 use Rattle.gix_ref_moves.specs.Moments.{SameButLocks}
+use Rattle.gix_ref_moves.proofs.PathLists.{all_append}
 use Rattle.gix_ref_moves.proofs.FileMoves.{now_of}
 use Rattle.gix_ref_moves.proofs.LockPaths.{locks_joined}
 use Rattle.gix_ref_transaction.specs.LogLines.{line_in, logging}
@@ -14,7 +25,12 @@ use Rattle.gix_ref_repacking.specs.Modes.{removes}
 use Rattle.gix_ref_transaction.specs.Plans.{IsTested, IsPlanOf}
 use Rattle.gix_ref_transaction.proofs.Plannings.{LinedIn, among_alike, keeps_joined, zipping_begins, testing_begins, one_zipped, one_tested, zipping_ends, testing_ends, holding_ends, is_among, lined_alike, fault_alike}
 use Rattle.gix_ref_transaction.specs.Rollback.{lock_paths}
+use Rattle.gix_ref_transaction.specs.Errors.{Counts}
+use Rattle.gix_ref_transaction.specs.Locking.{ArePaths, IsLockable}
+use Rattle.gix_ref_transaction.specs.Paths.{name_paths, places_of}
+use Rattle.gix_ref_transaction.proofs.Lockings.{first_paths, held_still, later_paths, lockable, none_held, one_of, own_among, place_own, places_front, places_own, rooms_still}
 use Rattle.gix_ref_transaction.proofs.Rollbacks.{one_more, after_error}
+use Rattle.gix_ref_transaction.proofs.Twice.{once_of}
 use Rattle.gix_ref_transaction.proofs.transaction.plan_all.Goals as goal
 
 pub edits-init : goal.edits-init
@@ -26,6 +42,11 @@ edits-init g c = record {
   later = omega arith;
   unfailed = refl;
   locked = λ honest path none there. there;
+  folders = λ honest. adds_nothing (g.F.Files.history c.args.store.now.files);
+  held = λ honest. none_held (λ m. IsTrue (is_file_at (g.F.Files.history c.args.store.now.files).tree (lock_path_of m))) c.args.moves.now.items c.requires.none;
+  room = λ honest beside. none_held (λ m. IsTrue (may_hold_file (g.F.Files.history c.args.store.now.files).tree (place_of m))) c.args.moves.now.items c.requires.none;
+  paths = c.requires.paths;
+  none = c.requires.none;
   planned = zipping_begins (IsPlanOf (base_of c.args.store.now) (removes c.args.packed_refs.now)) c.args.edits.now c.args.moves.now.items;
   keeps = λ honest path text stood. stood;
   lined = λ honest. zipping_begins (LinedIn (logging c.args.store.now.options (reads_with c.args.store.now (g.F.Files.history c.args.store.now.files).tree c.args.packed) c.args.committer) (base_of c.args.store.now) (g.F.Files.history c.args.store.now.files).tree) c.args.edits.now c.args.moves.now.items;
@@ -57,9 +78,32 @@ edits-preserved g c =
       later = omega (arith, so_far.later, c.plan.ensures.later);
       unfailed = c.in_ok-planned.ensures.unfailed ∙ so_far.unfailed;
       locked = λ honest. one_more c.edits.moves.items c.push.new.self.items made old.tree mid.tree new.tree c.in_ok-push.ensures.items (so_far.locked honest) (c.in_ok-planned.ensures.locked (so_far.honest honest));
+      folders = λ honest.
+          let paths = places_of b c.args.edits.now in
+          let own = subst (λ (base : Base). Adds (FoldersOnlyOf (place base edit.name ∷ []) mid.tree) mid new) so_far.base (c.plan.ensures.folders (so_far.honest honest)) in
+          let split = so_far.planned.split ∙ ap (λ r. so_far.planned.done ++ r) c.in-Some.ensures.cases.0 in
+          onlys_joined paths old mid new (so_far.folders honest) (adds_weaker mid new own (λ x only. only_weaker (place b edit.name ∷ []) paths mid.tree x
+          (λ path is. subst (λ es. Contains (places_of b es) path) (sym split) (places_own b so_far.planned.done edit others path is)) only));
+      held = λ honest.
+          let still = so_far.honest honest in
+          subst (λ ms. AllByRecursion (λ m. IsTrue (is_file_at new.tree (lock_path_of m))) ms) (sym c.in_ok-push.ensures.items)
+          (all_append (λ m. IsTrue (is_file_at new.tree (lock_path_of m))) c.edits.moves.items (made ∷ []) (held_still mid.tree new.tree (c.plan.ensures.keeps still) c.edits.moves.items (so_far.held honest)) (c.in_ok-planned.ensures.held still, tt));
+      room = λ honest beside.
+          let still = so_far.honest honest in
+          let split = so_far.planned.split ∙ ap (λ r. so_far.planned.done ++ r) c.in-Some.ensures.cases.0 in
+          let all = name_paths b c.args.edits.now in
+          let only = subst (λ (base : Base). FoldersOnlyOf (place base edit.name ∷ []) mid.tree new.tree) so_far.base (only_now (place (base_of c.edits.store) edit.name ∷ []) mid new (c.plan.ensures.folders still)) in
+          let rooms = rooms_still b gone all mid.tree new.tree edit beside only
+          (λ path is. subst (λ es. Contains (name_paths b es) path) (sym split) (own_among b so_far.planned.done edit others path (place_own b edit path is)))
+          so_far.planned.done c.edits.moves.items (so_far.planned.zipped so_far.none)
+          (λ path is. subst (λ es. Contains (name_paths b es) path) (sym split) (places_front b so_far.planned.done (edit ∷ others) path is)) (so_far.room honest beside) in
+          subst (λ ms. AllByRecursion (λ m. IsTrue (may_hold_file new.tree (place_of m))) ms) (sym c.in_ok-push.ensures.items)
+          (all_append (λ m. IsTrue (may_hold_file new.tree (place_of m))) c.edits.moves.items (made ∷ []) rooms (c.in_ok-planned.ensures.room still, tt));
+      paths = later_paths b edit others (subst (λ es. IsTrue (list_all is_path (name_paths b es))) c.in-Some.ensures.cases.0 so_far.paths);
+      none = so_far.none;
       planned = one_zipped (IsPlanOf b gone) c.args.edits.now c.edits.rest.now others edit c.args.moves.now.items c.edits.moves.items c.push.new.self.items made c.in-Some.ensures.cases.0 c.in_ok-push.ensures.items so_far.planned
           (subst (λ (base : Base). IsPlanOf base gone edit made) so_far.base c.in_ok-planned.ensures.planned);
-      keeps = λ honest. keeps_joined old.tree mid.tree new.tree (so_far.keeps honest) (c.in_ok-planned.ensures.keeps (so_far.honest honest));
+      keeps = λ honest. keeps_joined old.tree mid.tree new.tree (so_far.keeps honest) (c.plan.ensures.keeps (so_far.honest honest));
       lined = λ honest.
           let still = so_far.honest honest in
           let same = now_of (SameButLocks old.tree) old mid (λ path none. refl) (so_far.moments honest) in
@@ -72,7 +116,7 @@ edits-preserved g c =
           c.in-Some.ensures.cases.0 c.in_ok-push.ensures.items (so_far.tested honest)
           (subst (λ (state : RefState). IsTested edit state) (among_alike b old.tree mid.tree records same edit.name)
           (subst (λ (base : Base). IsTested edit (state_among base mid.tree records edit.name)) so_far.base (c.in_ok-planned.ensures.tested still)))
-          (c.in_ok-planned.ensures.keeps still) (c.in_ok-planned.ensures.text still);
+          (c.plan.ensures.keeps still) (c.in_ok-planned.ensures.text still);
     }
 
 pub returns-clause-tested : goal.returns-clause-tested
@@ -82,12 +126,12 @@ returns-clause-tested g c = λ honest.
 
 pub returns-clause-planned : goal.returns-clause-planned
 returns-clause-planned g c =
-    zipping_ends (IsPlanOf (base_of c.args.store.now) (removes c.args.packed_refs.now)) c.args.edits.now c.edits.rest.now c.args.moves.now.items c.edits.moves.items c.in_default.ensures.cases c.edits.invariant.planned
+    zipping_ends (IsPlanOf (base_of c.args.store.now) (removes c.args.packed_refs.now)) c.args.edits.now c.edits.rest.now c.args.moves.now.items c.edits.moves.items c.in_default.ensures.cases c.edits.invariant.planned c.requires.none
 
 pub returns-clause-texts : goal.returns-clause-texts
 returns-clause-texts g c = λ honest.
     let old = (g.F.Files.history c.args.store.now.files).tree in
-    holding_ends (reads_with c.args.store.now old c.args.packed) c.args.edits.now c.edits.rest.now c.args.moves.now.items c.edits.moves.items (g.F.Files.history c.edits.store.files).tree c.in_default.ensures.cases (c.edits.invariant.tested honest)
+    holding_ends (reads_with c.args.store.now old c.args.packed) c.args.edits.now c.edits.rest.now c.args.moves.now.items c.edits.moves.items (g.F.Files.history c.edits.store.files).tree c.in_default.ensures.cases (c.edits.invariant.tested honest) c.requires.none
 
 pub returns-in_err-push-clause-moments : goal.returns-in_err-push-clause-moments
 returns-in_err-push-clause-moments g c = λ honest.
@@ -98,7 +142,7 @@ pub returns-clause-lines : goal.returns-clause-lines
 returns-clause-lines g c = λ honest.
     let old = (g.F.Files.history c.args.store.now.files).tree in
     let b = base_of c.args.store.now in
-    zipping_ends (LinedIn (logging c.args.store.now.options (reads_with c.args.store.now old c.args.packed) c.args.committer) b old) c.args.edits.now c.edits.rest.now c.args.moves.now.items c.edits.moves.items c.in_default.ensures.cases (c.edits.invariant.lined honest)
+    zipping_ends (LinedIn (logging c.args.store.now.options (reads_with c.args.store.now old c.args.packed) c.args.committer) b old) c.args.edits.now c.edits.rest.now c.args.moves.now.items c.edits.moves.items c.in_default.ensures.cases (c.edits.invariant.lined honest) c.requires.none
 
 pub returns-in_err-planned-clause-failed : goal.returns-in_err-planned-clause-failed
 returns-in_err-planned-clause-failed g c = λ honest.
@@ -140,3 +184,91 @@ returns-in_err-push-clause-rolled_back g c = λ honest.
 
 pub returns-clause-rolled_back : goal.returns-clause-rolled_back
 returns-clause-rolled_back g c = λ honest. inl (c.edits.invariant.locked honest)
+
+pub plan-requires : goal.plan-requires
+plan-requires g c =
+    let b = base_of c.args.store.now in
+    let here = subst (λ es. IsTrue (list_all is_path (name_paths b es))) c.in-Some.ensures.cases.0 c.edits.invariant.paths in
+    subst (λ (base : Base). ArePaths (place base c.in-Some.edit.now.name)) (sym c.edits.invariant.base) (first_paths b c.in-Some.edit.now c.in-Some.others.now here)
+
+pub returns-in_err-planned-clause-keeps : goal.returns-in_err-planned-clause-keeps
+returns-in_err-planned-clause-keeps g c = λ honest.
+    keeps_joined (g.F.Files.history c.args.store.now.files).tree (g.F.Files.history c.edits.store.files).tree (g.F.Files.history c.plan.new.store.files).tree (c.edits.invariant.keeps honest) (c.plan.ensures.keeps (c.edits.invariant.honest honest))
+
+pub returns-in_err-push-clause-keeps : goal.returns-in_err-push-clause-keeps
+returns-in_err-push-clause-keeps g c = λ honest.
+    keeps_joined (g.F.Files.history c.args.store.now.files).tree (g.F.Files.history c.edits.store.files).tree (g.F.Files.history c.plan.new.store.files).tree (c.edits.invariant.keeps honest) (c.plan.ensures.keeps (c.edits.invariant.honest honest))
+
+pub returns-in_err-planned-clause-counted : goal.returns-in_err-planned-clause-counted
+returns-in_err-planned-clause-counted g c = λ honest.
+    let so_far = c.edits.invariant in
+    let new = g.F.Files.failures c.plan.new.store.files in
+    let p = err_from_is_err_and c.from_residual.result c.from_residual.ensures.1 in
+    rw (p.1, p.2) (subst (λ n. Counts n new c.in_err-planned.field-0.0) so_far.unfailed (c.in_err-planned.ensures.counted (so_far.honest honest)))
+
+pub returns-in_err-push-clause-counted : goal.returns-in_err-push-clause-counted
+returns-in_err-push-clause-counted g c = λ honest.
+    let p = err_from_is_err_and c.from_residual-in_err-push.result c.from_residual-in_err-push.ensures.1 in
+    rw (p.1, p.2) (c.in_ok-planned.ensures.unfailed ∙ c.edits.invariant.unfailed)
+
+pub returns-in_err-planned-clause-folders : goal.returns-in_err-planned-clause-folders
+returns-in_err-planned-clause-folders g c = λ honest.
+    let so_far = c.edits.invariant in
+    let old = g.F.Files.history c.args.store.now.files in
+    let mid = g.F.Files.history c.edits.store.files in
+    let new = g.F.Files.history c.plan.new.store.files in
+    let b = base_of c.args.store.now in
+    let edit = c.in-Some.edit.now in
+    let paths = places_of b c.args.edits.now in
+    let own = subst (λ (base : Base). Adds (FoldersOnlyOf (place base edit.name ∷ []) mid.tree) mid new) so_far.base (c.plan.ensures.folders (so_far.honest honest)) in
+    let split = so_far.planned.split ∙ ap (λ r. so_far.planned.done ++ r) c.in-Some.ensures.cases.0 in
+    onlys_joined paths old mid new (so_far.folders honest) (adds_weaker mid new own (λ x only. only_weaker (place b edit.name ∷ []) paths mid.tree x
+    (λ path is. subst (λ es. Contains (places_of b es) path) (sym split) (places_own b so_far.planned.done edit c.in-Some.others.now path is)) only))
+
+pub returns-in_err-push-clause-folders : goal.returns-in_err-push-clause-folders
+returns-in_err-push-clause-folders g c = λ honest.
+    let so_far = c.edits.invariant in
+    let old = g.F.Files.history c.args.store.now.files in
+    let mid = g.F.Files.history c.edits.store.files in
+    let new = g.F.Files.history c.plan.new.store.files in
+    let b = base_of c.args.store.now in
+    let edit = c.in-Some.edit.now in
+    let paths = places_of b c.args.edits.now in
+    let own = subst (λ (base : Base). Adds (FoldersOnlyOf (place base edit.name ∷ []) mid.tree) mid new) so_far.base (c.plan.ensures.folders (so_far.honest honest)) in
+    let split = so_far.planned.split ∙ ap (λ r. so_far.planned.done ++ r) c.in-Some.ensures.cases.0 in
+    onlys_joined paths old mid new (so_far.folders honest) (adds_weaker mid new own (λ x only. only_weaker (place b edit.name ∷ []) paths mid.tree x
+    (λ path is. subst (λ es. Contains (places_of b es) path) (sym split) (places_own b so_far.planned.done edit c.in-Some.others.now path is)) only))
+
+pub returns-in_err-planned-clause-refused : goal.returns-in_err-planned-clause-refused
+returns-in_err-planned-clause-refused g c = λ honest.
+    let so_far = c.edits.invariant in
+    let old = g.F.Files.history c.args.store.now.files in
+    let mid = g.F.Files.history c.edits.store.files in
+    let b = base_of c.args.store.now in
+    let edit = c.in-Some.edit.now in
+    let others = c.in-Some.others.now in
+    let edits = c.args.edits.now in
+    let split = so_far.planned.split ∙ ap (λ r. so_far.planned.done ++ r) c.in-Some.ensures.cases.0 in
+    let only = only_now (places_of b edits) old mid (so_far.folders honest) in
+    let p = err_from_is_err_and c.from_residual.result c.from_residual.ensures.1 in
+    rw (p.1, p.2) (λ is once beside all.
+    let mine = one_of (λ e. IsLockable old.tree (place b e.name)) so_far.planned.done edit others (subst (λ es. AllByRecursion (λ e. IsLockable old.tree (place b e.name)) es) split all) in
+    let here = lockable b (removes c.args.packed_refs.now) edits so_far.planned.done others edit c.edits.moves.items old.tree mid.tree split (so_far.planned.zipped so_far.none) (so_far.locked honest) only (once_of (name_paths b edits) once) beside mine in
+    c.in_err-planned.ensures.refused (so_far.honest honest) (ap Err (err_same c.in_err-planned.field-0.0 LockAcquire is)) (subst (λ (base : Base). IsLockable mid.tree (place base edit.name)) (sym so_far.base) here))
+
+pub returns-in_err-push-clause-refused : goal.returns-in_err-push-clause-refused
+returns-in_err-push-clause-refused g c = λ honest.
+    let p = err_from_is_err_and c.from_residual-in_err-push.result c.from_residual-in_err-push.ensures.1 in
+    rw (p.1, p.2) (λ is. cc)
+
+pub returns-clause-held : goal.returns-clause-held
+returns-clause-held g c = λ honest. c.edits.invariant.held honest
+
+pub returns-clause-room : goal.returns-clause-room
+returns-clause-room g c = λ honest beside. c.edits.invariant.room honest beside
+
+pub returns-clause-folders : goal.returns-clause-folders
+returns-clause-folders g c = λ honest. c.edits.invariant.folders honest
+
+pub returns-clause-locked : goal.returns-clause-locked
+returns-clause-locked g c = λ honest. c.edits.invariant.locked honest

@@ -1,4 +1,12 @@
-use Rattle.std.proofs.Common.{◌≡◌, ◌≤◌, length}
+use Rattle.std.proofs.Common.{◌≡◌, ◌≤◌, length, []}
+use Rattle.std.specs.Prelude.{IsTrue}
+use Rattle.std.specs.List.{AllByRecursion, list_all}
+use Rattle.gix_ref_file.specs.Changes.{is_file_at, may_hold_file}
+use Rattle.gix_ref_file.specs.Tree.{is_path}
+use Rattle.gix_ref_way.specs.Ways.{FoldersOnlyOf}
+use Rattle.gix_ref_moves.specs.Contents.{lock_path_of, place_of}
+use Rattle.gix_ref_moves.specs.Needs.{AreBeside}
+use Rattle.gix_ref_transaction.specs.Paths.{name_paths, places_of}
 use Rattle.gix_ref_file.specs.History.{Adds}
 use Rattle.gix_ref_store.specs.Lookups.{reads_with}
 use Rattle.gix_ref_store.specs.Stores.{base_of}
@@ -22,6 +30,11 @@ invariant-edits g l =
       later : g.F.Files.failures l.fn.store.files ≤ g.F.Files.failures l.store.files;
       unfailed : g.F.Files.failures l.store.files ≡ g.F.Files.failures l.fn.store.files;
       locked : g.F.Files.is_honest l.fn.store.files → MoreFilesAt (lock_paths l.moves.items) (history l.fn.store.files).tree (history l.store.files).tree;
+      folders : g.F.Files.is_honest l.fn.store.files → Adds (FoldersOnlyOf (places_of (base_of l.fn.store) l.edits) (history l.fn.store.files).tree) (history l.fn.store.files) (history l.store.files);
+      held : g.F.Files.is_honest l.fn.store.files → AllByRecursion (λ m. IsTrue (is_file_at (history l.store.files).tree (lock_path_of m))) l.moves.items;
+      room : g.F.Files.is_honest l.fn.store.files → AreBeside (name_paths (base_of l.fn.store) l.edits) → AllByRecursion (λ m. IsTrue (may_hold_file (history l.store.files).tree (place_of m))) l.moves.items;
+      paths : IsTrue (list_all is_path (name_paths (base_of l.fn.store) l.rest));
+      none : l.fn.moves.items ≡ [];
       planned : ZippedSoFar (IsPlanOf (base_of l.fn.store) (removes l.packed_refs)) l.edits l.rest l.fn.moves.items l.moves.items;
       keeps : g.F.Files.is_honest l.fn.store.files → KeepsFiles (history l.fn.store.files).tree (history l.store.files).tree;
       lined : g.F.Files.is_honest l.fn.store.files → ZippedSoFar (LinedIn (logging l.fn.store.options (reads_with l.fn.store (history l.fn.store.files).tree l.packed) l.committer) (base_of l.fn.store) (history l.fn.store.files).tree) l.edits l.rest l.fn.moves.items l.moves.items;
