@@ -1,7 +1,7 @@
 //! Performs the action of the program's words on a real folder.
 
+use crate::lock::lock_folder;
 use crate::notes::{note_failure, note_refusal};
-use crate::turn::take_turn;
 use gix_ref_folder::{Disk, Folder, Part};
 use history::in_memory::Patient;
 use history::{Broken, Stream};
@@ -15,30 +15,30 @@ use std::io::{self, ErrorKind};
 const BAD_LINE: u8 = 2;
 
 /// Performs the action of the words, and returns the program's status.
-pub fn answer(rt: &HostRuntime, words: &[String]) -> u8 {
+pub fn act_on_words(rt: &HostRuntime, words: &[String]) -> u8 {
     match read_words(rt.alloc(), words) {
-        Ok(asked) => act_in_turn(rt, &asked).unwrap_or_else(|_| tell_memory(rt)),
-        Err(AskError::Help(text)) => tell_help(rt, text.as_str()),
-        Err(AskError::Line(text)) => tell(rt, text.as_bytes(), BAD_LINE),
-        Err(AskError::Memory) => tell_memory(rt),
+        Ok(asked) => act_under_lock(rt, &asked).unwrap_or_else(|_| write_memory_fault(rt)),
+        Err(AskError::Help(text)) => write_help(rt, text.as_str()),
+        Err(AskError::Line(text)) => write_error(rt, text.as_bytes(), BAD_LINE),
+        Err(AskError::Memory) => write_memory_fault(rt),
     }
 }
 
 /// Reports why there are no words, and returns the program's status.
 pub fn refuse(rt: &HostRuntime, error: &io::Error) -> u8 {
     match error.kind() {
-        ErrorKind::OutOfMemory => tell_memory(rt),
-        _ => tell(rt, b"error: a word isn't UTF-8\n", BAD_LINE),
+        ErrorKind::OutOfMemory => write_memory_fault(rt),
+        _ => write_error(rt, b"error: a word isn't UTF-8\n", BAD_LINE),
     }
 }
 
 // Acts on the folder that is named, while no other process does.
-fn act_in_turn(rt: &HostRuntime, asked: &Asked) -> Result<u8, AllocError> {
+fn act_under_lock(rt: &HostRuntime, asked: &Asked) -> Result<u8, AllocError> {
     // The lock goes with the file, at the end.
-    let _held = match take_turn(rt, asked) {
+    let _held = match lock_folder(rt, asked) {
         Ok(held) => held,
         Err(refusal) => {
-            let status = tell(rt, b"fault File\n", 1);
+            let status = write_error(rt, b"fault File\n", 1);
             note_refusal(rt, asked.folder.as_bytes(), &refusal);
             return Ok(status);
         }
@@ -68,19 +68,19 @@ fn copy(rt: &HostRuntime, asked: &Asked) -> Result<String, AllocError> {
 
 // Writes a text to standard error, and returns the status. If that fails, nothing else can be
 // reported.
-fn tell(rt: &HostRuntime, text: &[u8], status: u8) -> u8 {
+fn write_error(rt: &HostRuntime, text: &[u8], status: u8) -> u8 {
     let _ = write_all(&mut Stream::new(rt.stderr()), text);
     status
 }
 
-fn tell_memory(rt: &HostRuntime) -> u8 {
-    tell(rt, b"fault Memory\n", 1)
+fn write_memory_fault(rt: &HostRuntime) -> u8 {
+    write_error(rt, b"fault Memory\n", 1)
 }
 
 // Writes help to standard output, and returns the status.
-fn tell_help(rt: &HostRuntime, text: &str) -> u8 {
+fn write_help(rt: &HostRuntime, text: &str) -> u8 {
     match write_all(&mut Stream::new(rt.stdout()), text.as_bytes()) {
         Ok(()) => 0,
-        Err(Broken) => tell(rt, b"fault Write\n", 1),
+        Err(Broken) => write_error(rt, b"fault Write\n", 1),
     }
 }

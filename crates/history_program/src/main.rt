@@ -6,8 +6,8 @@
 #![tactic(auto)]
 
 mod folder;
+mod lock;
 mod notes;
-mod turn;
 
 use history::in_memory::serve;
 use std::io::IsTerminal;
@@ -22,7 +22,7 @@ fn words(rt: &HostRuntime) -> io::Result<Vec<String>> {
 fn main(rt: HostRuntime) -> ExitCode {
     let status = match words(&rt) {
         Ok(words) if words.len() > 1 || rt.stdin().is_terminal() => {
-            folder::answer(&rt, words.as_slice())
+            folder::act_on_words(&rt, words.as_slice())
         }
         Ok(_) => serve(&rt),
         Err(error) => folder::refuse(&rt, &error),

@@ -1,6 +1,6 @@
 //! What is noted after a fault: which file, and why.
 
-use crate::turn::Refusal;
+use crate::lock::Refusal;
 use gix_ref_folder::{Disk, Failure, Folder};
 use history::Stream;
 use history_word::write_all;
@@ -38,11 +38,7 @@ fn line_of(alloc: Global, text: &[u8]) -> Result<Vec<u8>, AllocError> {
 }
 
 // Returns the path and the reason of a failure; of the root's, whose path is empty, the folder's.
-fn text_of_failure(
-    alloc: Global,
-    folder: &[u8],
-    failure: &Failure,
-) -> Result<Vec<u8>, AllocError> {
+fn text_of_failure(alloc: Global, folder: &[u8], failure: &Failure) -> Result<Vec<u8>, AllocError> {
     let text = failure.text(alloc)?;
     if !failure.path().is_empty() {
         return Ok(text);

@@ -1,4 +1,4 @@
-//! One process at a time: the system's lock on a folder.
+//! The system's lock on a folder, so that one process at a time works there.
 
 use history_actions::command_line::{Action, Asked};
 use std::fs::{self, File, TryLockError};
@@ -19,7 +19,7 @@ pub enum Refusal {
 ///
 /// Returns `Busy` if another process has the lock, and `File` if the folder can't be made, opened
 /// or locked.
-pub fn take_turn(rt: &HostRuntime, asked: &Asked) -> Result<File, Refusal> {
+pub fn lock_folder(rt: &HostRuntime, asked: &Asked) -> Result<File, Refusal> {
     let held = match folder_of(rt, asked) {
         Ok(held) => held,
         Err(error) => return Err(Refusal::File(error)),
