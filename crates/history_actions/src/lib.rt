@@ -1,4 +1,4 @@
-//! The program's actions on a folder: make a repository, run commands on it, check it, recover it.
+//! The program's command line, and its actions on a folder: create, run, check and recover.
 //!
 //! [`command_line::read_words`] reads a command line. [`act`] performs its action and returns the
 //! program's status. [`perform`] does the same without reporting a failure, and returns the
