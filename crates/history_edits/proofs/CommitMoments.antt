@@ -33,7 +33,7 @@ use Rattle.history_edits.specs.EditCommits.{PutsName, RemovesName, AreMovesOf, I
 pub lock_is : (made : Move) → is_lock_file (lock_path_of made) ≡ true
 lock_is made = ap (λ t. is_lock_file t) made.lock.beside ∙ ends_after (place_of made) (codes ".lock")
 
-packed_lock_is : (t : Transaction) → is_lock_file (packed.lock_path_of t) ≡ true
+pub packed_lock_is : (t : Transaction) → is_lock_file (packed.lock_path_of t) ≡ true
 packed_lock_is t = ap (λ p. is_lock_file p) t.lock.beside ∙ ends_after (packed.place_of t) (codes ".lock")
 
 pub no_lock : (path lock : Bytes) → is_lock_file path ≡ false → is_lock_file lock ≡ true → path ≢ lock

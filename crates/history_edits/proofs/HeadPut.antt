@@ -12,7 +12,9 @@ use Rattle.history_model.specs.Places.{file_at, head_place, is_lock_file}
 use Rattle.history_model.specs.StandsFor.{head_text}
 use Rattle.history_model.proofs.PlaceLemmas.{apart_texts, one_text}
 use Rattle.history_model.proofs.WholeLists.{either}
-use Rattle.history_edits.specs.SwitchCommits.{PutsHead, SwitchCommitPasses, SwitchCommitMakes}
+use Rattle.history_layout.specs.SwitchSteps.{HeadOnTheWay, NamesBranch}
+use Rattle.history_edits.specs.EditCommits.{HasNameFolders, LocksAsBefore}
+use Rattle.history_edits.specs.SwitchPlans.{PutsHead}
 use Rattle.history_edits.proofs.CommitMoments.{lock_is, no_lock}
 
 module _ (branch : Bytes) (old locked tree : Tree) (made : Move) (puts : PutsHead branch locked made) (locks : SameButLocks old locked) where
@@ -38,7 +40,7 @@ module _ (branch : Bytes) (old locked tree : Tree) (made : Move) (puts : PutsHea
   put_so : IsCommitted None (made ∷ []) locked tree → contents made tree ≡ moved_by (Put None) (contents made locked)
   put_so done = done.each.0 ∙ ap (λ act. moved_by act (contents made locked)) puts.act
 
-pub switch_commit_passes : SwitchCommitPasses
+pub switch_commit_passes : (branch : Bytes) (old locked tree : Tree) (made : Move) → PutsHead branch locked made → SameButLocks old locked → OnTheWay None (made ∷ []) locked tree → HasNameFolders tree → HeadOnTheWay branch old tree
 switch_commit_passes branch old locked tree made puts locks way folders = record {
   here = elim (between branch old locked tree made puts locks way).file [
     | inl same ↦ inl (head_now branch old locked tree made puts locks ∙ same ∙ head_was branch old locked tree made puts locks)
@@ -48,7 +50,8 @@ switch_commit_passes branch old locked tree made puts locks way folders = record
   folders = folders;
 }
 
-pub switch_commit_makes : SwitchCommitMakes
+pub switch_commit_makes : (branch : Bytes) (old locked new : Tree) (made : Move) → PutsHead branch locked made → SameButLocks old locked → IsCommitted None (made ∷ []) locked new → LocksAsBefore old new → HasNameFolders new
+    → NamesBranch branch old new
 switch_commit_makes branch old locked new made puts locks done no_locks folders = record {
   here = head_now branch old locked new made puts locks ∙ ap (λ (c : Contents). c.file) (put_so branch old locked new made puts locks done) ∙ new_text branch old locked new made puts locks;
   others = λ path apart. elim (either (is_lock_file path)) [

@@ -7,3 +7,7 @@ pub mod PlansMade
 pub mod EditsReady
 pub mod Unsplit
 pub mod HeadPut
+pub mod HeadCommitted
+pub mod HeadPlanned
+pub mod HeadRead
+pub mod NamePlaces

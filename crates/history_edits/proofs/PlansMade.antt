@@ -1,5 +1,5 @@
 -- What is made of edits are the moves of their names.
-use Rattle.std.proofs.Common.{◌≡◌, ◌≢◌, Bool, true, false, cond, not, ◌&&◌, List, [], ◌∷◌, ◌++◌, refl, sym, ◌∙◌, ap, subst, Option, Some, None, unwrap_or, ℕ, Vec}
+use Rattle.std.proofs.Common.{◌≡◌, ◌≢◌, Bool, true, false, cond, not, List, [], ◌∷◌, ◌++◌, refl, sym, ◌∙◌, ap, subst, Option, Some, None, unwrap_or, ℕ, Vec}
 use Rattle.std.specs.List.{AllByRecursion}
 use Rattle.std.specs.Option.{option_to_list}
 use Rattle.std.proofs.lemmas.List.{append-nil}
@@ -10,8 +10,11 @@ use Rattle.gix_hash_id.specs.declared.kind.Kind.{Kind}
 use Rattle.gix_object_lines.specs.declared.lines.actor.ActorRef.{ActorRef}
 use Rattle.gix_ref_file.specs.Tree.{Tree}
 use Rattle.gix_ref_name.specs.Targets.{Points, ToObject, target_view}
+use Rattle.gix_ref_name.specs.declared.target.Target.{Target}
 use Rattle.gix_ref_edit.specs.declared.change.Change.TheVariants.{Update, Delete}
+use Rattle.gix_ref_edit.specs.declared.change.PreviousValue.{PreviousValue}
 use Rattle.gix_ref_edit.specs.declared.change.RefEdit.{RefEdit}
+use Rattle.gix_ref_edit.specs.declared.log.LogChange.{LogChange}
 use Rattle.gix_ref_edit.specs.declared.log.RefLog.TheVariants.{AndReference}
 use Rattle.gix_ref_format.specs.Lookup.{packed_key}
 use Rattle.gix_ref_format.specs.Loose.{loose_text}
@@ -25,29 +28,27 @@ use Rattle.gix_ref_moves.specs.declared.act.Move.{Move}
 use Rattle.gix_ref_repacking.specs.Repacking.{SaysByKey, SaysOfRecord, SayOfRecords}
 use Rattle.gix_ref_store.specs.Follows.{follow}
 use Rattle.gix_ref_store.specs.Places as store
-use Rattle.gix_ref_store.specs.RefStates.{RefState, state_among}
-use Rattle.gix_ref_store.specs.declared.options.WriteReflog.{WriteReflog}
-use Rattle.gix_ref_store.specs.declared.options.WriteReflog.TheVariants.{Always}
-use Rattle.gix_ref_transaction.specs.LogLines.{Logging, AllLined, IsLineOf, IsUpdateLine, IsLineIf, IsLineBy, end_id, has_log, id_before, is_logged, line_in}
+use Rattle.gix_ref_store.specs.RefStates.{RefState}
+use Rattle.gix_ref_transaction.specs.LogLines.{Logging, AllLined, IsLineOf, IsUpdateLine, IsLineIf, IsLineBy, end_id, has_log, id_before, line_in}
 use Rattle.gix_ref_transaction.specs.Plans.{AllPlanned, AllHold, HoldsText, IsActOf, IsDeletionBy, IsPlanOf, IsPut, IsUpdateBy, is_packed_alone}
 use Rattle.history_model.specs.Bytes.{Bytes}
-use Rattle.history_model.specs.Forms.{is_actor, is_name, is_private}
+use Rattle.history_model.specs.Forms.{is_name, is_private}
 use Rattle.history_model.specs.Places.{file_at, packed_place, log_place}
 use Rattle.history_model.specs.Repository.{Repository, id_at}
 use Rattle.history_model.proofs.FormatLemmas.{records_alike}
 use Rattle.history_model.proofs.IdLemmas.{apart_ids, one_id}
 use Rattle.history_layout.specs.EditSteps.{MovedName, edited_names}
 use Rattle.history_layout.specs.TreeHalves.{HoldsNames}
-use Rattle.history_edits.specs.Bridges.{Commits, ReadsAs, removals, root_base}
+use Rattle.history_edits.specs.Bridges.{ReadsAs, removals, root_base}
 use Rattle.history_edits.specs.EditCommits.{AreMovesOf, IsLineFor, PutsName, RemovesName}
-use Rattle.history_edits.specs.EditPlans.{AsksMove, AsksDeletion, AreEdits, BeginsHeld, PlansMove, EditsSay}
+use Rattle.history_edits.specs.EditPlans.{AsksMove, AsksDeletion, AreEdits, EditsSay, IsLogged, logging_of}
 use Rattle.history_edits.proofs.LinesTold.{line_told}
 use Rattle.history_edits.proofs.WholeReads.{names_stand_in_place, reads_whole}
 
 -- ---- acts
 
 -- an update of a reference to an object is `Put`
-put_line : (alone : Bool) (act : Act) → alone ≡ false → IsUpdateBy AndReference alone act → (line : Option (Vec ℕ Global)) × (act ≡ Put line)
+pub put_line : (alone : Bool) (act : Act) → alone ≡ false → IsUpdateBy AndReference alone act → (line : Option (Vec ℕ Global)) × (act ≡ Put line)
 put_line alone (Put line) never is = (line, refl)
 put_line alone (Note line) never is = absurd is
 put_line alone (Pack line) never is = cc (sym is ∙ never)
@@ -72,14 +73,11 @@ id_held kind read (Some id) name e = ap (λ state. end_id kind (follow read 5 []
 
 -- ---- one name
 
-module _ (r : Repository) (tree locked : Tree) (kept : Option (List Record)) (who : ActorRef) (l : Logging) (h : HoldsNames tree r) (keeps : KeepsFile r.kind (file_at tree packed_place) kept)
-    (always : l.logged ≡ Always) (kind : l.kind ≡ r.kind) (read : l.read ≡ state_among (root_base r.kind) tree (unwrap_or kept [])) (committer : l.committer ≡ Some who) where
-  before_is : (name : Bytes) → is_name name ≡ true → id_before l name ≡ unwrap_or (id_at r name) (null_id r.kind)
-  before_is name named =
-      (λ i. end_id (kind i) (follow (read i) 5 [] name (read i name)))
-      ∙ id_held r.kind (state_among (root_base r.kind) tree (unwrap_or kept [])) (id_at r name) name (reads_whole r tree kept name h keeps named)
+module _ (r : Repository) (tree locked : Tree) (kept : Option (List Record)) (committer : Option ActorRef) (h : HoldsNames tree r) (keeps : KeepsFile r.kind (file_at tree packed_place) kept) where
+  abbrev l : Logging
+  l = logging_of r.kind kept committer tree
 
-  module _ (m : MovedName) (edit : RefEdit) (made : Move) (named : is_name m.name ≡ true) (begins : BeginsHeld r m) (formed : is_actor m.entry.actor ≡ true) (commits : Commits m.entry.actor who) (asks : AsksMove m edit)
+  module _ (m : MovedName) (edit : RefEdit) (made : Move) (named : is_name m.name ≡ true) (logged : IsLogged r committer m) (asks : AsksMove m edit)
       (plan : IsPlanOf (root_base r.kind) false edit made) (holds : HoldsText edit.change made.act (lock_path_of made) locked) (lined : IsLineOf l (has_log (root_base r.kind) tree edit.name) edit.name edit.change (line_in made.act)) where
     place : place_of made ≡ m.name
     place = plan.file ∙ ap (store.place (root_base r.kind)) asks.name ∙ (names_stand_in_place r.kind m.name named).file
@@ -98,30 +96,24 @@ module _ (r : Repository) (tree locked : Tree) (kept : Option (List Record)) (wh
     text = subst (λ change. HoldsText change made.act (lock_path_of made) locked) asks.change holds (subst IsPut (sym put.1) tt) ∙ ap (λ new. Some (loose_text new)) asks.target
 
     before : id_before l edit.name ≡ m.entry.before
-    before = ap (id_before l) asks.name ∙ before_is m.name named ∙ sym begins
+    before = ap (id_before l) asks.name ∙ id_held r.kind l.read (id_at r m.name) m.name (reads_whole r tree kept m.name h keeps named) ∙ sym logged.before
 
     line_so : IsLineIf (not (id_eq m.entry.before m.entry.after)) l edit.name asks.log m.entry.after put.0
     line_so = subst (λ (b : Id). IsLineIf (not (id_eq b m.entry.after)) l edit.name asks.log m.entry.after put.0) before
-        (subst (λ (logged : WriteReflog). IsLineIf (is_logged logged asks.log.force_create_reflog (has_log (root_base r.kind) tree edit.name) edit.name && not (id_eq (id_before l edit.name) m.entry.after)) l edit.name asks.log m.entry.after put.0) always
         (subst (λ new. IsUpdateLine l (has_log (root_base r.kind) tree edit.name) edit.name asks.log new put.0) asks.target
         (subst (λ act. IsUpdateLine l (has_log (root_base r.kind) tree edit.name) edit.name asks.log (target_view asks.new) (line_in act)) put.1
-        (subst (λ change. IsLineOf l (has_log (root_base r.kind) tree edit.name) edit.name change (line_in made.act)) asks.change lined))))
+        (subst (λ change. IsLineOf l (has_log (root_base r.kind) tree edit.name) edit.name change (line_in made.act)) asks.change lined)))
 
-    by_line : (line : Option (Vec ℕ Global)) → m.entry.before ≢ m.entry.after → IsLineBy (Some who) m.entry.before m.entry.after m.entry.message line → IsLineFor m line
+    by_line : (line : Option (Vec ℕ Global)) → m.entry.before ≢ m.entry.after → IsLineBy (Some logged.who) m.entry.before m.entry.after m.entry.message line → IsLineFor m line
     by_line None differ is = absurd is
-    by_line (Some one) differ is = (differ, line_told m.entry who one.items formed commits is)
+    by_line (Some one) differ is = (differ, line_told m.entry logged.who one.items logged.formed logged.commits is)
 
     told : (b : Bool) → id_eq m.entry.before m.entry.after ≡ b → IsLineIf (not b) l edit.name asks.log m.entry.after put.0 → IsLineFor m put.0
     told true same is = subst (IsLineFor m) (sym is) (one_id m.entry.before m.entry.after same)
     told false apart is = by_line put.0 (λ same. apart_ids m.entry.before m.entry.after apart same)
-        (by_who committer before asks.message is)
-      where
-        by_who : l.committer ≡ Some who → id_before l edit.name ≡ m.entry.before → asks.log.message ≡ m.entry.message → IsLineBy l.committer (id_before l edit.name) m.entry.after asks.log.message put.0
-            → IsLineBy (Some who) m.entry.before m.entry.after m.entry.message put.0
-        by_who c b t is =
-            subst (λ (o : Option ActorRef). IsLineBy o m.entry.before m.entry.after m.entry.message put.0) c
-            (subst (λ (id : Id). IsLineBy l.committer id m.entry.after m.entry.message put.0) b
-            (subst (λ (text : Bytes). IsLineBy l.committer (id_before l edit.name) m.entry.after text put.0) t is))
+        (subst (λ (o : Option ActorRef). IsLineBy o m.entry.before m.entry.after m.entry.message put.0) logged.given
+        (subst (λ (id : Id). IsLineBy committer id m.entry.after m.entry.message put.0) before
+        (subst (λ (text : Bytes). IsLineBy committer (id_before l edit.name) m.entry.after text put.0) asks.message is)))
 
     puts : PutsName m locked made
     puts = record { line = put.0; act = put.1; place = place; log = log; text = text; told = told (id_eq m.entry.before m.entry.after) refl line_so }
@@ -135,38 +127,34 @@ module _ (r : Repository) (tree locked : Tree) (kept : Option (List Record)) (wh
     log = plan.log ∙ ap (store.log_place (root_base r.kind)) asks.name_is ∙ (names_stand_in_place r.kind name named).log;
   }
 
-  all_move : (moved : List MovedName) (taken : Option Bytes) (edits : List RefEdit) (moves : List Move) → AllByRecursion (λ name. is_name name ≡ true) (edited_names moved taken)
-      → AllByRecursion (BeginsHeld r) moved → AllByRecursion (λ (m : MovedName). is_actor m.entry.actor ≡ true) moved → AllByRecursion (λ (m : MovedName). Commits m.entry.actor who) moved → AreEdits moved taken edits
+  pub all_move : (moved : List MovedName) (taken : Option Bytes) (edits : List RefEdit) (moves : List Move) → AllByRecursion (λ name. is_name name ≡ true) (edited_names moved taken)
+      → AllByRecursion (IsLogged r committer) moved → AreEdits moved taken edits
       → AllPlanned (root_base r.kind) false edits moves → AllHold locked edits moves → AllLined l (root_base r.kind) tree edits moves → AreMovesOf moved taken locked moves
-  all_move [] None [] [] named begins formed commits asks plans hold lined = refl
-  all_move [] None [] (made ∷ moves) named begins formed commits asks plans hold lined = absurd plans
-  all_move [] None (edit ∷ edits) moves named begins formed commits asks plans hold lined = cc
-  all_move [] (Some name) [] moves named begins formed commits asks plans hold lined = absurd asks
-  all_move [] (Some name) (edit ∷ edits) [] named begins formed commits asks plans hold lined = absurd plans
-  all_move [] (Some name) (edit ∷ edits) (made ∷ moves) named begins formed commits asks plans hold lined =
+  all_move [] None [] [] named logged asks plans hold lined = refl
+  all_move [] None [] (made ∷ moves) named logged asks plans hold lined = absurd plans
+  all_move [] None (edit ∷ edits) moves named logged asks plans hold lined = cc
+  all_move [] (Some name) [] moves named logged asks plans hold lined = absurd asks
+  all_move [] (Some name) (edit ∷ edits) [] named logged asks plans hold lined = absurd plans
+  all_move [] (Some name) (edit ∷ edits) (made ∷ moves) named logged asks plans hold lined =
       (last_moves name edit made named.0 asks.0 plans.0, none_left edits moves asks.1 plans.1)
     where
       none_left : (edits : List RefEdit) (moves : List Move) → edits ≡ [] → AllPlanned (root_base r.kind) false edits moves → moves ≡ []
       none_left [] [] is plans = refl
       none_left [] (made ∷ moves) is plans = absurd plans
       none_left (edit ∷ edits) moves is plans = cc
-  all_move (m ∷ moved) taken [] moves named begins formed commits asks plans hold lined = absurd asks
-  all_move (m ∷ moved) taken (edit ∷ edits) [] named begins formed commits asks plans hold lined = absurd plans
-  all_move (m ∷ moved) taken (edit ∷ edits) (made ∷ moves) named begins formed commits asks plans hold lined = (
-    puts m edit made named.0 begins.0 formed.0 commits.0 asks.0 plans.0 hold.0 lined.0,
-    all_move moved taken edits moves named.1 begins.1 formed.1 commits.1 asks.1 plans.1 hold.1 lined.1,
+  all_move (m ∷ moved) taken [] moves named logged asks plans hold lined = absurd asks
+  all_move (m ∷ moved) taken (edit ∷ edits) [] named logged asks plans hold lined = absurd plans
+  all_move (m ∷ moved) taken (edit ∷ edits) (made ∷ moves) named logged asks plans hold lined = (
+    puts m edit made named.0 logged.0 asks.0 plans.0 hold.0 lined.0,
+    all_move moved taken edits moves named.1 logged.1 asks.1 plans.1 hold.1 lined.1,
   )
-
-pub plans_move : PlansMove
-plans_move r tree locked kept moved taken who l edits moves h keeps named logs asks plans hold lined =
-    all_move r tree locked kept who l h keeps logs.always logs.kind logs.read logs.committer moved taken edits moves named logs.before logs.formed logs.actors asks plans hold lined
 
 -- ---- what edits say of records
 
-update_says : (m : MovedName) (edit : RefEdit) (own : Option Line) → AsksMove m edit → SaysOfRecord None edit own → own ≡ None
-update_says m edit own asks says = go (packed_key edit.name) (subst (λ change. SaysByKey None change (packed_key edit.name) own) asks.change says)
+pub update_says : (log : LogChange) (expected : PreviousValue) (new : Target) (edit : RefEdit) (own : Option Line) → edit.change ≡ Update log expected new → SaysOfRecord None edit own → own ≡ None
+update_says log expected new edit own change says = go (packed_key edit.name) (subst (λ c. SaysByKey None c (packed_key edit.name) own) change says)
   where
-    go : (key : Option Bytes) → SaysByKey None (Update asks.log asks.expected asks.new) key own → own ≡ None
+    go : (key : Option Bytes) → SaysByKey None (Update log expected new) key own → own ≡ None
     go None is = is
     go (Some key) is = is
 
@@ -191,4 +179,4 @@ edits_say [] (Some name) (edit ∷ edits) lines named asks (own, rest, says, mor
     none_more (edit ∷ edits) rest none more = cc
 edits_say (m ∷ moved) taken [] lines named asks say = absurd asks
 edits_say (m ∷ moved) taken (edit ∷ edits) lines named asks (own, rest, says, more, is) =
-    is ∙ ap (λ o. option_to_list o ++ rest) (update_says m edit own asks.0 says) ∙ edits_say moved taken edits rest named.1 asks.1 more
+    is ∙ ap (λ o. option_to_list o ++ rest) (update_says asks.0.log asks.0.expected asks.0.new edit own asks.0.change says) ∙ edits_say moved taken edits rest named.1 asks.1 more

@@ -10,7 +10,7 @@ module _ (read : Targets) where
   no_hop : (edit : RefEdit) → edit.deref ≡ false → hop read edit ≡ None
   no_hop edit plain = ap (λ b. cond b (hop_to edit (read edit.name)) None) plain
 
-  no_hops : (edits : List RefEdit) → AllByRecursion (λ (edit : RefEdit). edit.deref ≡ false) edits → hops read edits ≡ []
+  pub no_hops : (edits : List RefEdit) → AllByRecursion (λ (edit : RefEdit). edit.deref ≡ false) edits → hops read edits ≡ []
   no_hops [] plain = refl
   no_hops (edit ∷ edits) plain = λ i. cons_option (no_hop edit plain.0 i) (no_hops edits plain.1 i)
 

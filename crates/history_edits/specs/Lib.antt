@@ -1,4 +1,4 @@
 pub mod Bridges
 pub mod EditCommits
 pub mod EditPlans
-pub mod SwitchCommits
+pub mod SwitchPlans

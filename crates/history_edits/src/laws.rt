@@ -2,8 +2,8 @@
 
 ghost use Rattle.history_edits.specs.Bridges.{NamesStandInPlace, ReadsWhole, PathsOnce, LineTold, RecordTaken};
 ghost use Rattle.history_edits.specs.EditCommits.{ReadyingPasses, CommitPasses, CommitMakes};
-ghost use Rattle.history_edits.specs.EditPlans.{PlansMove, EditsSay, EditsReady, UnsplitStay};
-ghost use Rattle.history_edits.specs.SwitchCommits.{SwitchCommitPasses, SwitchCommitMakes};
+ghost use Rattle.history_edits.specs.EditPlans.{EditsSay, EditsReady, UnsplitStay};
+ghost use Rattle.history_edits.specs.SwitchPlans.{HeadCommits, HeadIsReady, HeadPrepares, HeadSwitched, HeadSwitches};
 
 /// A name's files are where a store of the root looks for them.
 pub fn names_stand_in_place()
@@ -45,17 +45,12 @@ pub fn commit_makes()
     ensures { CommitMakes }
 {}
 
-/// What is made of the edits of a command are the moves of its names.
-pub fn plans_move()
-    ensures { PlansMove }
-{}
-
 /// The edits say that the record of the name that goes goes too, and nothing else of records.
 pub fn edits_say()
     ensures { EditsSay }
 {}
 
-/// Edits that are made ready are ready to be committed.
+/// Edits that are prepared are ready to be committed.
 pub fn edits_ready()
     ensures { EditsReady }
 {}
@@ -65,12 +60,27 @@ pub fn unsplit_stay()
     ensures { UnsplitStay }
 {}
 
-/// While a commit puts HEAD it is on its way.
-pub fn switch_commit_passes()
-    ensures { SwitchCommitPasses }
+/// Once the edit of a switch is prepared, only HEAD is to be replaced.
+pub fn head_is_ready()
+    ensures { HeadIsReady }
 {}
 
-/// After it HEAD names the branch.
-pub fn switch_commit_makes()
-    ensures { SwitchCommitMakes }
+/// While HEAD's edit is prepared, HEAD is as before.
+pub fn head_prepares()
+    ensures { HeadPrepares }
+{}
+
+/// What is made of it can be committed.
+pub fn head_commits()
+    ensures { HeadCommits }
+{}
+
+/// While it is committed HEAD is on its way.
+pub fn head_switches()
+    ensures { HeadSwitches }
+{}
+
+/// After it HEAD names the branch, and no lock is left.
+pub fn head_switched()
+    ensures { HeadSwitched }
 {}
