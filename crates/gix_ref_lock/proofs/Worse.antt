@@ -2,44 +2,24 @@
 use Rattle.std.proofs.Common.{◌≡◌, ◌≢◌, ◌⊎◌, inl, inr, refl, ◌∙◌, ap}
 use Rattle.gix_ref_lock.specs.GivenBacks.{worse}
 use Rattle.gix_ref_lock.specs.declared.lock.GivenBack.{GivenBack}
-use Rattle.gix_ref_lock.specs.declared.lock.GivenBack.TheVariants.{Done, Unread, Memory, Failed}
+use Rattle.gix_ref_lock.specs.declared.lock.GivenBack.TheVariants.{Done, Memory, Failed}
 
 pub both_done : (a b : GivenBack) → worse a b ≡ Done → (a ≡ Done) × (b ≡ Done)
 both_done Done b is = (refl, is)
 both_done Failed b is = cc
 both_done Memory Done is = cc
-both_done Memory Unread is = cc
 both_done Memory Memory is = cc
 both_done Memory Failed is = cc
-both_done Unread Done is = cc
-both_done Unread Unread is = cc
-both_done Unread Memory is = cc
-both_done Unread Failed is = cc
-
-pub one_unread : (a b : GivenBack) → worse a b ≡ Unread → (a ≡ Unread) ⊎ (b ≡ Unread)
-one_unread Done b is = inr is
-one_unread Failed b is = cc
-one_unread Memory Done is = cc
-one_unread Memory Unread is = cc
-one_unread Memory Memory is = cc
-one_unread Memory Failed is = cc
-one_unread Unread b is = inl refl
 
 pub one_failed : (a b : GivenBack) → worse a b ≡ Failed → (a ≡ Failed) ⊎ (b ≡ Failed)
 one_failed Done b is = inr is
 one_failed Failed b is = inl refl
 one_failed Memory Done is = cc
-one_failed Memory Unread is = cc
 one_failed Memory Memory is = cc
 one_failed Memory Failed is = inr refl
-one_failed Unread Done is = cc
-one_failed Unread Unread is = cc
-one_failed Unread Memory is = cc
-one_failed Unread Failed is = inr refl
 
 fails_too : (a : GivenBack) → worse a Failed ≡ Failed
 fails_too Done = refl
-fails_too Unread = refl
 fails_too Memory = refl
 fails_too Failed = refl
 

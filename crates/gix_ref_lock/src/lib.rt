@@ -1,4 +1,4 @@
-//! Transactions of references: edits that are prepared and made, after the crate `gix-ref` 0.67.
+//! Locks of references: lock files, and transactions of `packed-refs`, after `gix-ref` 0.67.
 #![tactic(auto)]
 
 pub mod lock;

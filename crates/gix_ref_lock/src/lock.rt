@@ -6,7 +6,7 @@ ghost use Rattle.gix_ref_file.specs.History.{HasRisen};
 ghost use Rattle.gix_ref_file.specs.declared.files.FileError.TheVariants.{Failed, Memory};
 ghost use Rattle.gix_ref_lock.specs.declared.lock.GivenBack.TheVariants as given;
 ghost use Rattle.gix_ref_file.specs.Tree.{file, is_path, node_at, bytes_at};
-ghost use Rattle.gix_ref_file.specs.Calls.{Achieves, Passes};
+ghost use Rattle.gix_ref_file.specs.Calls.{Achieves, HasFault, Passes};
 ghost use Rattle.gix_ref_way.specs.Ways.{SameFolders};
 ghost use Rattle.gix_ref_lock.specs.GivenBacks.{worse};
 ghost use Rattle.gix_ref_lock.specs.Locks.{lock_of, OthersStay, KeepsHeld, IsTaken, MayBePut, IsPut};
@@ -30,8 +30,6 @@ pub struct Lock {
 pub enum GivenBack {
     /// No lock is left.
     Done,
-    /// A reading failed, so that one may be left.
-    Unread,
     /// Memory was refused, so that one may be left. No removal failed.
     Memory,
     /// A removal failed.
@@ -39,7 +37,7 @@ pub enum GivenBack {
 }
 
 impl GivenBack {
-    /// Returns the worse of both: `Failed` before `Memory`, that before `Unread`.
+    /// Returns the worse of both: `Failed` before `Memory`.
     pub fn or_worse(self, other: GivenBack) -> GivenBack
         ensures { result ≡ worse self other }
     {
@@ -47,11 +45,7 @@ impl GivenBack {
             GivenBack::Failed => GivenBack::Failed,
             GivenBack::Memory => match other {
                 GivenBack::Failed => GivenBack::Failed,
-                GivenBack::Done | GivenBack::Unread | GivenBack::Memory => GivenBack::Memory,
-            },
-            GivenBack::Unread => match other {
-                GivenBack::Done => GivenBack::Unread,
-                GivenBack::Unread | GivenBack::Memory | GivenBack::Failed => other,
+                GivenBack::Done | GivenBack::Memory => GivenBack::Memory,
             },
             GivenBack::Done => other,
         }
@@ -158,8 +152,8 @@ impl Lock {
         files.remove_file(alloc, &self.path)
     }
 
-    /// Removes the lock if it is there. Returns `Failed` if its removal failed, `Unread` if it
-    /// couldn't be read whether it is there, and `Memory` if no memory is left.
+    /// Removes the lock, unless it is read that none is there. Returns `Failed` if its removal
+    /// failed, and `Memory` if no memory is left.
     pub fn withdraw<F: Files>(&self, alloc: Global, files: &mut F) -> GivenBack
         ensures honest { F.is_honest files.old → F.is_honest files.new }
         ensures later { F.failures files.old ≤ F.failures files.new }
@@ -168,20 +162,21 @@ impl Lock {
             (OthersStay self.now.path.items) }
         ensures folders { Passes F.is_honest F.history files.old files.new SameFolders }
         ensures failed { F.is_honest files.old → result ≡ given.Failed
-            → HasRisen (F.failures files.old) (F.failures files.new) }
-        ensures unread { result ≡ given.Unread → F.reading_may_fail }
+            → HasFault F.failures F.reading_may_fail files.old files.new }
+        ensures held { F.is_honest files.old
+            → IsTrue (is_file_at (F.history files.old).tree self.now.path.items)
+            → result ≡ given.Failed → HasRisen (F.failures files.old) (F.failures files.new) }
         ensures gone { F.is_honest files.old → result ≡ given.Done
             → is_file_at (F.history files.new).tree self.now.path.items ≡ false }
     {
         // The removal of nothing might be counted as a failure.
         match is_file(files, &self.path) {
-            Ok(true) => match self.give_back(alloc, files) {
+            Ok(false) => GivenBack::Done,
+            Ok(true) | Err(FileError::Failed) => match self.give_back(alloc, files) {
                 Ok(()) => GivenBack::Done,
                 Err(FileError::Failed) => GivenBack::Failed,
                 Err(FileError::Memory) => GivenBack::Memory,
             },
-            Ok(false) => GivenBack::Done,
-            Err(FileError::Failed) => GivenBack::Unread,
             Err(FileError::Memory) => GivenBack::Memory,
         }
     }

@@ -17,13 +17,14 @@ ghost use Rattle.gix_ref_lock.specs.declared.packed.PrepareError.TheVariants as 
 ghost use Rattle.gix_ref_lock.specs.declared.packed.CommitError.TheVariants as commit_case;
 ghost use Rattle.gix_ref_lock.specs.PackedErrors.{IsShort, IsUnprepared, IsUncommitted, as_prepare, as_commit};
 
-use crate::lock::{GivenBack, Lock, acquire};
+use crate::lock::{Lock, acquire};
 use gix_hash::{Kind, ObjectId};
 use gix_ref_file::{FileError, Files};
 use gix_ref_format::packed::{Buffer, Reference, buffer};
 use gix_ref_name::FullName;
 use gix_ref_packed::laws::written_records_are_read;
 use gix_ref_packed::{Edit, edited, packed_text, written};
+use gix_ref_way::is_file;
 use std::alloc::{AllocError, Global};
 use thiserror::Error;
 
@@ -537,9 +538,13 @@ fn unreplaced<F: Files>(alloc: Global, files: &mut F, lock: &Lock, error: FileEr
     ensures told { F.is_honest files.old
         → (result ≡ as_commit error) ⊎ HasRisen (F.failures files.old) (F.failures files.new) }
 {
-    match lock.withdraw(alloc, files) {
-        GivenBack::Failed => CommitError::Commit,
-        GivenBack::Done | GivenBack::Unread | GivenBack::Memory => CommitError::from(error),
+    // If it can't be read, nothing may be there, whose removal fails though only memory was wanting.
+    match is_file(files, &lock.path) {
+        Ok(true) => match lock.give_back(alloc, files) {
+            Err(FileError::Failed) => CommitError::Commit,
+            Ok(()) | Err(FileError::Memory) => CommitError::from(error),
+        },
+        Ok(false) | Err(_) => CommitError::from(error),
     }
 }
 

@@ -65,10 +65,10 @@ until R a b c (Err e) last (inr fault) = inr (wider a a b c (omega arith) last f
 
 -- an error that is told after locks were given back
 pub after_cause : {R : Type 0} (a b c : ℕ) (error result : CommitError) (given : GivenBack) → a ≤ b → b ≤ c → IsOutOfMemory error ⊎ (HasRisen a b ⊎ R) → (result ≡ error) ⊎ (given ≡ given_case.Failed)
-    → (given ≡ given_case.Failed → HasRisen b c) → IsOutOfMemory result ⊎ (HasRisen a c ⊎ R)
+    → (given ≡ given_case.Failed → HasRisen b c ⊎ R) → IsOutOfMemory result ⊎ (HasRisen a c ⊎ R)
 after_cause a b c error result given first last (inl short) (inl same) rise = inl (subst IsOutOfMemory (sym same) short)
 after_cause a b c error result given first last (inr fault) (inl same) rise = inr (wider a a b c (omega arith) last fault)
-after_cause a b c error result given first last fault (inr failed) rise = inr (inl (risen_later a b c c first (rise failed) (omega arith)))
+after_cause a b c error result given first last fault (inr failed) rise = inr (wider a b c c first (omega arith) (rise failed))
 
 pub file_there : (o : Option Node) (n : ℕ) → places.File n ≡ place_at o → is_some (bytes_of o) ≡ true
 file_there None n is = cc

@@ -12,6 +12,7 @@ use Rattle.gix_ref_way.specs.Ways.{Bytes}
 use Rattle.gix_ref_moves.specs.Contents.{lock_path_of}
 use Rattle.gix_ref_moves.specs.Committing.{AreUnlocked}
 use Rattle.gix_ref_moves.specs.Moments.{NoFileMore}
+use Rattle.gix_ref_moves.specs.Moves.{IsNone, LocksHeld, lock_paths}
 use Rattle.gix_ref_moves.specs.declared.act.Move.{Move}
 use Rattle.gix_ref_moves.proofs.PathLists.{all_append, all_weaker}
 
@@ -32,6 +33,11 @@ still_gone old new none path gone = by_test (is_file_at new path) refl
     by_test : (b : Bool) → is_file_at new path ≡ b → is_file_at new path ≡ false
     by_test false is = is
     by_test true is = let wrong : true ≡ false = sym (none path is) ∙ gone in absurd (cc wrong)
+
+-- the other locks still exist
+pub held_still : (lock : Bytes) (moves : List Move) (now x : Tree) → OthersStay lock now x → IsNone lock (lock_paths moves) → LocksHeld moves now → LocksHeld moves x
+held_still lock [] now x stay apart held = tt
+held_still lock (m ∷ moves) now x stay apart held = (ap (λ n. is_some (bytes_of n)) (stay (lock_path_of m) (λ same. apart.0 (sym same))) ∙ held.0, held_still lock moves now x stay apart.1 held.1)
 
 -- The first locks are given back, if that came to that.
 pub record Unlocking (outcome : GivenBack) (moves rest : List Move) (old now : Tree) : Type 0 where

@@ -1,6 +1,7 @@
 -- Moves of several references, and the paths that they concern.
-use Rattle.std.specs.Prelude.{◌≡◌, ◌≢◌, ⊤, List, [], ◌∷◌}
+use Rattle.std.specs.Prelude.{◌≡◌, ◌≢◌, ⊤, List, [], ◌∷◌, map, IsTrue}
 use Rattle.std.specs.List.{AllByRecursion}
+use Rattle.gix_ref_file.specs.Changes.{is_file_at}
 use Rattle.gix_ref_file.specs.Tree.{Tree}
 use Rattle.gix_ref_way.specs.Ways.{Bytes, file_at}
 use Rattle.gix_ref_moves.specs.Contents.{Contents, contents, place_of, lock_path_of, log_path_of}
@@ -14,6 +15,13 @@ paths_of m = place_of m ∷ lock_path_of m ∷ log_path_of m ∷ []
 abbrev pub all_paths : List Move → List Bytes
 all_paths [] = []
 all_paths (m ∷ ms) = place_of m ∷ lock_path_of m ∷ log_path_of m ∷ all_paths ms
+
+abbrev pub lock_paths : List Move → List Bytes
+lock_paths moves = map lock_path_of moves
+
+-- the locks of all moves exist
+abbrev pub LocksHeld : List Move → Tree → Type 0
+LocksHeld moves tree = AllByRecursion (λ m. IsTrue (is_file_at tree (lock_path_of m))) moves
 
 -- the path is none of these
 abbrev pub IsNone : Bytes → List Bytes → Type 0

@@ -9,7 +9,7 @@ ghost use Rattle.gix_ref_lock.specs.declared.packed.CommitError.TheVariants as p
 ghost use Rattle.gix_ref_way.specs.Ways.{FoldersOnlyOf, SameFolders};
 ghost use Rattle.gix_ref_moves.specs.Committing.{AreUnlocked, IsCommitted, IsShowing, KeepsPacked, LocksAlone, MayReplace, NoneLocked, OnTheWay, Replaces, commit_paths, shown};
 ghost use Rattle.gix_ref_moves.specs.Moments.{SameButLocks};
-ghost use Rattle.gix_ref_moves.specs.Moves.{AllHave, AllMay, Once, all_paths};
+ghost use Rattle.gix_ref_moves.specs.Moves.{AllHave, AllMay, LocksHeld, Once, all_paths, lock_paths};
 ghost use Rattle.gix_ref_moves.specs.Needs.{AreBeside, CanCommit, CanMove, CanReplace, IsOutOfMemory, PackedLocked, log_paths};
 
 use crate::act::{CommitError, Move};
@@ -58,7 +58,7 @@ pub fn commit<F: Files>(
 
 /// Gives the locks back of all moves; also if one can't be given back, then the others. A lock that
 /// isn't there any more is passed over. Returns the worst that came of one: `Failed` if a removal
-/// failed, else `Memory` if memory was wanting, else `Unread` if a reading failed.
+/// failed, else `Memory` if memory was wanting.
 pub fn give_back_all<F: Files>(alloc: Global, files: &mut F, moves: &[Move]) -> GivenBack
     ensures honest { F.is_honest files.old → F.is_honest files.new }
     ensures later { F.failures files.old ≤ F.failures files.new }
@@ -68,8 +68,10 @@ pub fn give_back_all<F: Files>(alloc: Global, files: &mut F, moves: &[Move]) -> 
         → Passes F.is_honest F.history files.old files.new (AllMay LocksAlone moves.now) }
     ensures folders { Passes F.is_honest F.history files.old files.new SameFolders }
     ensures failed { F.is_honest files.old → result ≡ given.Failed
-        → HasRisen (F.failures files.old) (F.failures files.new) }
-    ensures unread { result ≡ given.Unread → F.reading_may_fail }
+        → HasFault F.failures F.reading_may_fail files.old files.new }
+    ensures held { Once (lock_paths moves.now) → F.is_honest files.old
+        → LocksHeld moves.now (F.history files.old).tree
+        → result ≡ given.Failed → HasRisen (F.failures files.old) (F.failures files.new) }
     ensures gone { Once (all_paths moves.now) → F.is_honest files.old → result ≡ given.Done
         → NoneLocked moves.now (F.history files.old).tree (F.history files.new).tree }
     ensures rolled_back { F.is_honest files.old → result ≡ given.Done
@@ -91,7 +93,7 @@ fn after(error: CommitError, locks: GivenBack) -> CommitError
 {
     match locks {
         GivenBack::Failed => CommitError::LockCommit,
-        GivenBack::Done | GivenBack::Unread | GivenBack::Memory => error,
+        GivenBack::Done | GivenBack::Memory => error,
     }
 }
 

@@ -1,18 +1,18 @@
-use Rattle.std.proofs.Common.{◌≡◌, ◌≤◌, ⊎_elim, refl, sym, ◌∙◌, subst, List, ℕ, arith}
-use Rattle.gix_ref_file.specs.History.{HasRisen}
+use Rattle.std.proofs.Common.{◌≡◌, ⊎_elim, refl, sym, ◌∙◌, subst, List, ◌∷◌, arith}
 use Rattle.gix_ref_file.proofs.Histories.{adds_weaker, adds_joined, adds_nothing}
 use Rattle.gix_ref_lock.specs.Locks.{OthersStay}
 use Rattle.gix_ref_lock.specs.GivenBacks.{worse}
-use Rattle.gix_ref_lock.specs.declared.lock.GivenBack.TheVariants.{Failed}
 use Rattle.gix_ref_lock.proofs.GivenUp.{first_half, second_half}
 use Rattle.gix_ref_lock.proofs.LockLemmas.{folders_joined}
-use Rattle.gix_ref_lock.proofs.Worse.{both_done, one_unread, one_failed, none_failed}
+use Rattle.gix_ref_lock.proofs.Worse.{both_done, one_failed, none_failed}
 use Rattle.gix_ref_moves.specs.Contents.{lock_path_of}
+use Rattle.gix_ref_moves.specs.Moves.{LocksHeld, Once, lock_paths}
 use Rattle.gix_ref_moves.specs.declared.act.Move.{Move}
 use Rattle.gix_ref_moves.proofs.FileMoves.{now_of}
 use Rattle.gix_ref_moves.proofs.LockPaths.{locks_joined, one_lock}
+use Rattle.gix_ref_moves.proofs.Needed.{wider}
 use Rattle.gix_ref_moves.proofs.Givings.{Giving, giving_begun, giving, one_given, giving_ended}
-use Rattle.gix_ref_moves.proofs.Unlockings.{Unlocking, unlocking_begun, unlocking_on, unlocking_ended}
+use Rattle.gix_ref_moves.proofs.Unlockings.{Unlocking, held_still, unlocking_begun, unlocking_on, unlocking_ended}
 use Rattle.gix_ref_moves.proofs.commit.give_back_all.Goals as goal
 
 pub moves-init : goal.moves-init
@@ -25,7 +25,7 @@ moves-init g c = record {
   moments = λ once honest. adds_nothing (g.F.Files.history c.args.files.now);
   given = λ once honest. giving_begun c.args.moves.now (g.F.Files.history c.args.files.now).tree;
   failed = λ honest failed. cc;
-  unread = λ unread. cc;
+  held = λ once honest held. (λ failed. cc, (once, held));
   unlocked = λ honest. unlocking_begun c.args.moves.now (g.F.Files.history c.args.files.now).tree;
 }
 
@@ -59,10 +59,21 @@ moves-preserved g c =
           let stay = now_of (OthersStay (lock_path_of first) mid.tree) mid new (λ path apart. refl) (c.withdraw.ensures.moments (c.moves.invariant.honest honest)) in
           one_given before moves first others old.tree mid.tree so_far once new.tree stay own c.or_worse-outcome.result (λ done. both_done before own (sym is ∙ done)) (c.withdraw.ensures.gone (c.moves.invariant.honest honest));
       failed = λ honest failed.
-          ⊎_elim (λ one. first_half (f c.args.files.now) (f c.moves.files) (f c.withdraw.new.files) (c.moves.invariant.failed honest one) c.withdraw.ensures.later)
-          (λ one. second_half (f c.args.files.now) (f c.moves.files) (f c.withdraw.new.files) c.moves.invariant.later (c.withdraw.ensures.failed (c.moves.invariant.honest honest) one))
+          ⊎_elim (λ one. wider (f c.args.files.now) (f c.args.files.now) (f c.moves.files) (f c.withdraw.new.files) (omega arith) c.withdraw.ensures.later (c.moves.invariant.failed honest one))
+          (λ one. wider (f c.args.files.now) (f c.moves.files) (f c.withdraw.new.files) (f c.withdraw.new.files) c.moves.invariant.later (omega arith) (c.withdraw.ensures.failed (c.moves.invariant.honest honest) one))
           (one_failed before own (sym is ∙ failed));
-      unread = λ unread. ⊎_elim c.moves.invariant.unread c.withdraw.ensures.unread (one_unread before own (sym is ∙ unread));
+      held = λ once honest all.
+          let then = c.moves.invariant.honest honest in
+          let so_far = c.moves.invariant.held once honest all in
+          let split : c.moves.rest.now ≡ first ∷ others = c.in-Some.ensures.cases.0 in
+          let apart = subst (λ (rest : List Move). Once (lock_paths rest)) split so_far.1.0 in
+          let there = subst (λ (rest : List Move). LocksHeld rest mid.tree) split so_far.1.1 in
+          let stay = now_of (OthersStay (lock_path_of first) mid.tree) mid new (λ path none. refl) (c.withdraw.ensures.moments then) in (
+            λ failed. ⊎_elim (λ one. first_half (f c.args.files.now) (f c.moves.files) (f c.withdraw.new.files) (so_far.0 one) c.withdraw.ensures.later)
+                (λ one. second_half (f c.args.files.now) (f c.moves.files) (f c.withdraw.new.files) c.moves.invariant.later (c.withdraw.ensures.held then there.0 one))
+                (one_failed before own (sym is ∙ failed)),
+            (apart.1, held_still (lock_path_of first) others mid.tree new.tree stay apart.0 there.1),
+          );
       unlocked = λ honest.
           let then = c.moves.invariant.honest honest in
           let so_far = subst (λ (rest : List Move). Unlocking before moves rest old.tree mid.tree) c.in-Some.ensures.cases.0 (c.moves.invariant.unlocked honest) in
@@ -77,3 +88,6 @@ returns-clause-gone g c = λ once honest.
 pub returns-clause-rolled_back : goal.returns-clause-rolled_back
 returns-clause-rolled_back g c = λ honest.
     unlocking_ended c.moves.outcome c.args.moves.now c.moves.rest.now (g.F.Files.history c.args.files.now).tree (g.F.Files.history c.moves.files).tree c.in_default.ensures.cases (c.moves.invariant.unlocked honest)
+
+pub returns-clause-held : goal.returns-clause-held
+returns-clause-held g c = λ once honest held. (c.moves.invariant.held once honest held).0

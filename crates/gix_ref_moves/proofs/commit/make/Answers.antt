@@ -141,7 +141,7 @@ returns-in-Err-clause-failed g c = λ once honest can.
     let way = now_of (OnTheWay None ms old.tree) old mid (way_begins None ms old.tree) first in
     after_cause (f c.args.files.now) (f c.show_updates.new.files) (f c.drop_packed.new.files) c.in-Err.error c.after.result c.drop_packed.result c.show_updates.ensures.later c.drop_packed.ensures.later
     (c.in-Err.ensures.failed own (moves_beside t ms can.apart) honest can.each) c.after.ensures.told
-    (c.drop_packed.ensures.failed (c.show_updates.ensures.honest honest) (locked_stays t ms old.tree mid.tree once way.others can.packed))
+    (λ failed. inl (c.drop_packed.ensures.failed (c.show_updates.ensures.honest honest) (locked_stays t ms old.tree mid.tree once way.others can.packed) failed))
 
 pub returns-in-Err-clause-memory : goal.returns-in-Err-clause-memory
 returns-in-Err-clause-memory g c = λ short.
