@@ -16,13 +16,13 @@ use Rattle.gix_ref_way.specs.Ways.{Bytes, file_at, FoldersOnlyOf, HasWay, IsAbov
 use Rattle.gix_ref_way.proofs.Rooms.{among_first, among_rest, room_stays}
 use Rattle.gix_ref_moves.specs.Committing.{commit_paths}
 use Rattle.gix_ref_moves.specs.Contents.{act_line, place_of, lock_path_of, log_path_of}
-use Rattle.gix_ref_moves.specs.Moves.{IsNone, all_paths}
+use Rattle.gix_ref_moves.specs.Moves.{IsNone, all_paths, lock_paths}
 use Rattle.gix_ref_moves.specs.Needs.{AreBeside, CanCommit, CanMove, CanNote, CanReplace}
 use Rattle.gix_ref_moves.specs.declared.act.Move.{Move}
 use Rattle.gix_ref_transaction.specs.Locking.{AreHeld, HaveRoom, RecordsHeld}
 use Rattle.gix_ref_transaction.specs.Paths.{edit_paths, has_twice, name_paths, places_of}
 use Rattle.gix_ref_transaction.specs.Plans.{AllPlanned, KeepsFiles}
-use Rattle.gix_ref_transaction.specs.Rollback.{MoreFilesAt, SameFilesBut, all_locks, lock_paths, packed_locks}
+use Rattle.gix_ref_transaction.specs.Rollback.{MoreFilesAt, SameFilesBut, all_locks, packed_locks}
 use Rattle.gix_ref_transaction.proofs.Lockings.{own_paths, moves_locks, locks_among, locks_of, none_apart, places_among}
 
 -- ---- the paths of a transaction are those of its edits

@@ -69,8 +69,6 @@ pub counts_after : (a b c : ℕ) (back : GivenBack) (error told : PrepareError) 
 counts_after a b c given.Done error told is first of counts same risen = subst (Counts a c) (sym is) (subst (λ n. Counts a n error) (sym (same (λ e. cc))) counts)
 counts_after a b c given.Failed error told is first of counts same risen = subst (Counts a c) (sym is) (risen_later a b c c first (risen refl) (omega arith))
 counts_after a b c given.Memory error told is first of counts same risen = subst (Counts a c) (sym is) (counts_unless a c error fault.Memory of (subst (λ n. Counts a n error) (sym (same (λ e. cc))) counts) (λ e. e))
-counts_after a b c given.Unread error told is first of counts same risen =
-    subst (Counts a c) (sym is) (counts_unless a c error (fault.ReferenceDecode find.ReadFileContents) of (subst (λ n. Counts a n error) (sym (same (λ e. cc))) counts) (λ e. e))
 
 -- those of packed records
 locks_count : (a b : ℕ) (error : LockError) → (IsShort error → b ≡ a) → Counts a b (of_locking error)
@@ -105,16 +103,12 @@ unless_cases (fault.CreateOrUpdateRefLog e) other = inr refl
 unless_cases (fault.Resolve e) other = inr refl
 unless_cases fault.Memory other = inr refl
 
-pub is_after : (may : Type 0) (back : GivenBack) (error told : PrepareError) → told ≡ after_giving back error → (back ≡ given.Unread → may) → IsAfter may error told
-is_after may given.Done error told is unread = inl is
-is_after may given.Failed error told is unread = inr (inl is)
-is_after may given.Memory error told is unread = elim (unless_cases error fault.Memory) [
+pub is_after : (back : GivenBack) (error told : PrepareError) → told ≡ after_giving back error → IsAfter error told
+is_after given.Done error told is = inl is
+is_after given.Failed error told is = inr (inl is)
+is_after given.Memory error told is = elim (unless_cases error fault.Memory) [
   | inl io ↦ inr (inl (is ∙ io))
-  | inr memory ↦ inr (inr (inl (is ∙ memory)))
-]
-is_after may given.Unread error told is unread = elim (unless_cases error (fault.ReferenceDecode find.ReadFileContents)) [
-  | inl io ↦ inr (inl (is ∙ io))
-  | inr reading ↦ inr (inr (inr (is ∙ reading, unread refl)))
+  | inr memory ↦ inr (inr (is ∙ memory))
 ]
 
 pub left_or : (P : Type 0) (back : GivenBack) (error told : PrepareError) → told ≡ after_giving back error → (back ≡ given.Done → P) → P ⊎ MayBeLeft told
@@ -124,26 +118,18 @@ left_or P given.Memory error told is done = inr (elim (unless_cases error fault.
   | inl io ↦ subst MayBeLeft (sym (is ∙ io)) tt
   | inr memory ↦ subst MayBeLeft (sym (is ∙ memory)) tt
 ])
-left_or P given.Unread error told is done = inr (elim (unless_cases error (fault.ReferenceDecode find.ReadFileContents)) [
-  | inl io ↦ subst MayBeLeft (sym (is ∙ io)) tt
-  | inr reading ↦ subst MayBeLeft (sym (is ∙ reading)) tt
-])
 
 -- what holds of the error holds of the one that is returned
-pub or_after : (P : PrepareError → Type 0) (may : Type 0) (error told : PrepareError) → IsAfter may error told → P fault.Io → P fault.Memory → (may → P (fault.ReferenceDecode find.ReadFileContents)) → P error → P told
-or_after P may error told (inl is) io memory reading own = subst P (sym is) own
-or_after P may error told (inr (inl is)) io memory reading own = subst P (sym is) io
-or_after P may error told (inr (inr (inl is))) io memory reading own = subst P (sym is) memory
-or_after P may error told (inr (inr (inr (is, may_fail)))) io memory reading own = subst P (sym is) (reading may_fail)
+pub or_after : (P : PrepareError → Type 0) (error told : PrepareError) → IsAfter error told → P fault.Io → P fault.Memory → P error → P told
+or_after P error told (inl is) io memory own = subst P (sym is) own
+or_after P error told (inr (inl is)) io memory own = subst P (sym is) io
+or_after P error told (inr (inr is)) io memory own = subst P (sym is) memory
 
 -- one that was left, or whose removal failed, which was counted
 pub left_stays : (a b : ℕ) (told : PrepareError) → MayBeLeft told → Counts a b told → HasRisen a b ⊎ MayStay told
 left_stays a b fault.Io left counts = inl counts
 left_stays a b fault.Memory left counts = inr tt
-left_stays a b (fault.ReferenceDecode find.ReadFileContents) left counts = inr tt
-left_stays a b (fault.ReferenceDecode (find.ReferenceCreation e)) left counts = absurd left
-left_stays a b (fault.ReferenceDecode (find.PackedOpen e)) left counts = absurd left
-left_stays a b (fault.ReferenceDecode find.Memory) left counts = absurd left
+left_stays a b (fault.ReferenceDecode e) left counts = absurd left
 left_stays a b (fault.Packed e) left counts = absurd left
 left_stays a b (fault.PackedTransactionAcquire e) left counts = absurd left
 left_stays a b (fault.PackedTransactionPrepare e) left counts = absurd left
@@ -161,36 +147,14 @@ worse_done given.Done other is = (refl, is)
 worse_done given.Failed other is = cc
 worse_done given.Memory given.Failed is = cc
 worse_done given.Memory given.Memory is = cc
-worse_done given.Memory given.Unread is = cc
 worse_done given.Memory given.Done is = cc
-worse_done given.Unread given.Done is = cc
-worse_done given.Unread given.Unread is = cc
-worse_done given.Unread given.Memory is = cc
-worse_done given.Unread given.Failed is = cc
 
 pub worse_failed : (one other : GivenBack) → worse one other ≡ given.Failed → (one ≡ given.Failed) ⊎ (other ≡ given.Failed)
 worse_failed given.Done other is = inr is
 worse_failed given.Failed other is = inl refl
 worse_failed given.Memory given.Failed is = inr refl
 worse_failed given.Memory given.Memory is = cc
-worse_failed given.Memory given.Unread is = cc
 worse_failed given.Memory given.Done is = cc
-worse_failed given.Unread given.Done is = cc
-worse_failed given.Unread given.Unread is = cc
-worse_failed given.Unread given.Memory is = cc
-worse_failed given.Unread given.Failed is = inr refl
-
-pub worse_unread : (one other : GivenBack) → worse one other ≡ given.Unread → (one ≡ given.Unread) ⊎ (other ≡ given.Unread)
-worse_unread given.Done other is = inr is
-worse_unread given.Failed other is = cc
-worse_unread given.Memory given.Failed is = cc
-worse_unread given.Memory given.Memory is = cc
-worse_unread given.Memory given.Unread is = cc
-worse_unread given.Memory given.Done is = cc
-worse_unread given.Unread given.Done is = inl refl
-worse_unread given.Unread given.Unread is = inl refl
-worse_unread given.Unread given.Memory is = cc
-worse_unread given.Unread given.Failed is = cc
 
 failed_either : (one other : GivenBack) → (one ≡ given.Failed) ⊎ (other ≡ given.Failed) → worse one other ≡ given.Failed
 failed_either given.Failed other either = refl
@@ -198,8 +162,6 @@ failed_either given.Done other (inl is) = cc
 failed_either given.Done other (inr is) = is
 failed_either given.Memory other (inl is) = cc
 failed_either given.Memory other (inr is) = ap (worse given.Memory) is
-failed_either given.Unread other (inl is) = cc
-failed_either given.Unread other (inr is) = ap (worse given.Unread) is
 
 pub worse_unfailed : (one other : GivenBack) → worse one other ≢ given.Failed → (one ≢ given.Failed) × (other ≢ given.Failed)
 worse_unfailed one other none = (λ is. none (failed_either one other (inl is)), λ is. none (failed_either one other (inr is)))
@@ -253,8 +215,8 @@ no_records (fault.CreateOrUpdateRefLog e) of records = records
 no_records (fault.Resolve e) of records = records
 no_records fault.Memory of records = records
 
-pub after_no_records : (may : Type 0) (error told : PrepareError) → IsAfter may error told → IsOfEdit error → IsOfRecords told → ⊥
-after_no_records may error told after of = or_after (λ e. IsOfRecords e → ⊥) may error told after (λ h. h) (λ h. h) (λ m h. h) (no_records error of)
+pub after_no_records : (error told : PrepareError) → IsAfter error told → IsOfEdit error → IsOfRecords told → ⊥
+after_no_records error told after of = or_after (λ e. IsOfRecords e → ⊥) error told after (λ h. h) (λ h. h) (no_records error of)
 
 unresolved_edit : (Why : PeelError → Type 0) (error : PrepareError) → IsOfEdit error → Unresolved Why error
 unresolved_edit Why (fault.Packed e) of = tt
@@ -271,8 +233,8 @@ unresolved_edit Why (fault.CreateOrUpdateRefLog e) of = tt
 unresolved_edit Why (fault.Resolve e) of = absurd of
 unresolved_edit Why fault.Memory of = tt
 
-pub after_unresolved : (Why : PeelError → Type 0) (may : Type 0) (error told : PrepareError) → IsAfter may error told → IsOfEdit error → Unresolved Why told
-after_unresolved Why may error told after of = or_after (Unresolved Why) may error told after tt tt (λ m. tt) (unresolved_edit Why error of)
+pub after_unresolved : (Why : PeelError → Type 0) (error told : PrepareError) → IsAfter error told → IsOfEdit error → Unresolved Why told
+after_unresolved Why error told after of = or_after (Unresolved Why) error told after tt tt (unresolved_edit Why error of)
 
 locks_unresolved : (Why : PeelError → Type 0) (error : LockError) → Unresolved Why (of_locking error)
 locks_unresolved Why (BufferOpen opening.Memory) = tt
@@ -401,8 +363,8 @@ fill_no_lock error (inl is) lock = let wrong : fault.Io ≡ fault.LockAcquire = 
 fill_no_lock error (inr is) lock = let wrong : fault.Memory ≡ fault.LockAcquire = sym is ∙ lock in cc
 
 -- the error that is returned isn't the lock's, if the first one isn't
-pub after_no_lock : (may : Type 0) (error told : PrepareError) → IsAfter may error told → (error ≡ fault.LockAcquire → ⊥) → told ≡ fault.LockAcquire → ⊥
-after_no_lock may error told after none = or_after (λ e. e ≡ fault.LockAcquire → ⊥) may error told after (λ is. cc) (λ is. cc) (λ m is. cc) none
+pub after_no_lock : (error told : PrepareError) → IsAfter error told → (error ≡ fault.LockAcquire → ⊥) → told ≡ fault.LockAcquire → ⊥
+after_no_lock error told after none = or_after (λ e. e ≡ fault.LockAcquire → ⊥) error told after (λ is. cc) (λ is. cc) none
 
 pub some_edit : (l : Logging) (b : Base) (tree : Tree) (may : Type 0) (edits : List RefEdit) (error : PrepareError) → SomeEditFault l b tree may edits error → IsOfEdit error
 some_edit l b tree may edits error (edit, among, full, h) = of_edit l (has_log b tree edit.name) may edit error h

@@ -10,7 +10,6 @@ use Rattle.gix_ref_lock.specs.declared.packed.PrepareError.TheVariants as writin
 use Rattle.gix_ref_repacking.specs.declared.error.RepackError.{RepackError}
 use Rattle.gix_ref_repacking.specs.declared.error.RepackError.TheVariants as repack
 use Rattle.gix_ref_store.specs.Places.{Base}
-use Rattle.gix_ref_store.specs.declared.store.file.find.Error.TheVariants as find
 use Rattle.gix_ref_transaction.specs.Causes.{LockFault, SomeEditFault}
 use Rattle.gix_ref_transaction.specs.Errors.{IsAfter, of_locking, of_repacking}
 use Rattle.gix_ref_transaction.specs.Locking.{AreLockable}
@@ -52,6 +51,6 @@ module _ (l : Logging) (b : Base) (tree : Tree) (may : Type 0) (edits : List Ref
   by_edit fault.Memory none h = tt
 
   -- and then their locks were given back
-  pub by_all : (error told : PrepareError) → IsAfter may error told → (error ≡ fault.LockAcquire → ¬ AreLockable b tree edits) → SomeEditFault l b tree may edits error → LockFault l b tree may edits told
+  pub by_all : (error told : PrepareError) → IsAfter error told → (error ≡ fault.LockAcquire → ¬ AreLockable b tree edits) → SomeEditFault l b tree may edits error → LockFault l b tree may edits told
   by_all error told after none (edit, among, full, h) =
-      or_after (LockFault l b tree may edits) may error told after tt tt (λ may_fail. (edit, among, full, (tt, may_fail))) (by_edit error none (edit, among, full, h))
+      or_after (LockFault l b tree may edits) error told after tt tt (by_edit error none (edit, among, full, h))

@@ -1,5 +1,5 @@
 -- What came of giving all locks back.
-use Rattle.std.proofs.Common.{◌≡◌, ◌≢◌, ◌⊎◌, inl, inr, refl, sym, ◌∙◌, ap, subst, ℕ, ◌≤◌, arith}
+use Rattle.std.proofs.Common.{◌≡◌, ◌≢◌, ◌⊎◌, inl, inr, refl, ◌∙◌, subst, ℕ, ◌≤◌, arith}
 use Rattle.std.specs.Prelude.{Result, Ok, Err, IfErr, IsErrOf, OnOk}
 use Rattle.gix_ref_file.specs.History.{HasRisen}
 use Rattle.gix_ref_lock.specs.GivenBacks.{worse}
@@ -32,11 +32,6 @@ commit_unfailed P (Ok u) p memory none = p
 commit_unfailed P (Err packed_case.Commit) p memory none = absurd (none refl)
 commit_unfailed P (Err packed_case.Memory) p memory none = memory refl
 
-pub commit_read : (r : Result (Unit {0}) PackedError) → of_commit r ≢ given.Unread
-commit_read (Ok u) is = cc
-commit_read (Err packed_case.Commit) is = cc
-commit_read (Err packed_case.Memory) is = cc
-
 -- ---- of both
 pub both_risen : (a b c : ℕ) (one other : GivenBack) → a ≤ b → b ≤ c → (one ≡ given.Failed → HasRisen a b) → (other ≡ given.Failed → HasRisen b c) → worse one other ≡ given.Failed → HasRisen a c
 both_risen a b c one other first second risen later is = elim (worse_failed one other is) [
@@ -50,35 +45,29 @@ both_same a b c one other same later none = let parts = worse_unfailed one other
 back_done : (w : GivenBack) (u : Unit {0}) → of_back w ≡ Ok u → w ≡ given.Done
 back_done given.Done u is = refl
 back_done given.Memory u is = cc
-back_done given.Unread u is = cc
 back_done given.Failed u is = cc
 
 back_memory : (w : GivenBack) (error : CommitError) → of_back w ≡ Err error → IsOutOfMemory error → w ≢ given.Failed
 back_memory given.Done error is short none = cc
 back_memory given.Memory error is short none = cc
-back_memory given.Unread error is short none = cc
 back_memory given.Failed error is short none = let same : error ≡ moving.LockCommit = cc in subst IsOutOfMemory same short
 
-back_failed : (w : GivenBack) (error : CommitError) → of_back w ≡ Err error → IsOutOfMemory error ⊎ ((w ≡ given.Failed) ⊎ (w ≡ given.Unread))
+back_failed : (w : GivenBack) (error : CommitError) → of_back w ≡ Err error → IsOutOfMemory error ⊎ (w ≡ given.Failed)
 back_failed given.Done error is = cc
 back_failed given.Memory error is = let same : moving.Memory ≡ error = cc in inl (subst IsOutOfMemory same tt)
-back_failed given.Unread error is = inr (inr refl)
-back_failed given.Failed error is = inr (inl refl)
+back_failed given.Failed error is = inr refl
 
 pub giving_done : (one other : GivenBack) (u : Unit {0}) → of_giving one other ≡ Ok u → worse one other ≡ given.Done
 giving_done given.Failed other u is = cc
 giving_done given.Done other u is = back_done (worse given.Done other) u is
 giving_done given.Memory other u is = back_done (worse given.Memory other) u is
-giving_done given.Unread other u is = back_done (worse given.Unread other) u is
 
 pub giving_memory : (one other : GivenBack) (error : CommitError) → of_giving one other ≡ Err error → IsOutOfMemory error → worse one other ≢ given.Failed
 giving_memory given.Failed other error is short none = let same : error ≡ moving.PackedTransactionCommit packed_case.Commit = cc in subst IsOutOfMemory same short
 giving_memory given.Done other error is short none = back_memory (worse given.Done other) error is short none
 giving_memory given.Memory other error is short none = back_memory (worse given.Memory other) error is short none
-giving_memory given.Unread other error is short none = back_memory (worse given.Unread other) error is short none
 
-pub giving_failed : (one other : GivenBack) (error : CommitError) → of_giving one other ≡ Err error → IsOutOfMemory error ⊎ ((worse one other ≡ given.Failed) ⊎ (worse one other ≡ given.Unread))
-giving_failed given.Failed other error is = inr (inl refl)
+pub giving_failed : (one other : GivenBack) (error : CommitError) → of_giving one other ≡ Err error → IsOutOfMemory error ⊎ (worse one other ≡ given.Failed)
+giving_failed given.Failed other error is = inr refl
 giving_failed given.Done other error is = back_failed (worse given.Done other) error is
 giving_failed given.Memory other error is = back_failed (worse given.Memory other) error is
-giving_failed given.Unread other error is = back_failed (worse given.Unread other) error is

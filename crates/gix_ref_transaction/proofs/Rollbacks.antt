@@ -16,9 +16,9 @@ use Rattle.gix_ref_way.specs.Ways.{Bytes, SameFiles, file_at}
 use Rattle.gix_ref_way.proofs.FoldersMade.{risen_later}
 use Rattle.gix_ref_moves.specs.Contents.{lock_path_of}
 use Rattle.gix_ref_moves.specs.Moments.{NoFileMore}
-use Rattle.gix_ref_moves.specs.Moves.{IsNone}
+use Rattle.gix_ref_moves.specs.Moves.{IsNone, LocksHeld, Once, all_paths, lock_paths}
 use Rattle.gix_ref_moves.specs.declared.act.Move.{Move}
-use Rattle.gix_ref_moves.specs.Committing.{AreUnlocked}
+use Rattle.gix_ref_moves.specs.Committing.{AreUnlocked, commit_paths}
 use Rattle.gix_ref_moves.proofs.Unlockings.{none_more, still_gone}
 use Rattle.gix_ref_repacking.specs.Rollback as repacking
 use Rattle.gix_ref_repacking.specs.declared.error.RepackError.{RepackError}
@@ -26,7 +26,8 @@ use Rattle.gix_ref_repacking.specs.declared.error.RepackError.TheVariants as rep
 use Rattle.gix_ref_lock.specs.PackedEdits.{lock_path_of as lock_path_of_records}
 use Rattle.gix_ref_transaction.specs.Errors.{Counts, IsAfter, MayBeLeft, MayStay, of_file, of_repacking}
 use Rattle.gix_ref_transaction.specs.Locking.{RecordsHeld}
-use Rattle.gix_ref_transaction.specs.Rollback.{IsRolledBack, MoreFilesAt, AllGone, PackedGone, lock_paths, packed_locks}
+use Rattle.gix_ref_transaction.specs.Plans.{KeepsFiles}
+use Rattle.gix_ref_transaction.specs.Rollback.{IsRolledBack, MoreFilesAt, AllGone, PackedGone, packed_locks, SameFilesBut, all_locks}
 use Rattle.gix_ref_transaction.specs.declared.error.PrepareError.{PrepareError}
 use Rattle.gix_ref_transaction.specs.declared.error.PrepareError.TheVariants.{Io}
 use Rattle.gix_ref_transaction.proofs.Counting.{left_stays, or_after, short_stays}
@@ -97,13 +98,13 @@ all_dropped moves t old mid then new first second gone path there =
     first path (packed_apart path t new there gone.packed) (second path (all_apart path moves new there gone.locks) (gone.none path there))
 
 -- the locks are given back after an error
-pub dropped_back : (a b c d : ℕ) (moves : List Move) (t : Option Transaction) (old mid then new : Tree) (may : Type 0) (error told : PrepareError) → a ≤ b → c ≤ d → MoreFilesAt (packed_locks t) old mid
-    → MoreFilesAt (lock_paths moves) mid then ⊎ (HasRisen b c ⊎ MayStay error) → IsAfter may error told → Counts a d told → AllGone moves t then new ⊎ MayBeLeft told → IsRolledBack a d old new told
-dropped_back a b c d moves t old mid then new may error told one three first (inr (inl risen)) after counts dropped = inr (inl (risen_later a b c d one risen three))
-dropped_back a b c d moves t old mid then new may error told one three first (inr (inr stays)) after counts dropped =
-    inr (or_after (λ e. Counts a d e → HasRisen a d ⊎ MayStay e) may error told after (λ n. inl n) (λ n. inr tt) (λ m n. inr tt) (λ n. inr stays) counts)
-dropped_back a b c d moves t old mid then new may error told one three first (inl more) after counts (inl gone) = inl (all_dropped moves t old mid then new first more gone)
-dropped_back a b c d moves t old mid then new may error told one three first (inl more) after counts (inr left) = inr (left_stays a d told left counts)
+pub dropped_back : (a b c d : ℕ) (moves : List Move) (t : Option Transaction) (old mid then new : Tree) (error told : PrepareError) → a ≤ b → c ≤ d → MoreFilesAt (packed_locks t) old mid
+    → MoreFilesAt (lock_paths moves) mid then ⊎ (HasRisen b c ⊎ MayStay error) → IsAfter error told → Counts a d told → AllGone moves t then new ⊎ MayBeLeft told → IsRolledBack a d old new told
+dropped_back a b c d moves t old mid then new error told one three first (inr (inl risen)) after counts dropped = inr (inl (risen_later a b c d one risen three))
+dropped_back a b c d moves t old mid then new error told one three first (inr (inr stays)) after counts dropped =
+    inr (or_after (λ e. Counts a d e → HasRisen a d ⊎ MayStay e) error told after (λ n. inl n) (λ n. inr tt) (λ n. inr stays) counts)
+dropped_back a b c d moves t old mid then new error told one three first (inl more) after counts (inl gone) = inl (all_dropped moves t old mid then new first more gone)
+dropped_back a b c d moves t old mid then new error told one three first (inl more) after counts (inr left) = inr (left_stays a d told left counts)
 
 -- ---- packed records
 records_same : (lock : Bytes) (old new : Tree) → OthersStay lock old new → is_file_at new lock ≡ is_file_at old lock → NoFileMore old new
@@ -150,3 +151,65 @@ none_gone t tree is = (subst (λ t. PackedGone t tree) (sym is) tt, λ path ther
 
 pub records_held : (t : Option Transaction) (r : Transaction) (tree : Tree) → t ≡ Some r → RecordsHeld t tree → IsTrue (is_file_at tree r.lock.path.items)
 records_held t r tree is held = subst (λ t. RecordsHeld t tree) is held
+
+-- ---- the locks still exist
+pub records_others : (t : Option Transaction) (r : Transaction) (old new : Tree) → t ≡ Some r → OthersStay r.lock.path.items old new → SameFilesBut (packed_locks t) old new
+records_others t r old new is stay = subst (λ t. SameFilesBut (packed_locks t) old new) (sym is) (λ path none. ap bytes_of (stay path none.0))
+
+pub locks_once : (t : Option Transaction) (moves : List Move) → Once (all_locks t moves) → Once (lock_paths moves)
+locks_once None moves once = once
+locks_once (Some t) moves once = once.1
+
+held_apart : (lock : Bytes) (moves : List Move) (old mid : Tree) → SameFilesBut (lock ∷ []) old mid → IsNone lock (lock_paths moves) → LocksHeld moves old → LocksHeld moves mid
+held_apart lock [] old mid same none held = tt
+held_apart lock (m ∷ moves) old mid same none held = (ap is_some (same (lock_path_of m) (λ e. none.0 (sym e), tt)) ∙ held.0, held_apart lock moves old mid same none.1 held.1)
+
+held_same : (moves : List Move) (old mid : Tree) → SameFilesBut [] old mid → LocksHeld moves old → LocksHeld moves mid
+held_same [] old mid same held = tt
+held_same (m ∷ moves) old mid same held = (ap is_some (same (lock_path_of m) tt) ∙ held.0, held_same moves old mid same held.1)
+
+-- those of moves, after that of packed records was given back
+pub locks_held : (t : Option Transaction) (moves : List Move) (old mid : Tree) → SameFilesBut (packed_locks t) old mid → Once (all_locks t moves) → LocksHeld moves old → LocksHeld moves mid
+locks_held None moves old mid same once held = held_same moves old mid same held
+locks_held (Some t) moves old mid same once held = held_apart t.lock.path.items moves old mid same once.0 held
+
+-- a file's path isn't one without a file
+apart_from : (path other : Bytes) (tree : Tree) → IsTrue (is_file_at tree path) → file_at tree other ≡ None → path ≢ other
+apart_from path other tree there none = apart_of path other tree there (ap is_some none)
+
+none_after : (path : Bytes) (moves : List Move) (m : Move) → IsNone path (lock_paths moves) → path ≢ lock_path_of m → IsNone path (lock_paths (moves ++ m ∷ []))
+none_after path [] m none apart = (apart, tt)
+none_after path (n ∷ moves) m none apart = (none.0, none_after path moves m none.1 apart)
+
+pub once_more : (moves : List Move) (m : Move) (tree : Tree) → LocksHeld moves tree → file_at tree (lock_path_of m) ≡ None → Once (lock_paths moves) → Once (lock_paths (moves ++ m ∷ []))
+once_more [] m tree held free once = (tt, tt)
+once_more (n ∷ moves) m tree held free once =
+    (none_after (lock_path_of n) moves m once.0 (apart_from (lock_path_of n) (lock_path_of m) tree held.0 free), once_more moves m tree held.1 free once.1)
+
+pub free_before : (old mid : Tree) → KeepsFiles old mid → (path : Bytes) → file_at mid path ≡ None → file_at old path ≡ None
+free_before old mid keeps path free = by_file (file_at old path) refl
+  where
+    by_file : (o : Option Bytes) → file_at old path ≡ o → file_at old path ≡ None
+    by_file None is = is
+    by_file (Some text) is = let wrong : None ≡ Some text = sym free ∙ keeps path text is in absurd (cc wrong)
+
+none_fresh : (path : Bytes) (moves : List Move) (tree : Tree) → IsTrue (is_file_at tree path) → AllByRecursion (λ m. file_at tree (lock_path_of m) ≡ None) moves → IsNone path (lock_paths moves)
+none_fresh path [] tree there fresh = tt
+none_fresh path (m ∷ moves) tree there fresh = (apart_from path (lock_path_of m) tree there fresh.0, none_fresh path moves tree there fresh.1)
+
+-- all locks of a transaction differ
+pub all_once : (t : Option Transaction) (moves : List Move) (tree : Tree) → IfSome t (λ t. IsTrue (is_file_at tree (lock_path_of_records t))) → AllByRecursion (λ m. file_at tree (lock_path_of m) ≡ None) moves → Once (lock_paths moves) → Once (all_locks t moves)
+all_once None moves tree held fresh once = once
+all_once (Some t) moves tree held fresh once = (none_fresh t.lock.path.items moves tree held fresh, once)
+
+none_among : (path : Bytes) (moves : List Move) → IsNone path (all_paths moves) → IsNone path (lock_paths moves)
+none_among path [] none = tt
+none_among path (m ∷ moves) none = (none.1.0, none_among path moves none.1.1.1)
+
+moves_once : (moves : List Move) → Once (all_paths moves) → Once (lock_paths moves)
+moves_once [] once = tt
+moves_once (m ∷ moves) once = (none_among (lock_path_of m) moves once.1.0.1, moves_once moves once.1.1.1)
+
+pub paths_once : (t : Option Transaction) (moves : List Move) → Once (commit_paths t moves) → Once (all_locks t moves)
+paths_once None moves once = moves_once moves once
+paths_once (Some t) moves once = (none_among t.lock.path.items moves once.1.0, moves_once moves once.1.1)

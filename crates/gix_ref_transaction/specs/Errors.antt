@@ -73,25 +73,20 @@ abbrev pub after_giving : GivenBack → PrepareError → PrepareError
 after_giving given.Done error = error
 after_giving given.Failed error = Io
 after_giving given.Memory error = unless_failed error Memory
-after_giving given.Unread error = unless_failed error (ReferenceDecode find.ReadFileContents)
 
--- it is this error, or one of giving locks back: may_fail says whether readings may fail
-abbrev pub IsAfter : Type 0 → PrepareError → PrepareError → Type 0
-IsAfter may_fail error told =
-    (told ≡ error) ⊎ ((told ≡ Io) ⊎ ((told ≡ Memory)
-    ⊎ ((told ≡ ReferenceDecode find.ReadFileContents) × may_fail)))
+-- it is this error, or one of giving locks back
+abbrev pub IsAfter : PrepareError → PrepareError → Type 0
+IsAfter error told = (told ≡ error) ⊎ ((told ≡ Io) ⊎ (told ≡ Memory))
 
 -- it may be that a lock couldn't be given back, though no failure was counted
 abbrev pub MayStay : PrepareError → Type 0
 MayStay Memory = Unit {0}
-MayStay (ReferenceDecode find.ReadFileContents) = Unit {0}
 MayStay _ = ⊥
 
 -- the same, or one was
 abbrev pub MayBeLeft : PrepareError → Type 0
 MayBeLeft Io = Unit {0}
 MayBeLeft Memory = Unit {0}
-MayBeLeft (ReferenceDecode find.ReadFileContents) = Unit {0}
 MayBeLeft _ = ⊥
 
 -- ---- what they count

@@ -1,5 +1,5 @@
 -- What is left of edits that aren't prepared.
-use Rattle.std.specs.Prelude.{ℕ, ◌≡◌, ◌⊎◌, false, List, [], ◌∷◌, ◌++◌, map, Option, Some, None, Result, Ok, Err, IsTrue}
+use Rattle.std.specs.Prelude.{ℕ, ◌≡◌, ◌⊎◌, false, List, [], ◌∷◌, ◌++◌, Option, Some, None, Result, Ok, Err, IsTrue}
 use Rattle.std.specs.List.{AllByRecursion}
 use Rattle.gix_ref_file.specs.Tree.{Tree}
 use Rattle.gix_ref_file.specs.Changes.{is_file_at}
@@ -13,7 +13,8 @@ use Rattle.gix_ref_lock.specs.PackedEdits as packed
 use Rattle.gix_ref_lock.specs.declared.packed.Transaction.{Transaction}
 use Rattle.gix_ref_moves.specs.Contents.{lock_path_of}
 use Rattle.gix_ref_moves.specs.Moments.{NoFileMore}
-use Rattle.gix_ref_moves.specs.Moves.{IsNone}
+use Rattle.gix_ref_moves.specs.Moves.{IsNone, lock_paths}
+use Rattle.gix_ref_moves.specs.Needs.{IsOutOfMemory}
 use Rattle.gix_ref_moves.specs.declared.act.CommitError.{CommitError}
 use Rattle.gix_ref_moves.specs.declared.act.CommitError.TheVariants as moving
 use Rattle.gix_ref_moves.specs.declared.act.Move.{Move}
@@ -21,8 +22,8 @@ use Rattle.gix_ref_way.specs.Ways.{Bytes, file_at}
 use Rattle.gix_ref_transaction.specs.declared.error.PrepareError.{PrepareError}
 use Rattle.gix_ref_transaction.specs.Errors.{MayStay}
 
--- each file that exists existed before: no lock is left, unless a failure was counted, memory was
--- wanting or a reading failed
+-- each file that exists existed before: no lock is left, unless a failure was counted or memory was
+-- wanting
 abbrev pub IsRolledBack : ℕ → ℕ → Tree → Tree → PrepareError → Type 0
 IsRolledBack before now old new error =
     NoFileMore old new ⊎ (HasRisen before now ⊎ MayStay error)
@@ -37,10 +38,7 @@ abbrev pub SameFilesBut : List Bytes → Tree → Tree → Type 0
 SameFilesBut paths old new =
     (path : Bytes) → IsNone path paths → file_at new path ≡ file_at old path
 
--- the locks of moves, and of packed records
-abbrev pub lock_paths : List Move → List Bytes
-lock_paths moves = map lock_path_of moves
-
+-- the locks of packed records, and all
 abbrev pub packed_locks : Option Transaction → List Bytes
 packed_locks None = []
 packed_locks (Some t) = packed.lock_path_of t ∷ []
@@ -63,6 +61,10 @@ abbrev pub FailsStaying : {T : Type 0} → Result T PrepareError → Type 0
 FailsStaying (Ok x) = ⊥
 FailsStaying (Err error) = MayStay error
 
+abbrev pub FailsForMemory : {T : Type 0} → Result T CommitError → Type 0
+FailsForMemory (Ok x) = ⊥
+FailsForMemory (Err error) = IsOutOfMemory error
+
 -- ---- what came of giving locks back
 
 abbrev pub of_commit : Result (Unit {0}) PackedError → GivenBack
@@ -73,7 +75,6 @@ of_commit (Err packed_case.Memory) = given.Memory
 abbrev pub of_back : GivenBack → Result (Unit {0}) CommitError
 of_back given.Done = Ok tt
 of_back given.Memory = Err moving.Memory
-of_back given.Unread = Err moving.LockCommit
 of_back given.Failed = Err moving.LockCommit
 
 -- first of packed records, then of references
@@ -81,4 +82,3 @@ abbrev pub of_giving : GivenBack → GivenBack → Result (Unit {0}) CommitError
 of_giving given.Failed locks = Err (moving.PackedTransactionCommit packed_case.Commit)
 of_giving given.Done locks = of_back (worse given.Done locks)
 of_giving given.Memory locks = of_back (worse given.Memory locks)
-of_giving given.Unread locks = of_back (worse given.Unread locks)

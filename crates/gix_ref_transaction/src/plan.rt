@@ -85,6 +85,8 @@ pub(crate) fn plan<F: Files, O>(
         (F.history store.old.files).tree (F.history store.new.files).tree error) }
     ensures locked { F.is_honest store.old.files → IfOk result (λ made. MoreFilesAt
         (lock_path_of made ∷ []) (F.history store.old.files).tree (F.history store.new.files).tree) }
+    ensures free { F.is_honest store.old.files → IfOk result (λ made.
+        file_at (F.history store.old.files).tree (lock_path_of made) ≡ None) }
     ensures held { F.is_honest store.old.files → IfOk result (λ made.
         IsTrue (is_file_at (F.history store.new.files).tree (lock_path_of made))) }
     ensures room { F.is_honest store.old.files → IfOk result (λ made.
@@ -113,8 +115,9 @@ fn unplanned<F: Files>(
     ensures moments { Passes F.is_honest F.history files.old files.new
         (OthersStay lock.now.path.items) }
     ensures folders { Passes F.is_honest F.history files.old files.new SameFolders }
-    ensures told { IsAfter F.reading_may_fail error result }
+    ensures told { IsAfter error result }
     ensures counted { (before : ℕ) → F.is_honest files.old → before ≤ F.failures files.old
+        → IsTrue (is_file_at (F.history files.old).tree lock.now.path.items)
         → IsOfEdit error → Counts before (F.failures files.old) error
         → Counts before (F.failures files.new) result }
     ensures rolled_back { F.is_honest files.old
@@ -132,10 +135,6 @@ pub(crate) fn afterwards(outcome: GivenBack, error: PrepareError) -> PrepareErro
         GivenBack::Done => error,
         GivenBack::Failed => PrepareError::Io,
         GivenBack::Memory => unless_failed(error, PrepareError::Memory),
-        GivenBack::Unread => unless_failed(
-            error,
-            PrepareError::ReferenceDecode(find::Error::ReadFileContents),
-        ),
     }
 }
 
@@ -235,7 +234,7 @@ fn act_of<F: Files, O>(
     ensures folders { Passes F.is_honest F.history store.old.files store.new.files SameFolders }
     ensures held { F.is_honest store.old.files
         → IsTrue (is_file_at (F.history store.old.files).tree lock.now.path.items)
-        → OnOk result (IsTrue (is_file_at (F.history store.new.files).tree lock.now.path.items)) }
+        → IsTrue (is_file_at (F.history store.new.files).tree lock.now.path.items) }
     ensures locked { F.is_honest store.old.files → ¬ IsErrOf result LockAcquire }
     ensures counted { F.is_honest store.old.files
         → IsTrue (is_file_at (F.history store.old.files).tree lock.now.path.items)
@@ -305,7 +304,7 @@ fn update_by<F: Files>(
     ensures folders { Passes F.is_honest F.history files.old files.new SameFolders }
     ensures held { F.is_honest files.old
         → IsTrue (is_file_at (F.history files.old).tree lock.now.path.items)
-        → OnOk result (IsTrue (is_file_at (F.history files.new).tree lock.now.path.items)) }
+        → IsTrue (is_file_at (F.history files.new).tree lock.now.path.items) }
     ensures counted { F.is_honest files.old
         → IsTrue (is_file_at (F.history files.old).tree lock.now.path.items)
         → IfErr result (Counts (F.failures files.old) (F.failures files.new)) }
@@ -358,6 +357,9 @@ fn fill<F: Files>(
         (node_at (F.history files.new).tree lock.now.path.items
         ≡ Some (file (loose_text (target_view target.now)))) }
     ensures folders { Passes F.is_honest F.history files.old files.new SameFolders }
+    ensures held { F.is_honest files.old
+        → IsTrue (is_file_at (F.history files.old).tree lock.now.path.items)
+        → IsTrue (is_file_at (F.history files.new).tree lock.now.path.items) }
     ensures counted { F.is_honest files.old
         → IsTrue (is_file_at (F.history files.old).tree lock.now.path.items)
         → IfErr result (Counts (F.failures files.old) (F.failures files.new)) }

@@ -1,13 +1,13 @@
 //! Transactions: prepared, and then committed or rolled back.
 
-ghost use Rattle.std.specs.Prelude.{◌≡◌, ◌≤◌, ◌⊎◌, ◌≢◌, ℕ, [], Bool, true, false, Option, option_map, Ok, IfErr, IfOk, IfSome, IsErrOf, IsTrue, OnOk};
+ghost use Rattle.std.specs.Prelude.{◌≡◌, ◌≤◌, ◌⊎◌, ◌≢◌, ℕ, [], Bool, true, false, None, Option, option_map, Ok, IfErr, IfOk, IfSome, IsErrOf, IsTrue, OnOk};
 ghost use Rattle.std.specs.List.{AllByRecursion, list_all};
 ghost use Rattle.gix_object_lookup.specs.Table.{Table};
 ghost use Rattle.gix_ref_file.specs.History.{Adds, HasRisen};
 ghost use Rattle.gix_ref_file.specs.Tree.{Tree, is_path};
-ghost use Rattle.gix_ref_file.specs.Changes.{is_file_at, may_hold_file};
+ghost use Rattle.gix_ref_file.specs.Changes.{may_hold_file};
 ghost use Rattle.gix_ref_file.specs.Calls.{Achieves, HasFault, Passes};
-ghost use Rattle.gix_ref_way.specs.Ways.{FoldersOnlyOf, SameFolders};
+ghost use Rattle.gix_ref_way.specs.Ways.{FoldersOnlyOf, SameFolders, file_at};
 ghost use Rattle.gix_ref_edit.specs.Names.{AllOnce, names_of};
 ghost use Rattle.gix_ref_format.specs.PackedBuffer.{KeepsFile};
 ghost use Rattle.gix_ref_format.specs.PackedKept.{kept};
@@ -18,6 +18,7 @@ ghost use Rattle.gix_ref_store.specs.Stores.{base_of};
 ghost use Rattle.gix_ref_lock.specs.declared.lock.GivenBack.TheVariants as given;
 ghost use Rattle.gix_ref_moves.specs.Contents.{lock_path_of, place_of};
 ghost use Rattle.gix_ref_moves.specs.Moments.{NoFileMore, SameButLocks};
+ghost use Rattle.gix_ref_moves.specs.Moves.{LocksHeld, Once, lock_paths};
 ghost use Rattle.gix_ref_moves.specs.Needs.{AreBeside, CanCommit, IsOutOfMemory, log_paths};
 ghost use Rattle.gix_ref_moves.specs.Committing.{IsCommitted, OnTheWay, commit_paths};
 ghost use Rattle.gix_ref_repacking.specs.Modes.{objects_in, removes};
@@ -31,7 +32,7 @@ ghost use Rattle.gix_ref_transaction.specs.LogLines.{AllLined, logging};
 ghost use Rattle.gix_ref_transaction.specs.Paths.{edit_paths, has_twice, name_paths, places_of};
 ghost use Rattle.gix_ref_transaction.specs.Plans.{AllHold, AllPlanned, AllTested, AreSplit, FoldersOfEdits, KeepsFiles};
 ghost use Rattle.gix_ref_transaction.specs.Reads.{AllGiveKind, AllReadBack, IsAsPrepared, prepared_of, ReadsEdited, ReadsOnWay};
-ghost use Rattle.gix_ref_transaction.specs.Rollback.{AllGone, FailsStaying, IsRolledBack, MoreFilesAt, PackedGone, SameFilesBut, all_locks, lock_paths, of_giving};
+ghost use Rattle.gix_ref_transaction.specs.Rollback.{AllGone, FailsForMemory, FailsStaying, IsRolledBack, MoreFilesAt, PackedGone, SameFilesBut, all_locks, of_giving, packed_locks};
 ghost use Rattle.gix_ref_transaction.specs.Rollback as rolls;
 ghost use Rattle.gix_ref_transaction.specs.declared.error.PrepareError.TheVariants.{LockAcquire};
 
@@ -145,8 +146,7 @@ pub fn prepare<F: Files, O: FindInto>(
         → AreRecordsLockable (base_of store.old) (F.history store.old.files).tree
         → IfErr result (λ error. IsOfRecords error
         → HasFault F.failures F.reading_may_fail store.old.files store.new.files) }
-    // After an error no lock is left, unless a failure was counted, memory was wanting or a reading
-    // failed.
+    // After an error no lock is left, unless a failure was counted or memory was wanting.
     ensures rolled_back { F.is_honest store.old.files → IfErr result (λ error.
         IsRolledBack (F.failures store.old.files) (F.failures store.new.files)
         (F.history store.old.files).tree (F.history store.new.files).tree error) }
@@ -243,8 +243,7 @@ pub fn prepare_with<F: Files, O: FindInto>(
         → AreRecordsLockable (base_of store.old) (F.history store.old.files).tree
         → IfErr result (λ error. IsOfRecords error
         → HasFault F.failures F.reading_may_fail store.old.files store.new.files) }
-    // After an error no lock is left, unless a failure was counted, memory was wanting or a reading
-    // failed.
+    // After an error no lock is left, unless a failure was counted or memory was wanting.
     ensures rolled_back { F.is_honest store.old.files → IfErr result (λ error.
         IsRolledBack (F.failures store.old.files) (F.failures store.new.files)
         (F.history store.old.files).tree (F.history store.new.files).tree error) }
@@ -416,8 +415,12 @@ fn plan_all<F: Files, O>(
     ensures locked { F.is_honest store.old.files → OnOk result (MoreFilesAt
         (lock_paths moves.new.items) (F.history store.old.files).tree
         (F.history store.new.files).tree) }
-    ensures held { F.is_honest store.old.files → OnOk result (AllByRecursion
-        (λ m. IsTrue (is_file_at (F.history store.new.files).tree (lock_path_of m))) moves.new.items) }
+    // The locks of all planned edits exist, also after an error, and none existed before.
+    ensures held { F.is_honest store.old.files
+        → LocksHeld moves.new.items (F.history store.new.files).tree }
+    ensures fresh { F.is_honest store.old.files → AllByRecursion
+        (λ m. file_at (F.history store.old.files).tree (lock_path_of m) ≡ None) moves.new.items }
+    ensures once { F.is_honest store.old.files → Once (lock_paths moves.new.items) }
     ensures folders { Passes F.is_honest F.history store.old.files store.new.files
         (FoldersOnlyOf (places_of (base_of store.old) edits.now)) }
     ensures room { F.is_honest store.old.files → AreBeside (name_paths (base_of store.old) edits.now)
@@ -487,9 +490,9 @@ fn drop_all<F: Files>(
     ensures later { F.failures files.old ≤ F.failures files.new }
     ensures moments { Passes F.is_honest F.history files.old files.new SameButLocks }
     ensures folders { Passes F.is_honest F.history files.old files.new SameFolders }
-    ensures told { IsAfter F.reading_may_fail error result }
+    ensures told { IsAfter error result }
     ensures counted { (before : ℕ) → F.is_honest files.old → before ≤ F.failures files.old
-        → RecordsHeld packed (F.history files.old).tree
+        → AreHeld packed moves.now (F.history files.old).tree → Once (all_locks packed moves.now)
         → IsOfEdit error → Counts before (F.failures files.old) error
         → Counts before (F.failures files.new) result }
     ensures rolled_back { F.is_honest files.old → AllGone moves.now packed (F.history files.old).tree
@@ -509,11 +512,12 @@ fn drop_records<F: Files>(
     ensures honest { F.is_honest files.old → F.is_honest files.new }
     ensures later { F.failures files.old ≤ F.failures files.new }
     ensures unfailed { result ≢ given.Failed → F.failures files.new ≡ F.failures files.old }
-    ensures read { result ≢ given.Unread }
     ensures failed { F.is_honest files.old → RecordsHeld packed (F.history files.old).tree
         → result ≡ given.Failed → HasRisen (F.failures files.old) (F.failures files.new) }
     ensures moments { Passes F.is_honest F.history files.old files.new SameButLocks }
     ensures folders { Passes F.is_honest F.history files.old files.new SameFolders }
+    ensures others { F.is_honest files.old → SameFilesBut (packed_locks packed)
+        (F.history files.old).tree (F.history files.new).tree }
     ensures gone { F.is_honest files.old → result ≡ given.Done
         → PackedGone packed (F.history files.new).tree
         × NoFileMore (F.history files.old).tree (F.history files.new).tree }
@@ -541,9 +545,7 @@ fn given_back(records: GivenBack, locks: GivenBack) -> Result<(), CommitError>
 {
     match records {
         GivenBack::Failed => Err(CommitError::PackedTransactionCommit(packed::CommitError::Commit)),
-        GivenBack::Done | GivenBack::Memory | GivenBack::Unread => {
-            of_back(records.or_worse(locks))
-        }
+        GivenBack::Done | GivenBack::Memory => of_back(records.or_worse(locks)),
     }
 }
 
@@ -553,7 +555,7 @@ fn of_back(locks: GivenBack) -> Result<(), CommitError>
     match locks {
         GivenBack::Done => Ok(()),
         GivenBack::Memory => Err(CommitError::Memory),
-        GivenBack::Unread | GivenBack::Failed => Err(CommitError::LockCommit),
+        GivenBack::Failed => Err(CommitError::LockCommit),
     }
 }
 
@@ -634,6 +636,12 @@ impl Transaction {
             → AreHeld self.packed self.moves.items (F.history files.old).tree
             → IfErr result (λ error.
             IsOutOfMemory error ⊎ HasFault F.failures F.reading_may_fail files.old files.new) }
+        // No lock is left, also after an error, unless a failure was counted or memory was wanting.
+        ensures rolled_back { F.is_honest files.old
+            → AreHeld self.packed self.moves.items (F.history files.old).tree
+            → FailsForMemory result ⊎ (HasRisen (F.failures files.old) (F.failures files.new)
+            ⊎ AllGone self.moves.items self.packed (F.history files.old).tree
+            (F.history files.new).tree) }
     {
         let Transaction {
             edits,

@@ -1,4 +1,4 @@
-use Rattle.std.proofs.Common.{◌≡◌, ◌∙◌, inl, refl, sym, ap, subst, true, ℕ, List, [], ◌∷◌, arith}
+use Rattle.std.proofs.Common.{◌≡◌, ◌∙◌, inl, refl, sym, ap, subst, true, ℕ, List, [], ◌∷◌, None, arith}
 use Rattle.std.proofs.lemmas.Result.{err_from_is_err_and}
 use Rattle.gix_ref_store.specs.Lookups.{reads_with}
 use Rattle.gix_ref_file.proofs.Histories.{adds_nothing, adds_weaker}
@@ -9,7 +9,7 @@ use Rattle.gix_ref_store.specs.Stores.{base_of}
 use Rattle.gix_ref_file.specs.Changes.{is_file_at, may_hold_file}
 use Rattle.gix_ref_file.specs.History.{Adds}
 use Rattle.gix_ref_lock.specs.Locks.{lock_of, OthersStay}
-use Rattle.gix_ref_way.specs.Ways.{FoldersOnlyOf}
+use Rattle.gix_ref_way.specs.Ways.{FoldersOnlyOf, file_at}
 use Rattle.gix_ref_way.proofs.Rooms.{onlys_joined, onlys_same}
 use Rattle.gix_ref_transaction.specs.Errors.{Counts}
 use Rattle.gix_ref_transaction.specs.Locking.{ArePaths, IsLockable}
@@ -107,7 +107,13 @@ pub returns-in-Ok-clause-held : goal.returns-in-Ok-clause-held
 returns-in-Ok-clause-held g c = λ honest.
     let mid = (g.F.Files.history c.take.new.files).tree in
     let lock = c.in_ok-lock.lock in
-    c.in-Ok.ensures.held (c.take.ensures.honest honest) (subst (λ p. IsTrue (is_file_at mid p)) (sym (lock.beside ∙ ap lock_of c.in_ok-lock.ensures.place)) (c.in_ok-lock.ensures.held honest))
+    c.act_of.ensures.held (c.take.ensures.honest honest) (subst (λ p. IsTrue (is_file_at mid p)) (sym (lock.beside ∙ ap lock_of c.in_ok-lock.ensures.place)) (c.in_ok-lock.ensures.held honest))
+
+pub returns-in-Ok-clause-free : goal.returns-in-Ok-clause-free
+returns-in-Ok-clause-free g c = λ honest.
+    let old = (g.F.Files.history c.args.store.now.files).tree in
+    let lock = c.in_ok-lock.lock in
+    subst (λ p. file_at old p ≡ None) (sym (lock.beside ∙ ap lock_of c.in_ok-lock.ensures.place)) (c.in_ok-lock.ensures.free honest)
 
 pub returns-in-Ok-clause-room : goal.returns-in-Ok-clause-room
 returns-in-Ok-clause-room g c = λ honest.
@@ -132,7 +138,7 @@ returns-clause-counted g c = λ honest.
     let held = subst (λ p. IsTrue (is_file_at mid p)) (sym (lock.beside ∙ ap lock_of c.in_ok-lock.ensures.place)) (c.in_ok-lock.ensures.held honest) in
     let l = logging c.args.store.now.options (state_among b mid (records_in c.args.packed)) c.args.committer in
     let of = of_edit l (has_log b mid edit.name) g.F.Files.reading_may_fail edit c.in-Err.error (c.in-Err.ensures.failed first) in
-    c.unplanned.ensures.counted (f c.args.store.now.files) (c.act_of.ensures.honest first) (omega (arith, c.take.ensures.later, c.act_of.ensures.later)) of
+    c.unplanned.ensures.counted (f c.args.store.now.files) (c.act_of.ensures.honest first) (omega (arith, c.take.ensures.later, c.act_of.ensures.later)) (c.act_of.ensures.held first held) of
     (subst (λ n. Counts n (f c.act_of.new.store.files) c.in-Err.error) c.in_ok-lock.ensures.unfailed (c.in-Err.ensures.counted first held))
 
 pub returns-in_err-lock-clause-refused : goal.returns-in_err-lock-clause-refused
@@ -144,7 +150,7 @@ returns-in_err-lock-clause-refused g c = λ honest.
 
 pub returns-clause-refused : goal.returns-clause-refused
 returns-clause-refused g c = λ honest is.
-    absurd (after_no_lock g.F.Files.reading_may_fail c.in-Err.error c.unplanned.result c.unplanned.ensures.told (λ e. c.in-Err.ensures.locked (c.take.ensures.honest honest) (ap Err e)) (err_same c.unplanned.result LockAcquire is))
+    absurd (after_no_lock c.in-Err.error c.unplanned.result c.unplanned.ensures.told (λ e. c.in-Err.ensures.locked (c.take.ensures.honest honest) (ap Err e)) (err_same c.unplanned.result LockAcquire is))
 
 pub returns-in_err-lock-clause-failed : goal.returns-in_err-lock-clause-failed
 returns-in_err-lock-clause-failed g c = λ honest.
@@ -185,7 +191,7 @@ returns-clause-failed g c = λ honest.
     let same = now_of (SameButLocks old.tree) old mid (λ path none. refl) (c.take.ensures.moments honest) in
     let full = subst (λ (n : List ℕ). is_full_name n ≡ true) c.as_ref.ensures c.as_ref.result.full in
     let l = logging options (reads_with c.args.store.now old.tree c.args.packed) c.args.committer in
-    or_after (EditFault l (has_log b old.tree c.args.edit.now.name) g.F.Files.reading_may_fail c.args.edit.now) g.F.Files.reading_may_fail c.in-Err.error c.unplanned.result c.unplanned.ensures.told tt tt (λ may_fail. (tt, may_fail))
+    or_after (EditFault l (has_log b old.tree c.args.edit.now.name) g.F.Files.reading_may_fail c.args.edit.now) c.in-Err.error c.unplanned.result c.unplanned.ensures.told tt tt
     (fault_alike options options b b old.tree mid.tree (records_in c.args.packed) c.args.committer c.args.edit.now g.F.Files.reading_may_fail c.in-Err.error same full refl refl (c.in-Err.ensures.failed (c.take.ensures.honest honest)))
 
 pub returns-in-Ok-clause-locked : goal.returns-in-Ok-clause-locked
@@ -215,7 +221,7 @@ returns-clause-rolled_back g c = λ honest.
     let still = now_of (OthersStay lock.path.items then.tree) then new (λ path apart. refl) (c.unplanned.ensures.moments second) in
     let came = more_on lock.path.items old mid.tree then.tree (subst (λ (l : List ℕ). MoreFilesAt (l ∷ []) old mid.tree) (sym (lock.beside ∙ ap lock_of c.in_ok-lock.ensures.place)) (c.in_ok-lock.ensures.locked honest)) stay in
     let of = of_edit l (has_log b mid.tree edit.name) g.F.Files.reading_may_fail edit c.in-Err.error (c.in-Err.ensures.failed first) in
-    let counts = c.unplanned.ensures.counted (f c.args.store.now.files) second (omega (arith, c.take.ensures.later, c.act_of.ensures.later)) of
+    let counts = c.unplanned.ensures.counted (f c.args.store.now.files) second (omega (arith, c.take.ensures.later, c.act_of.ensures.later)) (c.act_of.ensures.held first held) of
     (subst (λ n. Counts n (f c.act_of.new.store.files) c.in-Err.error) c.in_ok-lock.ensures.unfailed (c.in-Err.ensures.counted first held)) in
     unplanned_back (f c.args.store.now.files) (f c.unplanned.new.files) lock.path.items old new.tree c.unplanned.result
     (more_on lock.path.items old then.tree new.tree came still) (c.unplanned.ensures.rolled_back second) counts

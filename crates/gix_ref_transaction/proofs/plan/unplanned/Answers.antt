@@ -4,12 +4,12 @@ use Rattle.gix_ref_transaction.proofs.Counting.{counts_after, is_after, left_or}
 use Rattle.gix_ref_transaction.proofs.plan.unplanned.Goals as goal
 
 pub returns-clause-told : goal.returns-clause-told
-returns-clause-told g c = is_after g.F.Files.reading_may_fail c.withdraw-outcome.result c.args.error c.afterwards.result c.afterwards.ensures c.withdraw-outcome.ensures.unread
+returns-clause-told g c = is_after c.withdraw-outcome.result c.args.error c.afterwards.result c.afterwards.ensures
 
 pub returns-clause-counted : goal.returns-clause-counted
-returns-clause-counted g c = λ before honest first of counts.
+returns-clause-counted g c = λ before honest first held of counts.
     let f = g.F.Files.failures in
-    counts_after before (f c.args.files.now) (f c.withdraw-outcome.new.files) c.withdraw-outcome.result c.args.error c.afterwards.result c.afterwards.ensures first of counts c.withdraw-outcome.ensures.unfailed (c.withdraw-outcome.ensures.failed honest)
+    counts_after before (f c.args.files.now) (f c.withdraw-outcome.new.files) c.withdraw-outcome.result c.args.error c.afterwards.result c.afterwards.ensures first of counts c.withdraw-outcome.ensures.unfailed (c.withdraw-outcome.ensures.held honest held)
 
 pub returns-clause-rolled_back : goal.returns-clause-rolled_back
 returns-clause-rolled_back g c = λ honest.

@@ -1,12 +1,12 @@
-use Rattle.std.proofs.Common.{◌∙◌, ◌≡◌, refl, sym, ap, subst, None}
+use Rattle.std.proofs.Common.{◌∙◌, ◌≡◌, refl, sym, None}
 use Rattle.gix_ref_file.specs.History.{HasRisen}
 use Rattle.gix_ref_file.specs.Tree.{node_at}
 use Rattle.gix_ref_file.proofs.Histories.{adds_weaker}
 use Rattle.gix_ref_lock.specs.Locks.{OthersStay}
 use Rattle.gix_ref_moves.proofs.FileMoves.{now_of}
 use Rattle.gix_ref_moves.proofs.LockPaths.{one_lock}
-use Rattle.gix_ref_transaction.proofs.Givings.{commit_done, commit_failed, commit_read, commit_unfailed}
-use Rattle.gix_ref_transaction.proofs.Rollbacks.{none_gone, records_gone, records_held}
+use Rattle.gix_ref_transaction.proofs.Givings.{commit_done, commit_failed, commit_unfailed}
+use Rattle.gix_ref_transaction.proofs.Rollbacks.{none_gone, records_gone, records_held, records_others}
 use Rattle.gix_ref_transaction.proofs.transaction.drop_records.Goals as goal
 
 pub returns-in-Some-clause-moments : goal.returns-in-Some-clause-moments
@@ -19,9 +19,6 @@ pub returns-in-Some-clause-unfailed : goal.returns-in-Some-clause-unfailed
 returns-in-Some-clause-unfailed g c = λ none.
     let f = g.F.Files.failures in
     commit_unfailed (f c.rollback.new.files ≡ f c.args.files.now) c.rollback.result c.rollback.ensures.unfailed c.rollback.ensures.memory (λ is. none (c.of_commit.ensures ∙ is))
-
-pub returns-in-Some-clause-read : goal.returns-in-Some-clause-read
-returns-in-Some-clause-read g c = λ is. commit_read c.rollback.result (sym c.of_commit.ensures ∙ is)
 
 pub returns-in-Some-clause-failed : goal.returns-in-Some-clause-failed
 returns-in-Some-clause-failed g c = λ honest held is.
@@ -40,3 +37,9 @@ returns-in-Some-clause-gone g c = λ honest is.
 
 pub returns-in-None-clause-gone : goal.returns-in-None-clause-gone
 returns-in-None-clause-gone g c = λ honest is. none_gone c.args.packed (g.F.Files.history c.args.files.now).tree c.in-None.is
+
+pub returns-in-Some-clause-others : goal.returns-in-Some-clause-others
+returns-in-Some-clause-others g c = λ honest.
+    let old = g.F.Files.history c.args.files.now in
+    let new = g.F.Files.history c.rollback.new.files in
+    records_others c.args.packed c.in-Some.packed old.tree new.tree c.in-Some.is (now_of (OthersStay c.in-Some.packed.lock.path.items old.tree) old new (λ path apart. refl) (c.rollback.ensures.moments honest))

@@ -24,21 +24,22 @@ use Rattle.gix_ref_lock.specs.declared.packed.Transaction.{Transaction as Packed
 use Rattle.gix_ref_repacking.specs.Modes.{objects_in, removes}
 use Rattle.gix_ref_repacking.specs.Repacking.{AreRepacked}
 use Rattle.gix_ref_repacking.specs.Resolving.{IfUnresolved, PackFault, SomeChangeFault}
-use Rattle.gix_ref_transaction.specs.Causes.{LockFault, SomeEditFault}
+use Rattle.gix_ref_moves.specs.Moves.{Once, lock_paths}
+use Rattle.gix_ref_transaction.specs.Causes.{SomeEditFault}
 use Rattle.gix_ref_transaction.specs.Errors.{Counts, MayBeLeft}
 use Rattle.gix_ref_transaction.specs.Locking.{AreHeld, IsLockable}
 use Rattle.gix_ref_transaction.specs.LogLines.{AllLined, logging}
-use Rattle.gix_ref_transaction.specs.Paths.{edit_paths, has_twice, name_paths, places_of}
+use Rattle.gix_ref_transaction.specs.Paths.{has_twice, name_paths, places_of}
 use Rattle.gix_ref_transaction.specs.Plans.{AllPlanned, AllTested}
 use Rattle.gix_ref_transaction.specs.Reads.{AllGiveKind, AllReadBack}
-use Rattle.gix_ref_transaction.specs.Rollback.{lock_paths, AllGone, SameFilesBut, all_locks}
+use Rattle.gix_ref_transaction.specs.Rollback.{AllGone, SameFilesBut, all_locks}
 use Rattle.gix_ref_transaction.proofs.Committable.{all_same_but, can_commit, commit_once, records_same_but, same_but}
-use Rattle.gix_ref_transaction.proofs.Counting.{after_no_records, after_unresolved, of_edit, records_cause, records_count, records_unresolved, some_edit}
+use Rattle.gix_ref_transaction.proofs.Counting.{after_no_records, after_unresolved, records_cause, records_count, records_unresolved, some_edit}
 use Rattle.gix_ref_transaction.proofs.Faults.{by_all, by_records}
 use Rattle.gix_ref_transaction.proofs.LockedEdits.{held_now, names_beside, names_paths, not_lockable}
 use Rattle.gix_ref_transaction.proofs.Plannings.{among_alike, tested_alike, all_lined_alike, some_fault_alike}
 use Rattle.gix_ref_transaction.proofs.Repacked.{locks_alone, repacked_on}
-use Rattle.gix_ref_transaction.proofs.Rollbacks.{of_records, with_records, dropped_back}
+use Rattle.gix_ref_transaction.proofs.Rollbacks.{all_once, of_records, with_records, dropped_back}
 use Rattle.gix_ref_transaction.proofs.transaction.locked.Goals as goal
 
 pub returns-in_err-records-clause-moments : goal.returns-in_err-records-clause-moments
@@ -193,7 +194,12 @@ returns-in-Err-clause-counted g c = λ honest.
     let then = (g.F.Files.history c.plan_all.new.store.files).tree in
     let held = held_now c.in_ok-records.records mid then (c.plan_all.ensures.keeps first) (c.in_ok-records.ensures.held honest) in
     let of = some_edit (logging c.repack.new.store.options (reads_with c.repack.new.store mid c.args.packed) c.args.committer) (base_of c.repack.new.store) mid g.F.Files.reading_may_fail c.deref-2.result.now c.in-Err.error (c.in-Err.ensures.failed first) in
-    c.drop_all.ensures.counted (f c.args.store.now.files) (c.plan_all.ensures.honest first) (omega (arith, c.repack.ensures.later, c.plan_all.ensures.later)) held of
+    let records = c.in_ok-records.records in
+    let moves = c.plan_all.new.moves.items in
+    let own : moves ≡ c.deref-in-Err.result.now = sym c.deref-in-Err.ensures.value in
+    let all = subst (λ (ms : List Move). AreHeld records ms then) own (record { packed = held; each = c.plan_all.ensures.held first }) in
+    let once = subst (λ (ms : List Move). Once (all_locks records ms)) own (all_once records moves mid (c.in_ok-records.ensures.held honest) (c.plan_all.ensures.fresh first) (c.plan_all.ensures.once first)) in
+    c.drop_all.ensures.counted (f c.args.store.now.files) (c.plan_all.ensures.honest first) (omega (arith, c.repack.ensures.later, c.plan_all.ensures.later)) all once of
     (subst (λ n. Counts n (f c.plan_all.new.store.files) c.in-Err.error) c.in_ok-records.ensures.unfailed (c.in-Err.ensures.counted first))
 
 pub returns-in-Err-clause-records : goal.returns-in-Err-clause-records
@@ -201,7 +207,7 @@ returns-in-Err-clause-records g c = λ honest can of_records.
     let first = c.repack.ensures.honest honest in
     let mid = (g.F.Files.history c.repack.new.store.files).tree in
     let of = some_edit (logging c.repack.new.store.options (reads_with c.repack.new.store mid c.args.packed) c.args.committer) (base_of c.repack.new.store) mid g.F.Files.reading_may_fail c.deref-2.result.now c.in-Err.error (c.in-Err.ensures.failed first) in
-    absurd (after_no_records g.F.Files.reading_may_fail c.in-Err.error c.drop_all.result c.drop_all.ensures.told of of_records)
+    absurd (after_no_records c.in-Err.error c.drop_all.result c.drop_all.ensures.told of of_records)
 
 pub returns-in-Err-clause-resolves : goal.returns-in-Err-clause-resolves
 returns-in-Err-clause-resolves g c = λ honest told.
@@ -209,7 +215,7 @@ returns-in-Err-clause-resolves g c = λ honest told.
     let first = c.repack.ensures.honest honest in
     let mid = (g.F.Files.history c.repack.new.store.files).tree in
     let of = some_edit (logging c.repack.new.store.options (reads_with c.repack.new.store mid c.args.packed) c.args.committer) (base_of c.repack.new.store) mid g.F.Files.reading_may_fail c.deref-2.result.now c.in-Err.error (c.in-Err.ensures.failed first) in
-    after_unresolved (SomeChangeFault why c.args.edits.items) g.F.Files.reading_may_fail c.in-Err.error c.drop_all.result c.drop_all.ensures.told of
+    after_unresolved (SomeChangeFault why c.args.edits.items) c.in-Err.error c.drop_all.result c.drop_all.ensures.told of
 
 pub returns-in-Err-clause-causes : goal.returns-in-Err-clause-causes
 returns-in-Err-clause-causes g c = λ honest.
@@ -247,10 +253,15 @@ returns-in-Err-clause-rolled_back g c = λ honest.
     let came = with_records lock c.in_ok-records.records old.tree mid.tree stay (c.in_ok-records.ensures.here honest) (λ none. ap (λ s. (g.F.Files.history s.files).tree) (c.in_ok-records.ensures.idle none)) in
     let held = held_now c.in_ok-records.records mid.tree then (c.plan_all.ensures.keeps first) (c.in_ok-records.ensures.held honest) in
     let of = some_edit (logging c.repack.new.store.options (reads_with c.repack.new.store mid.tree c.args.packed) c.args.committer) (base_of c.repack.new.store) mid.tree g.F.Files.reading_may_fail c.deref-2.result.now c.in-Err.error (c.in-Err.ensures.failed first) in
-    let counts = c.drop_all.ensures.counted (f c.args.store.now.files) second (omega (arith, c.repack.ensures.later, c.plan_all.ensures.later)) held of
+    let records = c.in_ok-records.records in
+    let moves = c.plan_all.new.moves.items in
+    let own : moves ≡ c.deref-in-Err.result.now = sym c.deref-in-Err.ensures.value in
+    let all = subst (λ (ms : List Move). AreHeld records ms then) own (record { packed = held; each = c.plan_all.ensures.held first }) in
+    let once = subst (λ (ms : List Move). Once (all_locks records ms)) own (all_once records moves mid.tree (c.in_ok-records.ensures.held honest) (c.plan_all.ensures.fresh first) (c.plan_all.ensures.once first)) in
+    let counts = c.drop_all.ensures.counted (f c.args.store.now.files) second (omega (arith, c.repack.ensures.later, c.plan_all.ensures.later)) all once of
     (subst (λ n. Counts n (f c.plan_all.new.store.files) c.in-Err.error) c.in_ok-records.ensures.unfailed (c.in-Err.ensures.counted first)) in
     let dropped = subst (λ (ms : List Move). AllGone ms c.in_ok-records.records then new ⊎ MayBeLeft c.drop_all.result) c.deref-in-Err.ensures.value (c.drop_all.ensures.rolled_back second) in
-    dropped_back (f c.args.store.now.files) (f c.repack.new.store.files) (f c.plan_all.new.store.files) (f c.drop_all.new.files) c.plan_all.new.moves.items c.in_ok-records.records old.tree mid.tree then new g.F.Files.reading_may_fail c.in-Err.error c.drop_all.result
+    dropped_back (f c.args.store.now.files) (f c.repack.new.store.files) (f c.plan_all.new.store.files) (f c.drop_all.new.files) c.plan_all.new.moves.items c.in_ok-records.records old.tree mid.tree then new c.in-Err.error c.drop_all.result
     c.repack.ensures.later c.drop_all.ensures.later came (c.in-Err.ensures.rolled_back first) c.drop_all.ensures.told counts dropped
 
 -- ---- all are locked
@@ -291,7 +302,7 @@ returns-in-Ok-clause-held g c = λ honest.
     let records = c.in_ok-records.records in
     subst (λ (p : Option Packed). AreHeld p c.finish.result.moves.items then) (sym c.finish.ensures.packed)
     (subst (λ (v : Vec Move Global). AreHeld records v.items then) (sym c.finish.ensures.moves)
-    (record { packed = held_now records mid then (c.plan_all.ensures.keeps first) (c.in_ok-records.ensures.held honest); each = c.in-Ok.ensures.held first }))
+    (record { packed = held_now records mid then (c.plan_all.ensures.keeps first) (c.in_ok-records.ensures.held honest); each = c.plan_all.ensures.held first }))
 
 pub returns-in-Ok-clause-room : goal.returns-in-Ok-clause-room
 returns-in-Ok-clause-room g c = λ honest room.
@@ -312,7 +323,7 @@ returns-in-Ok-clause-room g c = λ honest room.
     let stay = now_of (OthersStay lock old.tree) old mid (λ path apart. refl) (c.repack.ensures.moments honest) in
     let few = records_same_but lock records old.tree mid.tree stay (c.in_ok-records.ensures.here honest) (λ none. ap (λ s. (g.F.Files.history s.files).tree) (c.in_ok-records.ensures.idle none)) in
     let same = all_same_but records moves old.tree mid.tree then.tree few (same_but (lock_paths moves) mid.tree then.tree (c.plan_all.ensures.keeps first) (c.in-Ok.ensures.locked first)) in
-    let held : AreHeld records moves then.tree = record { packed = held_now records mid.tree then.tree (c.plan_all.ensures.keeps first) (c.in_ok-records.ensures.held honest); each = c.in-Ok.ensures.held first } in
+    let held : AreHeld records moves then.tree = record { packed = held_now records mid.tree then.tree (c.plan_all.ensures.keeps first) (c.in_ok-records.ensures.held honest); each = c.plan_all.ensures.held first } in
     let beside = subst (λ (es : List RefEdit). AreBeside (name_paths (base_of c.repack.new.store) es)) (sym c.deref-2.ensures.value) (subst (λ (base : Base). AreBeside (name_paths base edits)) (sym c.repack.ensures.base) (names_beside b edits room.apart)) in
     let can = can_commit b gone edits moves planned records c.in_ok-records.ensures.at old.tree then.tree c.requires.paths only same held (c.in-Ok.ensures.room first beside) room in
     subst (λ (p : Option Packed). CanCommit p c.finish.result.moves.items then.tree) (sym c.finish.ensures.packed)

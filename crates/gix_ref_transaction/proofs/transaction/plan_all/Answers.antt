@@ -1,16 +1,17 @@
-use Rattle.std.proofs.Common.{◌≡◌, ◌∙◌, ◌++◌, [], ◌∷◌, inl, inr, refl, sym, ap, subst, arith}
+use Rattle.std.proofs.Common.{◌≡◌, ◌∙◌, ◌++◌, [], ◌∷◌, inl, inr, refl, sym, ap, subst, None, arith}
 use Rattle.std.proofs.lemmas.Result.{err_from_is_err_and}
 use Rattle.gix_ref_file.proofs.Histories.{adds_nothing, adds_weaker}
 use Rattle.gix_ref_store.specs.Finds.{records_in}
 use Rattle.gix_ref_store.specs.Lookups.{reads_with}
 use Rattle.std.specs.Prelude.{Contains, IsTrue, Err}
+use Rattle.gix_ref_moves.specs.Moves.{LocksHeld, Once, lock_paths}
 use Rattle.gix_ref_transaction.specs.declared.error.PrepareError.TheVariants.{LockAcquire}
 use Rattle.gix_ref_transaction.proofs.Takings.{err_same}
 use Rattle.std.specs.List.{AllByRecursion, list_all}
 use Rattle.gix_ref_file.specs.Changes.{is_file_at, may_hold_file}
 use Rattle.gix_ref_file.specs.History.{Adds}
 use Rattle.gix_ref_file.specs.Tree.{is_path}
-use Rattle.gix_ref_way.specs.Ways.{FoldersOnlyOf}
+use Rattle.gix_ref_way.specs.Ways.{FoldersOnlyOf, file_at}
 use Rattle.gix_ref_way.proofs.Rooms.{only_now, only_weaker, onlys_joined}
 use Rattle.gix_ref_store.specs.Places.{Base, place}
 use Rattle.gix_ref_store.specs.RefStates.{RefState, state_among}
@@ -24,12 +25,11 @@ use Rattle.gix_ref_transaction.specs.LogLines.{line_in, logging}
 use Rattle.gix_ref_repacking.specs.Modes.{removes}
 use Rattle.gix_ref_transaction.specs.Plans.{IsTested, IsPlanOf}
 use Rattle.gix_ref_transaction.proofs.Plannings.{LinedIn, among_alike, keeps_joined, zipping_begins, testing_begins, one_zipped, one_tested, zipping_ends, testing_ends, holding_ends, is_among, lined_alike, fault_alike}
-use Rattle.gix_ref_transaction.specs.Rollback.{lock_paths}
 use Rattle.gix_ref_transaction.specs.Errors.{Counts}
 use Rattle.gix_ref_transaction.specs.Locking.{ArePaths, IsLockable}
 use Rattle.gix_ref_transaction.specs.Paths.{name_paths, places_of}
 use Rattle.gix_ref_transaction.proofs.Lockings.{first_paths, held_still, later_paths, lockable, none_held, one_of, own_among, place_own, places_front, places_own, rooms_still}
-use Rattle.gix_ref_transaction.proofs.Rollbacks.{one_more, after_error}
+use Rattle.gix_ref_transaction.proofs.Rollbacks.{one_more, after_error, free_before, once_more}
 use Rattle.gix_ref_transaction.proofs.Twice.{once_of}
 use Rattle.gix_ref_transaction.proofs.transaction.plan_all.Goals as goal
 
@@ -44,6 +44,8 @@ edits-init g c = record {
   locked = λ honest path none there. there;
   folders = λ honest. adds_nothing (g.F.Files.history c.args.store.now.files);
   held = λ honest. none_held (λ m. IsTrue (is_file_at (g.F.Files.history c.args.store.now.files).tree (lock_path_of m))) c.args.moves.now.items c.requires.none;
+  fresh = λ honest. none_held (λ m. file_at (g.F.Files.history c.args.store.now.files).tree (lock_path_of m) ≡ None) c.args.moves.now.items c.requires.none;
+  once = λ honest. subst (λ ms. Once (lock_paths ms)) (sym c.requires.none) tt;
   room = λ honest beside. none_held (λ m. IsTrue (may_hold_file (g.F.Files.history c.args.store.now.files).tree (place_of m))) c.args.moves.now.items c.requires.none;
   paths = c.requires.paths;
   none = c.requires.none;
@@ -88,6 +90,12 @@ edits-preserved g c =
           let still = so_far.honest honest in
           subst (λ ms. AllByRecursion (λ m. IsTrue (is_file_at new.tree (lock_path_of m))) ms) (sym c.in_ok-push.ensures.items)
           (all_append (λ m. IsTrue (is_file_at new.tree (lock_path_of m))) c.edits.moves.items (made ∷ []) (held_still mid.tree new.tree (c.plan.ensures.keeps still) c.edits.moves.items (so_far.held honest)) (c.in_ok-planned.ensures.held still, tt));
+      fresh = λ honest.
+          let still = so_far.honest honest in
+          subst (λ ms. AllByRecursion (λ m. file_at old.tree (lock_path_of m) ≡ None) ms) (sym c.in_ok-push.ensures.items)
+          (all_append (λ m. file_at old.tree (lock_path_of m) ≡ None) c.edits.moves.items (made ∷ []) (so_far.fresh honest) (free_before old.tree mid.tree (so_far.keeps honest) (lock_path_of made) (c.in_ok-planned.ensures.free still), tt));
+      once = λ honest.
+          subst (λ ms. Once (lock_paths ms)) (sym c.in_ok-push.ensures.items) (once_more c.edits.moves.items made mid.tree (so_far.held honest) (c.in_ok-planned.ensures.free (so_far.honest honest)) (so_far.once honest));
       room = λ honest beside.
           let still = so_far.honest honest in
           let split = so_far.planned.split ∙ ap (λ r. so_far.planned.done ++ r) c.in-Some.ensures.cases.0 in
@@ -263,6 +271,16 @@ returns-in_err-push-clause-refused g c = λ honest.
 
 pub returns-clause-held : goal.returns-clause-held
 returns-clause-held g c = λ honest. c.edits.invariant.held honest
+
+pub returns-in_err-planned-clause-held : goal.returns-in_err-planned-clause-held
+returns-in_err-planned-clause-held g c = λ honest.
+    held_still (g.F.Files.history c.edits.store.files).tree (g.F.Files.history c.plan.new.store.files).tree (c.plan.ensures.keeps (c.edits.invariant.honest honest)) c.edits.moves.items (c.edits.invariant.held honest)
+
+pub returns-in_err-push-clause-held : goal.returns-in_err-push-clause-held
+returns-in_err-push-clause-held g c = λ honest.
+    let new = (g.F.Files.history c.plan.new.store.files).tree in
+    subst (λ ms. LocksHeld ms new) (sym c.in_err-push.ensures.items)
+    (held_still (g.F.Files.history c.edits.store.files).tree new (c.plan.ensures.keeps (c.edits.invariant.honest honest)) c.edits.moves.items (c.edits.invariant.held honest))
 
 pub returns-clause-room : goal.returns-clause-room
 returns-clause-room g c = λ honest beside. c.edits.invariant.room honest beside

@@ -1,11 +1,12 @@
-use Rattle.std.proofs.Common.{◌≡◌, ◌≤◌, length, []}
+use Rattle.std.proofs.Common.{◌≡◌, ◌≤◌, length, [], None}
 use Rattle.std.specs.Prelude.{IsTrue}
 use Rattle.std.specs.List.{AllByRecursion, list_all}
-use Rattle.gix_ref_file.specs.Changes.{is_file_at, may_hold_file}
+use Rattle.gix_ref_file.specs.Changes.{may_hold_file}
 use Rattle.gix_ref_file.specs.Tree.{is_path}
-use Rattle.gix_ref_way.specs.Ways.{FoldersOnlyOf}
+use Rattle.gix_ref_way.specs.Ways.{FoldersOnlyOf, file_at}
 use Rattle.gix_ref_moves.specs.Contents.{lock_path_of, place_of}
 use Rattle.gix_ref_moves.specs.Needs.{AreBeside}
+use Rattle.gix_ref_moves.specs.Moves.{LocksHeld, Once, lock_paths}
 use Rattle.gix_ref_transaction.specs.Paths.{name_paths, places_of}
 use Rattle.gix_ref_file.specs.History.{Adds}
 use Rattle.gix_ref_store.specs.Lookups.{reads_with}
@@ -14,7 +15,7 @@ use Rattle.gix_ref_moves.specs.Moments.{SameButLocks}
 use Rattle.gix_ref_transaction.specs.LogLines.{logging}
 use Rattle.gix_ref_repacking.specs.Modes.{removes}
 use Rattle.gix_ref_transaction.specs.Plans.{IsPlanOf, KeepsFiles}
-use Rattle.gix_ref_transaction.specs.Rollback.{MoreFilesAt, lock_paths}
+use Rattle.gix_ref_transaction.specs.Rollback.{MoreFilesAt}
 use Rattle.gix_ref_transaction.proofs.Plannings.{ZippedSoFar, TestedSoFar, LinedIn}
 use Rattle.gix_ref_transaction.proofs.transaction.plan_all.Given as goal
 
@@ -31,7 +32,9 @@ invariant-edits g l =
       unfailed : g.F.Files.failures l.store.files ≡ g.F.Files.failures l.fn.store.files;
       locked : g.F.Files.is_honest l.fn.store.files → MoreFilesAt (lock_paths l.moves.items) (history l.fn.store.files).tree (history l.store.files).tree;
       folders : g.F.Files.is_honest l.fn.store.files → Adds (FoldersOnlyOf (places_of (base_of l.fn.store) l.edits) (history l.fn.store.files).tree) (history l.fn.store.files) (history l.store.files);
-      held : g.F.Files.is_honest l.fn.store.files → AllByRecursion (λ m. IsTrue (is_file_at (history l.store.files).tree (lock_path_of m))) l.moves.items;
+      held : g.F.Files.is_honest l.fn.store.files → LocksHeld l.moves.items (history l.store.files).tree;
+      fresh : g.F.Files.is_honest l.fn.store.files → AllByRecursion (λ m. file_at (history l.fn.store.files).tree (lock_path_of m) ≡ None) l.moves.items;
+      once : g.F.Files.is_honest l.fn.store.files → Once (lock_paths l.moves.items);
       room : g.F.Files.is_honest l.fn.store.files → AreBeside (name_paths (base_of l.fn.store) l.edits) → AllByRecursion (λ m. IsTrue (may_hold_file (history l.store.files).tree (place_of m))) l.moves.items;
       paths : IsTrue (list_all is_path (name_paths (base_of l.fn.store) l.rest));
       none : l.fn.moves.items ≡ [];

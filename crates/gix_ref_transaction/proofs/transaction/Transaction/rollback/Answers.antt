@@ -1,12 +1,14 @@
 use Rattle.std.proofs.Common.{⊎_elim, inl, inr, sym, subst, List}
 use Rattle.std.proofs.lemmas.Result.{err_from_is_err_and}
 use Rattle.gix_ref_lock.proofs.LockLemmas.{folders_joined}
-use Rattle.gix_ref_moves.specs.Committing.{AreUnlocked}
+use Rattle.gix_ref_moves.specs.Committing.{AreUnlocked, commit_paths}
+use Rattle.gix_ref_moves.specs.Moves.{LocksHeld, Once, lock_paths}
 use Rattle.gix_ref_moves.specs.declared.act.Move.{Move}
 use Rattle.gix_ref_moves.proofs.LockPaths.{locks_joined}
-use Rattle.gix_ref_transaction.proofs.Counting.{worse_done, worse_unread}
+use Rattle.gix_ref_transaction.proofs.Counting.{worse_done}
 use Rattle.gix_ref_transaction.proofs.Givings.{both_risen, both_same, giving_done, giving_failed, giving_memory}
-use Rattle.gix_ref_transaction.proofs.Rollbacks.{all_gone}
+use Rattle.gix_ref_transaction.proofs.Rollbacks.{all_gone, locks_held, locks_once, paths_once}
+use Rattle.gix_ref_transaction.proofs.Twice.{once_of}
 use Rattle.gix_ref_transaction.proofs.transaction.Transaction.rollback.Goals as goal
 
 pub returns-clause-moments : goal.returns-clause-moments
@@ -54,12 +56,32 @@ returns-in_err-given_back-clause-memory g c =
 pub returns-in_err-given_back-clause-failed : goal.returns-in_err-given_back-clause-failed
 returns-in_err-given_back-clause-failed g c = λ honest held.
     let f = g.F.Files.failures in
+    let history = g.F.Files.history in
+    let t = c.args.self in
     let first = c.drop_records-records in
     let second = c.give_back_all-locks in
+    let once = paths_once t.packed t.moves.items (once_of (commit_paths t.packed t.moves.items) t.once) in
+    let own = locks_held t.packed t.moves.items (history c.args.files.now).tree (history first.new.files).tree (first.ensures.others honest) once held.each in
     let error = c.in_err-given_back.field-0.0 in
-    let then = first.ensures.honest honest in
     let p = err_from_is_err_and c.from_residual.result c.from_residual.ensures.1 in
-    rw (p.1, p.2) (⊎_elim inl (λ why. inr (⊎_elim
-    (λ is. inl (both_risen (f c.args.files.now) (f first.new.files) (f second.new.files) first.result second.result first.ensures.later second.ensures.later (first.ensures.failed honest held.packed) (second.ensures.failed then) is))
-    (λ is. inr (⊎_elim (λ read. absurd (first.ensures.read read)) second.ensures.unread (worse_unread first.result second.result is))) why))
+    rw (p.1, p.2) (⊎_elim inl (λ is. inr (inl (both_risen (f c.args.files.now) (f first.new.files) (f second.new.files) first.result second.result first.ensures.later second.ensures.later (first.ensures.failed honest held.packed)
+    (second.ensures.held (subst (λ (ms : List Move). Once (lock_paths ms)) (sym c.deref.ensures.value) (locks_once t.packed t.moves.items once)) (first.ensures.honest honest) (subst (λ (ms : List Move). LocksHeld ms (history first.new.files).tree) (sym c.deref.ensures.value) own)) is)))
     (giving_failed first.result second.result error (sym c.in_err-given_back.ensures)))
+
+pub returns-in_err-given_back-clause-rolled_back : goal.returns-in_err-given_back-clause-rolled_back
+returns-in_err-given_back-clause-rolled_back g c = λ honest held.
+    let f = g.F.Files.failures in
+    let history = g.F.Files.history in
+    let t = c.args.self in
+    let first = c.drop_records-records in
+    let second = c.give_back_all-locks in
+    let once = paths_once t.packed t.moves.items (once_of (commit_paths t.packed t.moves.items) t.once) in
+    let own = locks_held t.packed t.moves.items (history c.args.files.now).tree (history first.new.files).tree (first.ensures.others honest) once held.each in
+    let error = c.in_err-given_back.field-0.0 in
+    let p = err_from_is_err_and c.from_residual.result c.from_residual.ensures.1 in
+    rw (p.1, p.2) (⊎_elim inl (λ is. inr (inl (both_risen (f c.args.files.now) (f first.new.files) (f second.new.files) first.result second.result first.ensures.later second.ensures.later (first.ensures.failed honest held.packed)
+    (second.ensures.held (subst (λ (ms : List Move). Once (lock_paths ms)) (sym c.deref.ensures.value) (locks_once t.packed t.moves.items once)) (first.ensures.honest honest) (subst (λ (ms : List Move). LocksHeld ms (history first.new.files).tree) (sym c.deref.ensures.value) own)) is)))
+    (giving_failed first.result second.result error (sym c.in_err-given_back.ensures)))
+
+pub returns-clause-rolled_back : goal.returns-clause-rolled_back
+returns-clause-rolled_back g c = λ honest held. inr (inr (returns-clause-gone g c honest))
