@@ -6,10 +6,10 @@ use Rattle.gix_ref_packed.specs.Edited.{Line}
 use Rattle.gix_ref_lock.specs.PackedEdits as packed
 use Rattle.gix_ref_lock.specs.declared.packed.Transaction.{Transaction}
 use Rattle.gix_ref_moves.specs.Contents.{lock_path_of}
-use Rattle.gix_ref_moves.specs.Moves.{IsNone}
+use Rattle.gix_ref_moves.specs.Moves.{lock_paths, IsNone}
 use Rattle.gix_ref_moves.specs.declared.act.Move.{Move}
 use Rattle.gix_ref_repacking.specs.Repacking.{HoldsIf}
-use Rattle.gix_ref_transaction.specs.Rollback.{all_locks, lock_paths}
+use Rattle.gix_ref_transaction.specs.Rollback.{all_locks}
 use Rattle.history_model.specs.Bytes.{Bytes}
 use Rattle.history_model.specs.Forms.{is_name}
 use Rattle.history_model.specs.Places.{is_lock_file}
