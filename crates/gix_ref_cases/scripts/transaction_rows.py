@@ -60,7 +60,8 @@ for edits in lists:
     add("commit", "stop 1", before, lines, "TransactionLock(Failed)", before, None)
     add("commit", "stop 1 0", before, lines, "TransactionLock(Failed)", before, b"")
     add("commit", "fail 1", before, lines, "TransactionLock(Failed)", before, None)
-    add("commit", "stop 2", before, lines, "BufferOpen(Io)", before, b"")
+    # The reading fails, and then the removal of the lock, which is a failed change: it is reported.
+    add("commit", "stop 2", before, lines, "TransactionLock(Failed)", before, b"")
     add("commit", "fail 2", before, lines, "BufferOpen(Io)", before, None)
     for kept in [0, 1, 40, len(after) - 1, len(after)]:
         add("commit", f"stop 3 {kept}", before, lines, "CloseLock", before, after[:kept])
@@ -88,10 +89,10 @@ add("commit", "", None, f"write {'1' * 40} refs/heads/a\n", "commit false", head
 add("commit", "", None, "drop refs/heads/a\n", "commit false", header, None)
 add("rollback", "", None, f"write {'1' * 40} refs/heads/a\n", "rollback false", None, None)
 add("commit", "stop 4", None, f"write {'1' * 40} refs/heads/a\n", "Commit", None, header + record)
-# A file that can't be read: the lock goes again.
+# A file that can't be read: the lock goes again. If its removal fails, that is reported.
 for bad, told in [(b"x\n", "BufferOpen(Iter { line_number: 1 })"), (b"# none\n", "BufferOpen(HeaderParsing)"), (record + b"y\n", "BufferOpen(Iter { line_number: 2 })")]:
     add("commit", "", bad, lines, told, bad, None)
-    add("commit", "stop 3", bad, lines, told, bad, b"")
+    add("commit", "stop 3", bad, lines, "TransactionLock(Failed)", bad, b"")
 rows.append((f"commit - {header.hex()} {b'lose refs/heads/a'.hex()}".replace(" - ", "  "), "refused"))
 rows.append((f"commit {b'burn 1'.hex()} {header.hex()} ", "no fuse"))
 
