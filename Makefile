@@ -15,7 +15,7 @@ help: ## lists the targets, each with what it takes
 	@sed -n 's/^\([a-z-]*\):[^#]*## \(.*\)$$/\1	\2/p' $(MAKEFILE_LIST) | while IFS='	' read -r name text; do printf '%-17s %s\n' "$$name" "$$text"; done
 
 # docs/check holds the documents against the code; rt ci proves all from nothing, tries must-fail/, and runs tests and programs.
-test: ## the merge gate: documents, proofs, wrong bodies of must-fail/, tests, programs, clients; hours the first time
+test: ## the merge gate: documents, proofs, wrong bodies of must-fail/, tests, programs, clients; hours each time
 	docs/check
 	RT_JOBS=$${RT_JOBS:-$$(.ci/lanes)} rt ci
 	@if python3 -c 'import sys; sys.exit(sys.version_info < (3, 9))' 2>/dev/null; then $(MAKE) --no-print-directory clients-test; \
@@ -56,7 +56,7 @@ unchecked: FLAGS = --unchecked
 unproved unchecked:
 	@room=$$(mktemp -d) && trap 'rm -rf "$$room"' EXIT && \
 	find crates.txt HANDLES crates scripts -name out -prune -o -type f -print0 | xargs -0 cp --parents -t "$$room" && \
-	sed -i 's/, proved)/, $@)/' "$$room/crates/history_actions/src/command_line/version.rt" && \
+	sed -i 's/(proved)/($@)/' "$$room/crates/history_actions/src/command_line/version.rt" && \
 	"$$room/scripts/unproved-build" out/$@/wunthavel-history $(FLAGS)
 
 # `history` alone is a builtin of bash, so the program's own name is another.

@@ -35,7 +35,7 @@ __version__ = "0.1.0"
 
 
 def connect(address: Any, **options: Any) -> Repo:
-    """Returns a repository that `wunthavel serve` answers for, by its socket's path or `HOST:PORT`; see `wunthavel.serve.connect`."""
+    """Returns a repository that `wunthavel serve` serves, by its socket's path or `HOST:PORT`; see `wunthavel.serve.connect`."""
     repo: Repo = importlib.import_module("wunthavel.serve").connect(address, **options)
     return repo
 

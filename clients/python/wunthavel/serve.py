@@ -1,4 +1,4 @@
-"""`wunthavel serve SOCKET FOLDER`: one engine answers many clients, who speak docs/PROTOCOL.md over a socket as they would to the engine itself.
+"""`wunthavel serve SOCKET FOLDER`: one engine serves many clients, who speak docs/PROTOCOL.md over a socket as they would to the engine itself.
 
 One thread passes whole commands on, one of each client in turn, and whole replies back. So commands of two clients are never mixed, and a client
 that stalls, floods or dies holds up nobody: what isn't whole waits with its client, and what it doesn't read does too, up to limits and times.

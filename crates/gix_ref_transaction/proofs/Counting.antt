@@ -24,68 +24,74 @@ use Rattle.gix_ref_store.specs.declared.store.file.find.Error.TheVariants as fin
 use Rattle.gix_ref_store.specs.declared.store.file.peel.Error.{Error as PeelError}
 use Rattle.gix_ref_way.proofs.FoldersMade.{risen_later}
 use Rattle.gix_ref_transaction.specs.Causes.{EditFault, SomeEditFault, LineFault, NoLine, ReadFault, TestFault, Unlined, Unresolved}
-use Rattle.gix_ref_transaction.specs.Errors.{Counts, IsAfter, IsOfEdit, IsOfRecords, MayBeLeft, MayStay, TakeFault, after_giving, of_file, of_locking, of_repacking, unless_failed}
+use Rattle.gix_ref_transaction.specs.Errors.{Counts, IsAfter, IsOfEdit, IsOfRecords, IsQuiet, MayBeLeft, MayStay, TakeFault, after_giving, of_file, of_locking, of_repacking, unless_failed}
 use Rattle.gix_ref_transaction.specs.LogLines.{Logging, has_log}
 use Rattle.gix_ref_transaction.specs.declared.error.PrepareError.{PrepareError}
 use Rattle.gix_ref_transaction.specs.declared.error.PrepareError.TheVariants as fault
 
 -- ---- what they count
-pub counts_file : (e : FileError) (a b : ℕ) → (e ≡ file_case.Failed → HasRisen a b) → (e ≡ file_case.Memory → b ≡ a) → Counts a b (of_file e)
-counts_file file_case.Failed a b failed memory = failed refl
-counts_file file_case.Memory a b failed memory = memory refl
+pub counts_file : (e : FileError) (a b : ℕ) → (e ≡ file_case.Failed → HasRisen a b) → Counts a b (of_file e)
+counts_file file_case.Failed a b failed = failed refl
+counts_file file_case.Memory a b failed = tt
 
--- an error that no failure came before
-pub counts_same : (n : ℕ) (error : PrepareError) → error ≢ fault.Io → Counts n n error
-counts_same n (fault.Packed e) other = refl
-counts_same n (fault.PackedTransactionAcquire e) other = tt
-counts_same n (fault.PackedTransactionPrepare e) other = tt
-counts_same n (fault.PreprocessingFailed e) other = refl
-counts_same n fault.SamePlace other = refl
-counts_same n fault.Uncomposed other = refl
-counts_same n fault.LockAcquire other = refl
-counts_same n fault.Io other = absurd (other refl)
-counts_same n (fault.Refused e) other = refl
-counts_same n (fault.ReferenceDecode e) other = refl
-counts_same n (fault.CreateOrUpdateRefLog e) other = refl
-counts_same n (fault.Resolve e) other = refl
-counts_same n fault.Memory other = refl
+pub file_memory : (e : FileError) → of_file e ≢ fault.Io → e ≡ file_case.Memory
+file_memory file_case.Failed other = absurd (other refl)
+file_memory file_case.Memory other = refl
 
-counts_unless : (a b : ℕ) (error other : PrepareError) → IsOfEdit error → Counts a b error → (b ≡ a → Counts a b other) → Counts a b (unless_failed error other)
-counts_unless a b (fault.Packed e) other of counts then = then counts
-counts_unless a b (fault.PackedTransactionAcquire e) other of counts then = absurd of
-counts_unless a b (fault.PackedTransactionPrepare e) other of counts then = absurd of
-counts_unless a b (fault.PreprocessingFailed e) other of counts then = then counts
-counts_unless a b fault.SamePlace other of counts then = then counts
-counts_unless a b fault.Uncomposed other of counts then = then counts
-counts_unless a b fault.LockAcquire other of counts then = then counts
-counts_unless a b fault.Io other of counts then = counts
-counts_unless a b (fault.Refused e) other of counts then = then counts
-counts_unless a b (fault.ReferenceDecode e) other of counts then = then counts
-counts_unless a b (fault.CreateOrUpdateRefLog e) other of counts then = then counts
-counts_unless a b (fault.Resolve e) other of counts then = absurd of
-counts_unless a b fault.Memory other of counts then = then counts
+pub counts_other : (a b : ℕ) (error : PrepareError) → error ≢ fault.Io → Counts a b error
+counts_other a b fault.Io other = absurd (other refl)
+counts_other a b _ other = tt
 
-pub counts_after : (a b c : ℕ) (back : GivenBack) (error told : PrepareError) → told ≡ after_giving back error → a ≤ b → IsOfEdit error → Counts a b error → (back ≢ given.Failed → c ≡ b) → (back ≡ given.Failed → HasRisen b c) → Counts a c told
-counts_after a b c given.Done error told is first of counts same risen = subst (Counts a c) (sym is) (subst (λ n. Counts a n error) (sym (same (λ e. cc))) counts)
-counts_after a b c given.Failed error told is first of counts same risen = subst (Counts a c) (sym is) (risen_later a b c c first (risen refl) (omega arith))
-counts_after a b c given.Memory error told is first of counts same risen = subst (Counts a c) (sym is) (counts_unless a c error fault.Memory of (subst (λ n. Counts a n error) (sym (same (λ e. cc))) counts) (λ e. e))
+counts_unless : (a b : ℕ) (error : PrepareError) → Counts a b error → Counts a b (unless_failed error fault.Memory)
+counts_unless a b fault.Io counts = counts
+counts_unless a b _ counts = tt
+
+pub counts_after : (a b c : ℕ) (back : GivenBack) (error told : PrepareError) → told ≡ after_giving back error → a ≤ b → Counts a b error → (back ≢ given.Failed → c ≡ b) → (back ≡ given.Failed → HasRisen b c) → Counts a c told
+counts_after a b c given.Done error told is first counts same risen = subst (Counts a c) (sym is) (subst (λ n. Counts a n error) (sym (same (λ e. cc))) counts)
+counts_after a b c given.Failed error told is first counts same risen = subst (Counts a c) (sym is) (risen_later a b c c first (risen refl) (omega arith))
+counts_after a b c given.Memory error told is first counts same risen = subst (Counts a c) (sym is) (counts_unless a c error (subst (λ n. Counts a n error) (sym (same (λ e. cc))) counts))
+
+-- then no lock's removal failed
+pub other_after : (back : GivenBack) (error told : PrepareError) → told ≡ after_giving back error → told ≢ fault.Io → (error ≢ fault.Io) × (back ≢ given.Failed)
+other_after given.Done error told is other = (λ io. other (is ∙ io), λ e. cc)
+other_after given.Failed error told is other = absurd (other is)
+other_after given.Memory error told is other = (λ io. other (is ∙ ap (λ e. unless_failed e fault.Memory) io), λ e. cc)
+
+pub quiet_other : (error : PrepareError) → IsQuiet error → error ≢ fault.Io
+quiet_other error quiet is = subst IsQuiet is quiet
 
 -- those of packed records
-locks_count : (a b : ℕ) (error : LockError) → (IsShort error → b ≡ a) → Counts a b (of_locking error)
-locks_count a b (BufferOpen opening.Memory) memory = memory tt
-locks_count a b (BufferOpen opening.Io) memory = tt
-locks_count a b (BufferOpen opening.HeaderParsing) memory = tt
-locks_count a b (BufferOpen (opening.Iter number)) memory = tt
-locks_count a b (TransactionLock locking.Memory) memory = memory tt
-locks_count a b (TransactionLock locking.Held) memory = tt
-locks_count a b (TransactionLock locking.Failed) memory = tt
+locks_count : (a b : ℕ) (error : LockError) → Counts a b (of_locking error)
+locks_count a b (BufferOpen opening.Memory) = tt
+locks_count a b (BufferOpen opening.Io) = tt
+locks_count a b (BufferOpen opening.HeaderParsing) = tt
+locks_count a b (BufferOpen (opening.Iter number)) = tt
+locks_count a b (TransactionLock locking.Memory) = tt
+locks_count a b (TransactionLock locking.Held) = tt
+locks_count a b (TransactionLock locking.Failed) = tt
 
-pub records_count : (a b : ℕ) (error : RepackError) → (WantsMemory error → b ≡ a) → (IsEarly error → b ≡ a) → Counts a b (of_repacking error)
-records_count a b (repack.PackedTransactionAcquire e) memory early = locks_count a b e memory
-records_count a b (repack.PackedTransactionPrepare writing.Memory) memory early = memory tt
-records_count a b (repack.PackedTransactionPrepare writing.CloseLock) memory early = tt
-records_count a b (repack.Resolve e) memory early = early tt
-records_count a b repack.Memory memory early = early tt
+pub records_count : (a b : ℕ) (error : RepackError) → Counts a b (of_repacking error)
+records_count a b (repack.PackedTransactionAcquire e) = locks_count a b e
+records_count a b (repack.PackedTransactionPrepare writing.Memory) = tt
+records_count a b (repack.PackedTransactionPrepare writing.CloseLock) = tt
+records_count a b (repack.Resolve e) = tt
+records_count a b repack.Memory = tt
+
+locks_quiet : (Same : Type 0) (error : LockError) → (IsShort error → Same) → IsQuiet (of_locking error) → Same
+locks_quiet Same (BufferOpen opening.Memory) memory quiet = memory tt
+locks_quiet Same (BufferOpen opening.Io) memory quiet = absurd quiet
+locks_quiet Same (BufferOpen opening.HeaderParsing) memory quiet = absurd quiet
+locks_quiet Same (BufferOpen (opening.Iter number)) memory quiet = absurd quiet
+locks_quiet Same (TransactionLock locking.Memory) memory quiet = memory tt
+locks_quiet Same (TransactionLock locking.Held) memory quiet = absurd quiet
+locks_quiet Same (TransactionLock locking.Failed) memory quiet = absurd quiet
+
+pub records_quiet : (Same : Type 0) (error : RepackError) → (WantsMemory error → Same) → (IsEarly error → Same) → IsQuiet (of_repacking error) → Same
+records_quiet Same (repack.PackedTransactionAcquire e) memory early quiet = locks_quiet Same e memory quiet
+records_quiet Same (repack.PackedTransactionPrepare writing.Memory) memory early quiet = memory tt
+records_quiet Same (repack.PackedTransactionPrepare writing.CloseLock) memory early quiet = absurd quiet
+records_quiet Same (repack.Resolve e) memory early quiet = early tt
+records_quiet Same repack.Memory memory early quiet = early tt
 
 -- ---- after locks were given back
 unless_cases : (error other : PrepareError) → (unless_failed error other ≡ fault.Io) ⊎ (unless_failed error other ≡ other)
@@ -171,7 +177,7 @@ pub take_edit : (l : Logging) (stands : Bool) (may : Type 0) (edit : RefEdit) (e
 take_edit l stands may edit fault.LockAcquire h = tt
 take_edit l stands may edit fault.Io h = tt
 take_edit l stands may edit fault.Memory h = tt
-take_edit l stands may edit (fault.ReferenceDecode find.ReadFileContents) h = (tt, h)
+take_edit l stands may edit (fault.ReferenceDecode find.ReadFileContents) h = h
 take_edit l stands may edit (fault.ReferenceDecode (find.ReferenceCreation e)) h = absurd h
 take_edit l stands may edit (fault.ReferenceDecode (find.PackedOpen e)) h = absurd h
 take_edit l stands may edit (fault.ReferenceDecode find.Memory) h = absurd h
@@ -299,7 +305,7 @@ test_edit l stands may edit fault.Memory h = tt
 
 read_edit : (l : Logging) (stands : Bool) (may : Type 0) (edit : RefEdit) (error : PrepareError) → ReadFault may error → EditFault l stands may edit error
 read_edit l stands may edit fault.Memory h = tt
-read_edit l stands may edit (fault.ReferenceDecode find.ReadFileContents) h = (tt, h)
+read_edit l stands may edit (fault.ReferenceDecode find.ReadFileContents) h = h
 read_edit l stands may edit (fault.ReferenceDecode (find.ReferenceCreation e)) h = absurd h
 read_edit l stands may edit (fault.ReferenceDecode (find.PackedOpen e)) h = absurd h
 read_edit l stands may edit (fault.ReferenceDecode find.Memory) h = absurd h
@@ -339,10 +345,10 @@ fill_edit l stands may edit error (inl is) = subst (EditFault l stands may edit)
 fill_edit l stands may edit error (inr is) = subst (EditFault l stands may edit) (sym is) tt
 
 pub test_counts : (n : ℕ) (may : Type 0) (edit : RefEdit) (state : RefState) (error : PrepareError) → TestFault may edit state error → Counts n n error
-test_counts n may edit state error h = counts_same n error (λ is. subst (TestFault may edit state) is h)
+test_counts n may edit state error h = counts_other n n error (λ is. subst (TestFault may edit state) is h)
 
 pub line_counts : (n : ℕ) (l : Logging) (stands : Bool) (may : Type 0) (edit : RefEdit) (error : PrepareError) → LineFault l stands may edit.name edit.change error → Counts n n error
-line_counts n l stands may edit error h = counts_same n error (λ is. neither (subst (LineFault l stands may edit.name edit.change) is h))
+line_counts n l stands may edit error h = counts_other n n error (λ is. neither (subst (LineFault l stands may edit.name edit.change) is h))
   where
     neither : LineFault l stands may edit.name edit.change fault.Io → ⊥
     neither (inl h) = h

@@ -21,17 +21,17 @@ use Rattle.gix_ref_transaction.proofs.Counting.{or_after}
 module _ (l : Logging) (b : Base) (tree : Tree) (may : Type 0) (edits : List RefEdit) where
   by_locks : (error : LockError) → LockFault l b tree may edits (of_locking error)
   by_locks (BufferOpen opening.Memory) = tt
-  by_locks (BufferOpen opening.Io) = tt
-  by_locks (BufferOpen opening.HeaderParsing) = tt
-  by_locks (BufferOpen (opening.Iter number)) = tt
+  by_locks (BufferOpen opening.Io) = λ short. short
+  by_locks (BufferOpen opening.HeaderParsing) = λ short. short
+  by_locks (BufferOpen (opening.Iter number)) = λ short. short
   by_locks (TransactionLock locking.Memory) = tt
-  by_locks (TransactionLock locking.Held) = tt
-  by_locks (TransactionLock locking.Failed) = tt
+  by_locks (TransactionLock locking.Held) = λ short. short
+  by_locks (TransactionLock locking.Failed) = λ short. short
 
   pub by_records : (error : RepackError) → LockFault l b tree may edits (of_repacking error)
   by_records (repack.PackedTransactionAcquire e) = by_locks e
   by_records (repack.PackedTransactionPrepare writing.Memory) = tt
-  by_records (repack.PackedTransactionPrepare writing.CloseLock) = tt
+  by_records (repack.PackedTransactionPrepare writing.CloseLock) = λ short. short
   by_records (repack.Resolve e) = tt
   by_records repack.Memory = tt
 

@@ -25,7 +25,7 @@ use Rattle.gix_ref_transaction.specs.Paths.{edit_paths}
 use Rattle.gix_ref_transaction.specs.Plans.{AreSplit}
 use Rattle.gix_ref_transaction.specs.declared.error.PrepareError.{PrepareError}
 use Rattle.gix_ref_transaction.specs.declared.error.PrepareError.TheVariants as fault
-use Rattle.gix_ref_transaction.proofs.Counting.{counts_same}
+use Rattle.gix_ref_transaction.proofs.Counting.{counts_other}
 
 -- ---- packed records aren't opened
 pub open_fault : (b : Base) (tree : Tree) (may : Type 0) (e : OpenError) → FileFault b.kind (packed_text_in b tree) e → (e ≡ opening.Io → may) → OpenFault b tree may (of_opening e)
@@ -35,10 +35,10 @@ open_fault b tree may opening.HeaderParsing why reading = (why, reading)
 open_fault b tree may (opening.Iter number) why reading = (why, reading)
 
 pub open_counts : (n : ℕ) (e : OpenError) → Counts n n (of_opening e)
-open_counts n opening.Memory = refl
-open_counts n opening.Io = refl
-open_counts n opening.HeaderParsing = refl
-open_counts n (opening.Iter number) = refl
+open_counts n opening.Memory = tt
+open_counts n opening.Io = tt
+open_counts n opening.HeaderParsing = tt
+open_counts n (opening.Iter number) = tt
 
 pub open_no_records : (e : OpenError) → IsOfRecords (of_opening e) → ⊥
 open_no_records opening.Memory of = of
@@ -62,7 +62,7 @@ module _ (read : Bytes → RefState) (b : Base) (composes : Bool) (tree : Tree) 
   splitting_fault Honest honest edits (Twice (twice.Name name)) (split, two) = (edits, (λ _. split honest, two))
 
   pub ready_counts : (n : ℕ) (error : PrepareError) → ReadyFault read b composes tree may asked error → Counts n n error
-  ready_counts n error why = counts_same n error (λ is. subst (ReadyFault read b composes tree may asked) is why)
+  ready_counts n error why = counts_other n n error (λ is. subst (ReadyFault read b composes tree may asked) is why)
 
   pub ready_no_records : (error : PrepareError) → ReadyFault read b composes tree may asked error → IsOfRecords error → ⊥
   ready_no_records (fault.Packed e) why of = of

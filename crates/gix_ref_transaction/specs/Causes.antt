@@ -17,17 +17,22 @@ use Rattle.gix_ref_edit.specs.declared.change.Change.TheVariants.{Update, Delete
 use Rattle.gix_ref_edit.specs.declared.change.PreviousValue.{PreviousValue}
 use Rattle.gix_ref_edit.specs.declared.change.PreviousValue.TheVariants as asks
 use Rattle.gix_ref_edit.specs.declared.change.RefEdit.{RefEdit}
+use Rattle.gix_ref_edit.specs.declared.ext.PreProcessError.{PreProcessError}
+use Rattle.gix_ref_edit.specs.declared.ext.PreProcessError.TheVariants.{Split, Twice}
 use Rattle.gix_ref_edit.specs.declared.log.LogChange.{LogChange}
+use Rattle.gix_ref_edit.specs.declared.names.TwiceError.TheVariants as twice
+use Rattle.gix_ref_edit.specs.declared.splits.SplitError.TheVariants as splitting
 use Rattle.gix_ref_format.specs.PackedBuffer.{FileFault}
+use Rattle.gix_ref_lock.specs.PackedErrors.{IsShort, IsUnprepared}
 use Rattle.gix_ref_log.specs.declared.line.Line.{Line}
 use Rattle.gix_ref_format.specs.declared.packed.buffer.Error.TheVariants as opening
 use Rattle.gix_ref_moves.specs.declared.act.LogError.{LogError}
 use Rattle.gix_ref_moves.specs.declared.act.LogError.TheVariants.{CreateLeadingDirectories, Append, MessageWithNewlines, MissingCommitter, Unspellable}
-use Rattle.gix_ref_store.specs.Finds as finds
 use Rattle.gix_ref_store.specs.Finds.{TellsState}
 use Rattle.gix_ref_store.specs.Places.{Base}
-use Rattle.gix_ref_store.specs.RefStates.{RefState, packed_text_in}
+use Rattle.gix_ref_store.specs.RefStates.{RefState, Faulty, InFile, packed_text_in}
 use Rattle.gix_ref_store.specs.declared.reference.Reference.{Reference}
+use Rattle.gix_ref_store.specs.declared.store.file.find.Error.{Error as FindError}
 use Rattle.gix_ref_store.specs.declared.store.file.find.Error.TheVariants as find
 use Rattle.gix_ref_store.specs.declared.store.file.find.ExistingError.TheVariants as existing
 use Rattle.gix_ref_store.specs.declared.store.file.follow.Error.{Error as FollowError}
@@ -138,14 +143,20 @@ end_fault (follow.Follow (existing.Find find.ReadFileContents)) =
 end_fault (follow.Follow (existing.Find find.Memory)) = Some Memory
 end_fault follow.Memory = Some Memory
 
+-- a reference that reads so can't be read
+abbrev pub DecodeFault : Type 0 → RefState → FindError → Type 0
+DecodeFault may_fail state (find.ReferenceCreation error) = state ≡ Faulty (InFile error)
+DecodeFault may_fail state find.ReadFileContents = may_fail
+DecodeFault may_fail state (find.PackedOpen error) = ⊥
+DecodeFault may_fail state find.Memory = ⊥
+
 -- a reference can't be read, or isn't as its edit expects
 abbrev pub TestFault : Type 0 → RefEdit → RefState → PrepareError → Type 0
 TestFault may_fail edit state (Refused why) =
     (found : Option Reference) × TellsState edit.name state (Ok found)
     × (¬ MeetsOf edit.change (option_map points_of found))
     × (why ≡ refused edit.change (option_map points_of found))
-TestFault may_fail edit state (ReferenceDecode error) =
-    TellsState edit.name state (Err error) × finds.MayTell may_fail error
+TestFault may_fail edit state (ReferenceDecode error) = DecodeFault may_fail state error
 TestFault may_fail edit state Memory = Unit {0}
 TestFault may_fail edit state _ = ⊥
 
@@ -170,13 +181,20 @@ SomeEditFault l b tree may_fail edits error =
 
 -- ---- all edits
 
+-- those of symbolic references aren't split, or two are of one name
+abbrev pub SplittingFault : (Bytes → RefState) → Type 0 → List RefEdit → PreProcessError → Type 0
+SplittingFault read may_fail asked (Split splitting.Memory) = ⊥
+SplittingFault read may_fail asked (Twice twice.Memory) = ⊥
+SplittingFault read may_fail asked error =
+    (edits : List RefEdit)
+    × PreFault (Unit {0}) may_fail (λ name. points_at (read name)) asked edits error
+
 -- they aren't made ready: those of symbolic references aren't split, two are of one name or path, a
 -- name isn't composed, or a path is none
 abbrev pub ReadyFault : (Bytes → RefState) → Base → Bool → Tree → Type 0 → List RefEdit → PrepareError
     → Type 0
 ReadyFault read b composes tree may_fail asked (PreprocessingFailed error) =
-    (edits : List RefEdit)
-    × PreFault (Unit {0}) may_fail (λ name. points_at (read name)) asked edits error
+    SplittingFault read may_fail asked error
 ReadyFault read b composes tree may_fail asked SamePlace =
     (edits : List RefEdit) × AreSplit read asked edits × (has_twice (edit_paths b edits) ≡ true)
 ReadyFault read b composes tree may_fail asked Uncomposed =
@@ -196,8 +214,8 @@ NotAllowed b composes edits _ = ⊥
 
 -- they aren't locked: packed records aren't, an edit is refused, or a lock can't be made
 abbrev pub LockFault : Logging → Base → Tree → Type 0 → List RefEdit → PrepareError → Type 0
-LockFault l b tree may_fail edits (PackedTransactionAcquire error) = Unit {0}
-LockFault l b tree may_fail edits (PackedTransactionPrepare error) = Unit {0}
+LockFault l b tree may_fail edits (PackedTransactionAcquire error) = ¬ IsShort error
+LockFault l b tree may_fail edits (PackedTransactionPrepare error) = ¬ IsUnprepared error
 LockFault l b tree may_fail edits (Resolve error) = Unit {0}
 LockFault l b tree may_fail edits (Refused why) =
     SomeEditFault l b tree may_fail edits (Refused why)
@@ -212,6 +230,7 @@ LockFault l b tree may_fail edits _ = ⊥
 
 -- packed references can't be opened
 abbrev pub OpenFault : Base → Tree → Type 0 → PrepareError → Type 0
+OpenFault b tree may_fail (Packed opening.Memory) = ⊥
 OpenFault b tree may_fail (Packed error) =
     FileFault b.kind (packed_text_in b tree) error × (error ≡ opening.Io → may_fail)
 OpenFault b tree may_fail Memory = Unit {0}

@@ -91,12 +91,17 @@ MayBeLeft _ = ⊥
 
 -- ---- what they count
 
--- a change of the files failed, which was counted; or, if it isn't of packed records, none was
+-- a change of the files failed, which was counted
 abbrev pub Counts : ℕ → ℕ → PrepareError → Type 0
 Counts before now Io = HasRisen before now
-Counts before now (PackedTransactionAcquire error) = Unit {0}
-Counts before now (PackedTransactionPrepare error) = Unit {0}
-Counts before now _ = now ≡ before
+Counts before now _ = Unit {0}
+
+-- no change of the files failed, as for want of memory; those of packed records may be for one
+abbrev pub IsQuiet : PrepareError → Type 0
+IsQuiet Io = ⊥
+IsQuiet (PackedTransactionAcquire error) = ⊥
+IsQuiet (PackedTransactionPrepare error) = ⊥
+IsQuiet _ = Unit {0}
 
 -- it isn't one of packed records
 abbrev pub IsOfEdit : PrepareError → Type 0

@@ -1,6 +1,6 @@
 //! What becomes of one reference: its lock is made, what it is is tested, and its new text is written into the lock.
 
-ghost use Rattle.std.specs.Prelude.{◌≡◌, ◌≤◌, ◌⊎◌, ℕ, [], ◌∷◌, false, None, Some, Ok, IfErr, IfOk, IsErrOf, IsTrue, OnOk};
+ghost use Rattle.std.specs.Prelude.{◌≡◌, ◌≢◌, ◌≤◌, ◌⊎◌, ℕ, [], ◌∷◌, false, None, Some, Ok, IfErr, IfOk, IsErrOf, IsTrue, OnOk};
 ghost use Rattle.gix_object_lines.specs.NameTest.{is_full_name};
 ghost use Rattle.gix_ref_file.specs.Calls.{Passes};
 ghost use Rattle.gix_ref_file.specs.Changes.{is_file_at, may_hold_file};
@@ -15,7 +15,7 @@ ghost use Rattle.gix_ref_way.specs.Ways.{file_at, FoldersOnlyOf, HasWay, SameFil
 ghost use Rattle.gix_ref_moves.specs.Contents.{lock_path_of, place_of};
 ghost use Rattle.gix_ref_moves.specs.Moments.{SameButLocks};
 ghost use Rattle.gix_ref_transaction.specs.Causes.{EditFault, TestFault};
-ghost use Rattle.gix_ref_transaction.specs.Errors.{Counts, IsAfter, IsOfEdit, MayBeLeft, TakeFault, after_giving};
+ghost use Rattle.gix_ref_transaction.specs.Errors.{Counts, IsAfter, MayBeLeft, TakeFault, after_giving};
 ghost use Rattle.gix_ref_transaction.specs.Errors as errors;
 ghost use Rattle.gix_ref_transaction.specs.Locking.{ArePaths, IsLockable};
 ghost use Rattle.gix_ref_transaction.specs.LogLines.{IsLineOf, has_log, line_in, logging};
@@ -78,6 +78,8 @@ pub(crate) fn plan<F: Files, O>(
         → ¬ IsLockable (F.history store.old.files).tree (place (base_of store.old) edit.now.name) }
     ensures counted { F.is_honest store.old.files
         → IfErr result (Counts (F.failures store.old.files) (F.failures store.new.files)) }
+    ensures memory { IfErr result (λ error. error ≢ Io
+        → F.failures store.new.files ≡ F.failures store.old.files) }
     ensures later { F.failures store.old.files ≤ F.failures store.new.files }
     ensures unfailed { IfOk result (λ _. F.failures store.new.files ≡ F.failures store.old.files) }
     ensures rolled_back { F.is_honest store.old.files → IfErr result (λ error.
@@ -118,8 +120,10 @@ fn unplanned<F: Files>(
     ensures told { IsAfter error result }
     ensures counted { (before : ℕ) → F.is_honest files.old → before ≤ F.failures files.old
         → IsTrue (is_file_at (F.history files.old).tree lock.now.path.items)
-        → IsOfEdit error → Counts before (F.failures files.old) error
+        → Counts before (F.failures files.old) error
         → Counts before (F.failures files.new) result }
+    ensures memory { result ≢ Io
+        → (error ≢ Io) × (F.failures files.new ≡ F.failures files.old) }
     ensures rolled_back { F.is_honest files.old
         → (is_file_at (F.history files.new).tree lock.now.path.items ≡ false) ⊎ MayBeLeft result }
 {
@@ -164,6 +168,8 @@ fn take<F: Files>(alloc: Global, files: &mut F, place: &[u8]) -> Result<Lock, Pr
     ensures unfailed { IfOk result (λ _. F.failures files.new ≡ F.failures files.old) }
     ensures counted { F.is_honest files.old
         → IfErr result (Counts (F.failures files.old) (F.failures files.new)) }
+    ensures memory { IfErr result (λ error. error ≢ Io
+        → F.failures files.new ≡ F.failures files.old) }
     ensures rolled_back { F.is_honest files.old → IfErr result (λ error. IsRolledBack
         (F.failures files.old) (F.failures files.new) (F.history files.old).tree
         (F.history files.new).tree error) }
@@ -196,6 +202,8 @@ fn clear<F: Files>(alloc: Global, files: &mut F, place: &[u8]) -> Result<(), Pre
     ensures unfailed { OnOk result (F.failures files.new ≡ F.failures files.old) }
     ensures counted { F.is_honest files.old
         → IfErr result (Counts (F.failures files.old) (F.failures files.new)) }
+    ensures memory { IfErr result (λ error. error ≢ Io
+        → F.failures files.new ≡ F.failures files.old) }
     ensures room { F.is_honest files.old → OnOk result
         (IsTrue (may_hold_file (F.history files.new).tree place.now)) }
     ensures refused { F.is_honest files.old → IsErrOf result LockAcquire
@@ -239,6 +247,8 @@ fn act_of<F: Files, O>(
     ensures counted { F.is_honest store.old.files
         → IsTrue (is_file_at (F.history store.old.files).tree lock.now.path.items)
         → IfErr result (Counts (F.failures store.old.files) (F.failures store.new.files)) }
+    ensures memory { IfErr result (λ error. error ≢ Io
+        → F.failures store.new.files ≡ F.failures store.old.files) }
     ensures line { F.is_honest store.old.files → let tree = (F.history store.old.files).tree in
         let l = logging store.old.options (reads_with store.old tree packed.entry) committer.entry in
         let name = edit.now.name in IfOk result (λ act.
@@ -308,6 +318,8 @@ fn update_by<F: Files>(
     ensures counted { F.is_honest files.old
         → IsTrue (is_file_at (F.history files.old).tree lock.now.path.items)
         → IfErr result (Counts (F.failures files.old) (F.failures files.new)) }
+    ensures memory { IfErr result (λ error. error ≢ Io
+        → F.failures files.new ≡ F.failures files.old) }
     ensures failed { IfErr result (λ error. (error ≡ Io) ⊎ (error ≡ Memory)) }
 {
     match log {
@@ -363,6 +375,8 @@ fn fill<F: Files>(
     ensures counted { F.is_honest files.old
         → IsTrue (is_file_at (F.history files.old).tree lock.now.path.items)
         → IfErr result (Counts (F.failures files.old) (F.failures files.new)) }
+    ensures memory { IfErr result (λ error. error ≢ Io
+        → F.failures files.new ≡ F.failures files.old) }
     ensures failed { IfErr result (λ error. (error ≡ Io) ⊎ (error ≡ Memory)) }
 {
     let mut text = Vec::new(alloc);

@@ -26,7 +26,7 @@ ghost use Rattle.gix_ref_repacking.specs.Repacking.{AreRepacked};
 ghost use Rattle.gix_ref_repacking.specs.Resolving.{PackFault, SomeChangeFault};
 ghost use Rattle.gix_ref_transaction.specs.Alike.{ReadsAlike};
 ghost use Rattle.gix_ref_transaction.specs.Causes.{GivenFault, IfUnresolved, LockFault, NotAllowed, PrepareFault, ReadyFault, SomeEditFault, Unresolved};
-ghost use Rattle.gix_ref_transaction.specs.Errors.{Counts, IsAfter, IsOfEdit, IsOfRecords, MayBeLeft};
+ghost use Rattle.gix_ref_transaction.specs.Errors.{Counts, IsAfter, IsOfRecords, IsQuiet, MayBeLeft};
 ghost use Rattle.gix_ref_transaction.specs.Locking.{AreHeld, AreRecordsLockable, HaveRoom, IsLockable, RecordsHeld, are_known};
 ghost use Rattle.gix_ref_transaction.specs.LogLines.{AllLined, logging};
 ghost use Rattle.gix_ref_transaction.specs.Paths.{edit_paths, has_twice, name_paths, places_of};
@@ -34,7 +34,7 @@ ghost use Rattle.gix_ref_transaction.specs.Plans.{AllHold, AllPlanned, AllTested
 ghost use Rattle.gix_ref_transaction.specs.Reads.{AllGiveKind, AllReadBack, IsAsPrepared, prepared_of, ReadsEdited, ReadsOnWay};
 ghost use Rattle.gix_ref_transaction.specs.Rollback.{AllGone, FailsForMemory, FailsStaying, IsRolledBack, MoreFilesAt, PackedGone, SameFilesBut, all_locks, of_giving, packed_locks};
 ghost use Rattle.gix_ref_transaction.specs.Rollback as rolls;
-ghost use Rattle.gix_ref_transaction.specs.declared.error.PrepareError.TheVariants.{LockAcquire};
+ghost use Rattle.gix_ref_transaction.specs.declared.error.PrepareError.TheVariants.{Io, LockAcquire};
 
 use crate::error::PrepareError;
 use crate::finder::Names;
@@ -138,9 +138,11 @@ pub fn prepare<F: Files, O: FindInto>(
         (F.history store.new.files).tree (prepared_of t.edits.items t.moves.items t.packed)) }
     ensures later { F.failures store.old.files ≤ F.failures store.new.files }
     ensures unfailed { IfOk result (λ _. F.failures store.new.files ≡ F.failures store.old.files) }
-    // Errors for which no change failed count nothing.
+    // `Io` counts a failure, and errors for which no change failed count none.
     ensures counted { F.is_honest store.old.files
         → IfErr result (Counts (F.failures store.old.files) (F.failures store.new.files)) }
+    ensures memory { IfErr result (λ error. IsQuiet error
+        → F.failures store.new.files ≡ F.failures store.old.files) }
     // Packed records aren't locked only if they can't be, or if a call of the files failed.
     ensures records { F.is_honest store.old.files
         → AreRecordsLockable (base_of store.old) (F.history store.old.files).tree
@@ -235,9 +237,11 @@ pub fn prepare_with<F: Files, O: FindInto>(
         (F.history store.new.files).tree (prepared_of t.edits.items t.moves.items t.packed)) }
     ensures later { F.failures store.old.files ≤ F.failures store.new.files }
     ensures unfailed { IfOk result (λ _. F.failures store.new.files ≡ F.failures store.old.files) }
-    // Errors for which no change failed count nothing.
+    // `Io` counts a failure, and errors for which no change failed count none.
     ensures counted { F.is_honest store.old.files
         → IfErr result (Counts (F.failures store.old.files) (F.failures store.new.files)) }
+    ensures memory { IfErr result (λ error. IsQuiet error
+        → F.failures store.new.files ≡ F.failures store.old.files) }
     // Packed records aren't locked only if they can't be, or if a call of the files failed.
     ensures records { F.is_honest store.old.files
         → AreRecordsLockable (base_of store.old) (F.history store.old.files).tree
@@ -325,6 +329,8 @@ fn locked<F: Files, O: FindInto>(
     ensures unfailed { IfOk result (λ _. F.failures store.new.files ≡ F.failures store.old.files) }
     ensures counted { F.is_honest store.old.files
         → IfErr result (Counts (F.failures store.old.files) (F.failures store.new.files)) }
+    ensures memory { IfErr result (λ error. IsQuiet error
+        → F.failures store.new.files ≡ F.failures store.old.files) }
     ensures records { F.is_honest store.old.files
         → AreRecordsLockable (base_of store.old) (F.history store.old.files).tree
         → IfErr result (λ error. IsOfRecords error
@@ -404,6 +410,8 @@ fn plan_all<F: Files, O>(
     ensures unfailed { IfOk result (λ _. F.failures store.new.files ≡ F.failures store.old.files) }
     ensures counted { F.is_honest store.old.files
         → IfErr result (Counts (F.failures store.old.files) (F.failures store.new.files)) }
+    ensures memory { IfErr result (λ error. error ≢ Io
+        → F.failures store.new.files ≡ F.failures store.old.files) }
     ensures rolled_back { F.is_honest store.old.files
         → let old = (F.history store.old.files).tree in
         let new = (F.history store.new.files).tree in
@@ -493,8 +501,10 @@ fn drop_all<F: Files>(
     ensures told { IsAfter error result }
     ensures counted { (before : ℕ) → F.is_honest files.old → before ≤ F.failures files.old
         → AreHeld packed moves.now (F.history files.old).tree → Once (all_locks packed moves.now)
-        → IsOfEdit error → Counts before (F.failures files.old) error
+        → Counts before (F.failures files.old) error
         → Counts before (F.failures files.new) result }
+    ensures memory { result ≢ Io
+        → (error ≢ Io) × (F.failures files.new ≡ F.failures files.old) }
     ensures rolled_back { F.is_honest files.old → AllGone moves.now packed (F.history files.old).tree
         (F.history files.new).tree ⊎ MayBeLeft result }
 {

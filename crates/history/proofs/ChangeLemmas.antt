@@ -1,9 +1,10 @@
 -- A command that changes files is acted on by its two halves.
-use Rattle.std.proofs.Common.{◌≡◌, ℕ, [], ◌∷◌, ◌++◌, refl, sym, ◌∙◌, ap, subst, codes}
+use Rattle.std.proofs.Common.{◌≡◌, ℕ, [], ◌∷◌, ◌++◌, refl, sym, ◌∙◌, subst, codes}
 use Rattle.std.specs.Prelude.{IfOk, Result, Ok, Err, Vec}
 use Rattle.std.specs.declared.alloc.Global.{Global}
 use Rattle.std.proofs.lemmas.List.{append-nil}
 use Rattle.gix_hash_id.specs.Id.{Id, id_of}
+use Rattle.gix_hash_id.specs.declared.object_id.ObjectId.{ObjectId}
 use Rattle.gix_ref_file.specs.Tree.{Tree}
 use Rattle.history_model.specs.Bytes.{Bytes}
 use Rattle.history_model.specs.Commands.{Command, Commit, Delete, Move, Pack, Rename, Switch, Tag}
@@ -15,18 +16,18 @@ use Rattle.history_model.specs.declared.Fault.{Fault}
 use Rattle.history_model.specs.declared.Fault.TheVariants.{Memory, File, IdTaken}
 use Rattle.history_layout.specs.OneNameSteps.{commit_move, tag_move}
 use Rattle.history_layout.specs.PackSteps.{PacksNames}
+use Rattle.history_names.specs.declared.packs.PackedName.{PackedName}
 use Rattle.history_repository.specs.declared.stopped.Stopped.{Stopped}
 use Rattle.history.specs.Acts.{Acts}
 use Rattle.history.specs.Moving.{LeavesMoved}
 use Rattle.history.specs.NameFiles.{ChangesHeadAlone, ChangesNameAlone, LeavesFiles, LeavesAsAsked, RenamesAlone, TakesNameAlone}
-use Rattle.history.specs.Replies.{TellsDone, done_word}
-use Rattle.history.specs.Storing.{AreMovesOf, StoresObjects}
+use Rattle.history.specs.Replies.{TellsDone}
+use Rattle.history.specs.Storing.{AreMovesOf, IsDone, StoresObjects}
 use Rattle.history.specs.declared.moves.Moves.{Moves}
-use Rattle.history.proofs.Commits.{moved_to}
 use Rattle.history.proofs.PackedRuns.{stopped_packs}
+use Rattle.history.specs.declared.moves.Done.TheVariants as done
 use Rattle.history.specs.declared.moves.Moves.TheVariants as move
 use Rattle.history_model.specs.Repository as plain
-use Rattle.history_plans.specs.declared.planning.Moves as planned
 use Rattle.history_repository.specs.declared.stopped.Stopped.TheVariants as why
 
 -- ---- its reply
@@ -45,27 +46,33 @@ if_ok (Ok value) so h = so value h
 if_ok (Err error) so h = tt
 
 -- each is the reply to its command
-pub commit_told : (r : plain.Repository) (order : Command) (one : planned.Moves) (word text : Bytes) → AreMovesOf r order (move.Commit one) → word ≡ codes "commit" → text ≡ parts_text (Line (codes "ok" ∷ word ∷ hex (id_of one.entry.after) ∷ []) ∷ []) → TellsDone r order text
-commit_told r (Commit c) one word text are is_word is =
-    (Committed (commit_move r c).id, refl, is ∙ (λ i. parts_text (Line (codes "ok" ∷ is_word i ∷ hex (moved_to r (commit_move r c) one are.told i) ∷ []) ∷ [])))
-commit_told r order one word text are is_word is = absurd are.told
+pub commit_told : (r : plain.Repository) (order : Command) (id : ObjectId) (text : Bytes) → IsDone r order (done.Commit id) → text ≡ parts_text (Line (codes "ok" ∷ codes "commit" ∷ hex (id_of id) ∷ []) ∷ []) → TellsDone r order text
+commit_told r (Commit c) id text is said = (Committed (commit_move r c).id, refl, said ∙ (λ i. parts_text (Line (codes "ok" ∷ codes "commit" ∷ hex (is i) ∷ []) ∷ [])))
+commit_told r order id text is said = absurd is
 
-pub tag_told : (r : plain.Repository) (order : Command) (one : planned.Moves) (word text : Bytes) → AreMovesOf r order (move.Tag one) → word ≡ codes "tag" → text ≡ parts_text (Line (codes "ok" ∷ word ∷ hex (id_of one.entry.after) ∷ []) ∷ []) → TellsDone r order text
-tag_told r (Tag c) one word text are is_word is =
-    (Tagged (tag_move r c).id, refl, is ∙ (λ i. parts_text (Line (codes "ok" ∷ is_word i ∷ hex (moved_to r (tag_move r c) one are.told i) ∷ []) ∷ [])))
-tag_told r order one word text are is_word is = absurd are.told
+pub tag_told : (r : plain.Repository) (order : Command) (id : ObjectId) (text : Bytes) → IsDone r order (done.Tag id) → text ≡ parts_text (Line (codes "ok" ∷ codes "tag" ∷ hex (id_of id) ∷ []) ∷ []) → TellsDone r order text
+tag_told r (Tag c) id text is said = (Tagged (tag_move r c).id, refl, said ∙ (λ i. parts_text (Line (codes "ok" ∷ codes "tag" ∷ hex (is i) ∷ []) ∷ [])))
+tag_told r order id text is said = absurd is
 
--- neither a commit's nor a tag's
-pub names_told : (r : plain.Repository) (order : Command) (moves : Moves) (word text : Bytes) → ((one : planned.Moves) → moves ≡ move.Commit one → ⊥) → ((one : planned.Moves) → moves ≡ move.Tag one → ⊥)
-    → AreMovesOf r order moves → word ≡ done_word moves → text ≡ parts_text (Line (codes "ok" ∷ word ∷ []) ∷ []) → TellsDone r order text
-names_told r (Commit c) (move.Commit one) word text not_commit not_tag are is_word is = absurd (not_commit one refl)
-names_told r (Tag c) (move.Tag one) word text not_commit not_tag are is_word is = absurd (not_tag one refl)
-names_told r (Move c) (move.Together each) word text not_commit not_tag are is_word is = (Moved, refl, is ∙ ap (λ w. parts_text (Line (codes "ok" ∷ w ∷ []) ∷ [])) is_word)
-names_told r (Rename from to) (move.Rename new old) word text not_commit not_tag are is_word is = (Renamed, refl, is ∙ ap (λ w. parts_text (Line (codes "ok" ∷ w ∷ []) ∷ [])) is_word)
-names_told r (Delete name at) (move.Delete old) word text not_commit not_tag are is_word is = (Deleted, refl, is ∙ ap (λ w. parts_text (Line (codes "ok" ∷ w ∷ []) ∷ [])) is_word)
-names_told r (Switch name) (move.Switch branch) word text not_commit not_tag are is_word is = (Switched, refl, is ∙ ap (λ w. parts_text (Line (codes "ok" ∷ w ∷ []) ∷ [])) is_word)
-names_told r Pack (move.Pack names) word text not_commit not_tag are is_word is = (Packed, refl, is ∙ ap (λ w. parts_text (Line (codes "ok" ∷ w ∷ []) ∷ [])) is_word)
-names_told r order moves word text not_commit not_tag are is_word is = absurd are.told
+pub move_told : (r : plain.Repository) (order : Command) (text : Bytes) → IsDone r order done.Move → text ≡ parts_text (Line (codes "ok" ∷ codes "move" ∷ []) ∷ []) → TellsDone r order text
+move_told r (Move c) text is said = (Moved, refl, said)
+move_told r order text is said = absurd is
+
+pub rename_told : (r : plain.Repository) (order : Command) (text : Bytes) → IsDone r order done.Rename → text ≡ parts_text (Line (codes "ok" ∷ codes "rename" ∷ []) ∷ []) → TellsDone r order text
+rename_told r (Rename from to) text is said = (Renamed, refl, said)
+rename_told r order text is said = absurd is
+
+pub delete_told : (r : plain.Repository) (order : Command) (text : Bytes) → IsDone r order done.Delete → text ≡ parts_text (Line (codes "ok" ∷ codes "delete" ∷ []) ∷ []) → TellsDone r order text
+delete_told r (Delete name at) text is said = (Deleted, refl, said)
+delete_told r order text is said = absurd is
+
+pub switch_told : (r : plain.Repository) (order : Command) (branch : Vec ℕ Global) (text : Bytes) → AreMovesOf r order (move.Switch branch) → text ≡ parts_text (Line (codes "ok" ∷ codes "switch" ∷ []) ∷ []) → TellsDone r order text
+switch_told r (Switch name) branch text are said = (Switched, refl, said)
+switch_told r order branch text are said = absurd are.told
+
+pub pack_told : (r : plain.Repository) (order : Command) (names : Vec PackedName Global) (text : Bytes) → AreMovesOf r order (move.Pack names) → text ≡ parts_text (Line (codes "ok" ∷ codes "pack" ∷ []) ∷ []) → TellsDone r order text
+pack_told r Pack names text are said = (Packed, refl, said)
+pack_told r order names text are said = absurd are.told
 
 -- ---- what it leaves
 

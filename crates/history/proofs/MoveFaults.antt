@@ -13,15 +13,6 @@ pub met_fault : (C M : Type 0) (error : FileError) (fault : Fault) → fault ≡
 met_fault C M files.Failed fault is failed = subst (λ f. LeavesMoved C M (Err f)) (sym is) (failed refl)
 met_fault C M files.Memory fault is failed = subst (λ f. LeavesMoved C M (Err f)) (sym is) tt
 
--- if one of several moves stops, so do all
-pub stopped_too : (C D M N : Type 0) (result ends : Result (Unit {0}) Fault) (fault : Fault) → result ≡ Err fault → ends ≡ Err fault → (C → D) → LeavesMoved C M result → LeavesMoved D N ends
-stopped_too C D M N result ends fault was is_end keep h = subst (LeavesMoved D N) (sym is_end) (by_case fault (subst (LeavesMoved C M) was h))
-  where
-    by_case : (fault : Fault) → LeavesMoved C M (Err fault) → LeavesMoved D N (Err fault)
-    by_case Memory k = tt
-    by_case File k = keep k
-    by_case IdTaken k = absurd k
-
 -- what follows if all have moved
 pub leaves_so : (C D M N X : Type 0) (result : Result (Unit {0}) Fault) → (C → D) → OnOk result X → (M → X → N) → LeavesMoved C M result → LeavesMoved D N result
 leaves_so C D M N X (Ok done) keep x so m = so m x

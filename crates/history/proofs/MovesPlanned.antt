@@ -7,6 +7,7 @@ use Rattle.history_model.specs.Causes.{first_cause}
 use Rattle.history_model.specs.Commands.{Command, Move, MoveCommand, Pack, Rename}
 use Rattle.history_model.specs.declared.Cause.{Cause}
 use Rattle.history_model.specs.declared.Fault.TheVariants.{Memory, File, IdTaken}
+use Rattle.history_names.specs.declared.changing.MovedName.{MovedName}
 use Rattle.history_names.specs.declared.packs.PackedName.{PackedName}
 use Rattle.history_repository.specs.Reads.{GivesMeant}
 use Rattle.history_repository.specs.declared.stopped.Stopped.{Stopped}
@@ -17,19 +18,18 @@ use Rattle.history_plans.specs.Renaming.{PlansRename}
 use Rattle.history.specs.Storing.{GivesMoves, StoresObjects}
 use Rattle.history.specs.declared.moves.Moves.{Moves}
 use Rattle.history_model.specs.Repository as plain
-use Rattle.history_plans.specs.declared.planning.Moves as planned
 
 module _ (MayFail : Type 0) (r : plain.Repository) where
   -- if nothing is planned, there are no moves, for the cause that the plan reports
   module _ (ends : Result Moves Stopped) (stopped : Stopped) (is_end : ends ≡ Err stopped) where
-    pub moves_unplanned : (order : MoveCommand) (result : Result (Vec planned.Moves Global) Stopped) → result ≡ Err stopped → PlansMoves MayFail r order result → GivesMoves MayFail r (Move order) ends
+    pub moves_unplanned : (order : MoveCommand) (result : Result (Vec MovedName Global) Stopped) → result ≡ Err stopped → PlansMoves MayFail r order result → GivesMoves MayFail r (Move order) ends
     moves_unplanned order result was h = subst (GivesMoves MayFail r (Move order)) (sym is_end) (by_case stopped (subst (PlansMoves MayFail r order) was h))
       where
         by_case : (stopped : Stopped) → PlansMoves MayFail r order (Err stopped) → GivesMoves MayFail r (Move order) (Err stopped)
         by_case (Refused cause) k = k
         by_case (Fault fault) k = k
 
-    pub rename_unplanned : (from to : Bytes) (result : Result planned.Moves Stopped) → result ≡ Err stopped → PlansRename MayFail r from to result → GivesMoves MayFail r (Rename from to) ends
+    pub rename_unplanned : (from to : Bytes) (result : Result MovedName Stopped) → result ≡ Err stopped → PlansRename MayFail r from to result → GivesMoves MayFail r (Rename from to) ends
     rename_unplanned from to result was h = subst (GivesMoves MayFail r (Rename from to)) (sym is_end) (by_case stopped (subst (PlansRename MayFail r from to) was h))
       where
         by_case : (stopped : Stopped) → PlansRename MayFail r from to (Err stopped) → GivesMoves MayFail r (Rename from to) (Err stopped)
@@ -49,6 +49,10 @@ module _ (MayFail : Type 0) (r : plain.Repository) where
         by_case : (stopped : Stopped) → GivesMeant MayFail IsMeant (Err stopped) → GivesMoves MayFail r Pack (Err stopped)
         by_case (Refused cause) k = absurd k
         by_case (Fault fault) k = k
+
+  -- or no memory is left
+  pub no_memory : (order : Command) (ends : Result Moves Stopped) → ends ≡ Err (Fault Memory) → GivesMoves MayFail r order ends
+  no_memory order ends is_end = subst (GivesMoves MayFail r order) (sym is_end) tt
 
   -- or for the cause that holds
   pub refused_so : (order : Command) (cause : Cause) (ends : Result Moves Stopped) → ends ≡ Err (Refused cause) → first_cause r order ≡ Some cause → GivesMoves MayFail r order ends

@@ -1,5 +1,5 @@
 -- Commands that change names alone: what they leave.
-use Rattle.std.proofs.Common.{◌≡◌, true, false, List, refl, sym, ◌∙◌, ap, subst, Option}
+use Rattle.std.proofs.Common.{◌≡◌, true, false, List, sym, ◌∙◌, ap, subst, Option}
 use Rattle.std.specs.FinMap.{contains_key}
 use Rattle.gix_ref_file.specs.History.{History}
 use Rattle.history_model.specs.Commands.{Command}
@@ -11,15 +11,13 @@ use Rattle.history_model.specs.Stops.{is_changing}
 use Rattle.history_model.specs.StandsFor.{StandsFor}
 use Rattle.history_model.specs.Wholeness.{IsSound}
 use Rattle.history_model.proofs.WholeSteps.{steps_keep_sound}
-use Rattle.history_layout.specs.TreeHalves.{HoldsValues}
-use Rattle.history_layout.proofs.TreePuts.{halves_stand}
 use Rattle.history_objects.specs.Face.{ids_of_objects}
 use Rattle.history_names.specs.Packing.{KeepsRecords}
 use Rattle.gix_traverse_commit_known.specs.Told.{rows_of}
 use Rattle.gix_traverse_graph.specs.declared.rows.Row.{Row}
 use Rattle.history_repository.specs.Face.{names_part, rows_in, KeepsAllButNames}
 use Rattle.history_repository.specs.KeptRows.{AgreeRows}
-use Rattle.history_plans.specs.Halves.{NamesStand, names_tree, objects_tree}
+use Rattle.history_plans.specs.Halves.{names_tree}
 use Rattle.history_repository.specs.Stands.{Stands, pair_of}
 use Rattle.history_repository.specs.declared.repository.Repository.{Repository}
 use Rattle.history_model.specs.Repository as plain
@@ -42,9 +40,6 @@ module _ {F : Type 0} (IsHonest : F → Type 0) (history : F → History) (old n
   sound_after : IsSound (after r order)
   sound_after = steps_keep_sound r (after r order) order reply c.steps sound
 
-  values_old : HoldsValues r.kind (objects_tree history old) r.objects
-  values_old = ((halves_stand r.kind (pair_of history old) r).0 h.whole.stands).1
-
   -- the repository represents what the new names represent
   pub names_serve : IsHonest (names_part new) → StandsFor r.kind (pair_of history new) (after r order) → KeepsRecords new.names (names_tree history new) → new.names.kind ≡ old.names.kind → Stands IsHonest history new (after r order)
   names_serve honest stands records kind = record {
@@ -58,11 +53,3 @@ module _ {F : Type 0} (IsHonest : F → Type 0) (history : F → History) (old n
     records = records;
     known = λ id. ap (λ objects. contains_key (ids_of_objects objects) id) kept.objects ∙ h.known id ∙ ap (λ (values : plain.Values). contains_key values id) (sym c.values);
   }
-
-  values_new : HoldsValues r.kind (objects_tree history new) (after r order).objects
-  values_new = subst (λ (values : plain.Values). HoldsValues r.kind (objects_tree history new) values) (sym c.values)
-      (subst (λ objects. HoldsValues r.kind (history objects.files).tree r.objects) (sym kept.objects) values_old)
-
-  -- so does one whose names are those after the command
-  pub stand_serves : NamesStand IsHonest history new (after r order) → new.names.kind ≡ old.names.kind → Stands IsHonest history new (after r order)
-  stand_serves stand kind = names_serve stand.honest ((halves_stand r.kind (pair_of history new) (after r order)).1 (refl, values_new, stand.holds)) stand.records kind

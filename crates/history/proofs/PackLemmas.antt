@@ -1,10 +1,12 @@
 -- A `pack` on its way, and what it leaves.
 use Rattle.std.proofs.Common.{◌≡◌, refl, sym, subst, None}
+use Rattle.gix_ref_file.specs.Tree.{Tree}
 use Rattle.gix_ref_file.specs.History.{History, Adds}
 use Rattle.gix_ref_file.proofs.Histories.{adds_weaker}
 use Rattle.history_model.specs.Causes.{first_cause}
 use Rattle.history_model.specs.Commands.{Pack}
 use Rattle.history_model.specs.Meaning.{after}
+use Rattle.history_model.specs.Places.{packed_place}
 use Rattle.history_model.specs.Replies.{Packed}
 use Rattle.history_model.specs.StandsFor.{StandsFor}
 use Rattle.history_model.specs.Steps.{Accepts}
@@ -13,6 +15,8 @@ use Rattle.history_layout.specs.Passing.{HoldsBetween}
 use Rattle.history_layout.specs.TreeHalves.{HoldsNames}
 use Rattle.history_layout.proofs.Packs.{packs_pass, packs_stand}
 use Rattle.history_layout.proofs.TreePuts.{halves_stand}
+use Rattle.history_names.specs.Packing.{HasPackedRoom}
+use Rattle.history_names.specs.References.{lock_place}
 use Rattle.history_repository.specs.Face.{KeepsAllButNames, names_part}
 use Rattle.history_plans.specs.Halves.{names_tree}
 use Rattle.history_repository.specs.Stands.{Stands, pair_of}
@@ -28,6 +32,13 @@ accepted r = record { no_cause = no_cause r; not_taken = refl; answer = refl; re
 
 pub names_only : (r : plain.Repository) → ChangesNames r Pack Packed
 names_only r = record { changes = refl; spoken = refl; free = refl; values = refl; branch = refl; accepts = accepted r; steps = accepted r }
+
+-- `packed-refs` has room
+pub packed_room : (r : plain.Repository) (tree : Tree) → HoldsNames tree r → HasPackedRoom tree
+packed_room r tree holds = record {
+  place = λ stood. absurd (cc (holds.folders packed_place stood));
+  lock = λ stood. absurd (cc (holds.folders (lock_place packed_place) stood));
+}
 
 module _ {F : Type 0} (IsHonest : F → Type 0) (history : F → History) (old : own.Repository F) (r : plain.Repository) (h : Stands IsHonest history old r) where
   pub holds_names : HoldsNames (names_tree history old) r

@@ -1,14 +1,21 @@
 -- How the names of a command move, once its objects are stored.
-use Rattle.std.specs.Prelude.{◌≡◌, ⊤, List, None, Result, Ok, Err}
+use Rattle.std.specs.Prelude.{◌≡◌, ⊤, ℕ, List, Option, None, Result, Ok, Err, map, option_map}
+use Rattle.std.specs.Borrow.{Bor}
 use Rattle.gix_ref_file.specs.History.{History}
+use Rattle.history_model.specs.Bytes.{Bytes}
 use Rattle.history_model.specs.Causes.{first_cause}
-use Rattle.history_model.specs.Commands.{Move, MoveCommand}
+use Rattle.history_model.specs.Commands.{Command}
+use Rattle.history_model.specs.Meaning.{after}
+use Rattle.history_model.specs.Wholeness.{IsSound}
 use Rattle.history_model.specs.declared.Fault.{Fault}
 use Rattle.history_model.specs.declared.Fault.TheVariants.{Memory, File, IdTaken}
-use Rattle.history_repository.specs.Stands.{Stands}
-use Rattle.history_plans.specs.declared.planning.Moves.{Moves}
+use Rattle.history_layout.specs.EditFits.{CanBeEdited}
+use Rattle.history_layout.specs.EditSteps.{AreEditsOf}
+use Rattle.history_names.specs.Changing.{HaveOneActor, moved_in}
+use Rattle.history_names.specs.declared.changing.MovedName.{MovedName}
 use Rattle.history_repository.specs.declared.repository.Repository.{Repository}
-use Rattle.history_plans.specs.Moving.{AreMoves}
+use Rattle.history.specs.Storing.{HasStored}
+use Rattle.history_layout.specs.EditSteps as edits
 use Rattle.history_model.specs.Repository as plain
 
 -- Names move, and what is kept in memory of names; the objects, the rows and whether a command has
@@ -25,10 +32,21 @@ LeavesMoved CallFailed Moved (Err Memory) = ⊤
 LeavesMoved CallFailed Moved (Err File) = CallFailed
 LeavesMoved CallFailed Moved (Err IdTaken) = ⊥
 
--- A repository's names are to move so: no cause holds of the command, and these are its moves.
-pub record AskedMoves {F : Type 0} (IsHonest : F → Type 0) (history : F → History)
-    (repository : Repository F) (moves : List Moves)
-    (r : plain.Repository) (order : MoveCommand) : Type 0 where
-  pub serves : Stands IsHonest history repository r
-  pub none : first_cause r (Move order) ≡ None
-  pub moves_are : AreMoves r order order.to moves
+-- the names that move, and the one that is removed, as steps have them
+abbrev pub edits_of : List MovedName → List edits.MovedName
+edits_of moved = map moved_in moved
+
+abbrev pub gone_of : Option (Bor (List ℕ)) → Option Bytes
+gone_of taken = option_map (λ name. name.now) taken
+
+-- The objects of the command are stored, no cause holds of it, and it moves these names, by one
+-- actor, and removes that one, which can be done in one transaction.
+pub record AskedEdits {F : Type 0} (IsHonest : F → Type 0) (history : F → History)
+    (repository : Repository F) (r : plain.Repository) (order : Command)
+    (moved : List MovedName) (taken : Option (Bor (List ℕ))) : Type 0 where
+  pub stored : HasStored IsHonest history repository r order
+  pub none : first_cause r order ≡ None
+  pub sound : IsSound (after r order)
+  pub are : AreEditsOf r order (edits_of moved) (gone_of taken)
+  pub fit : CanBeEdited r (edits_of moved) (gone_of taken)
+  pub one_actor : HaveOneActor (edits_of moved)

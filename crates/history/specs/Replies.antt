@@ -1,12 +1,10 @@
 -- What replies say.
-use Rattle.std.specs.Prelude.{◌≡◌, Bool, true, false, [], IsTrue, codes}
+use Rattle.std.specs.Prelude.{◌≡◌, Bool, true, false, IsTrue}
 use Rattle.history_model.specs.Bytes.{Bytes}
 use Rattle.history_model.specs.Answers.{Answers}
 use Rattle.history_model.specs.Commands.{Command}
 use Rattle.history_model.specs.Replies.{reply_text, RefusedFor, Faulted}
 use Rattle.history_model.specs.Repository.{Repository}
-use Rattle.history.specs.declared.moves.Moves.{Moves}
-use Rattle.history.specs.declared.moves.Moves.TheVariants as move
 use Rattle.history.specs.declared.reply.Reply.{Reply}
 use Rattle.history.specs.declared.reply.Reply.TheVariants.{Text, Refused, Fault}
 use Rattle.history_model.specs.Replies as replies
@@ -36,17 +34,6 @@ is_fault (Refused cause) = false
 is_fault (Fault fault) = true
 
 -- ---- commands that change files
-
--- the word that says that these moves were made
-abbrev pub done_word : Moves → Bytes
-done_word (move.Commit one) = codes "commit"
-done_word (move.Tag one) = codes "tag"
-done_word (move.Together each) = codes "move"
-done_word (move.Rename made gone) = codes "rename"
-done_word (move.Delete name) = codes "delete"
-done_word (move.Switch branch) = codes "switch"
-done_word (move.Pack names) = codes "pack"
-done_word move.Nothing = []
 
 -- the bytes are the reply to the command, if it is done
 abbrev pub TellsDone : Repository → Command → Bytes → Type 0

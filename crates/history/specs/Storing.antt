@@ -1,11 +1,16 @@
 -- What storing a command's objects leaves, and what is then to be done to names.
-use Rattle.std.specs.Prelude.{◌≡◌, ⊤, Bool, true, false, Some, None, Result, Ok, Err, IsTrue, IsFalse}
+use Rattle.std.specs.Prelude.{◌≡◌, ⊤, ℕ, Bool, true, false, List, [], ◌∷◌, Vec, Option, Some, None, Result, Ok, Err, IsTrue, IsFalse, map, option_map}
+use Rattle.std.specs.declared.alloc.Global.{Global}
+use Rattle.gix_hash_id.specs.Id.{id_of}
 use Rattle.gix_ref_file.specs.History.{History}
+use Rattle.history_model.specs.Bytes.{Bytes}
 use Rattle.history_model.specs.Causes.{first_cause}
 use Rattle.history_model.specs.Meaning.{after, takes_id}
 use Rattle.history_model.specs.Steps.{MayTake}
 use Rattle.history_model.specs.Stops.{is_changing}
 use Rattle.history_model.specs.declared.Fault.TheVariants.{Memory, File, IdTaken}
+use Rattle.history_layout.specs.CommandEdits.{moved_by, moved_on}
+use Rattle.history_layout.specs.EditSteps.{renamed}
 use Rattle.history_layout.specs.OneNameSteps.{commit_move, tag_move}
 use Rattle.history_layout.specs.TreeHalves.{HoldsValues}
 use Rattle.history_objects.specs.Face.{kind_of_objects}
@@ -18,12 +23,14 @@ use Rattle.history_repository.specs.declared.repository.Repository.{Repository}
 use Rattle.history_repository.specs.declared.stopped.Stopped.{Stopped}
 use Rattle.history_repository.specs.declared.stopped.Stopped.TheVariants.{Refused, Fault}
 use Rattle.history_plans.specs.Halves.{KnowsIds, objects_tree}
-use Rattle.history_plans.specs.Moving.{AreMoves}
 use Rattle.history_plans.specs.Packing.{AreAllNames}
-use Rattle.history_plans.specs.Plans.{IsMove}
-use Rattle.history_plans.specs.Renaming.{MakesName}
+use Rattle.history_names.specs.Changing.{moved_in}
+use Rattle.history_names.specs.declared.changing.MovedName.{MovedName}
+use Rattle.history.specs.declared.moves.Done.{Done}
+use Rattle.history.specs.declared.moves.Done.TheVariants as done
 use Rattle.history.specs.declared.moves.Moves.{Moves}
 use Rattle.history.specs.declared.moves.Moves.TheVariants as move
+use Rattle.history_layout.specs.EditSteps as edits
 use Rattle.history_model.specs.Commands as orders
 use Rattle.history_model.specs.Repository as plain
 
@@ -37,14 +44,38 @@ pub record AskedChange {F : Type 0} (IsHonest : F → Type 0) (history : F → H
 
 -- ---- moves
 
+-- the names that a command moves, and the one that it removes
+abbrev pub names_moved : plain.Repository → orders.Command → List edits.MovedName
+names_moved r (orders.Commit c) = moved_by r (commit_move r c) ∷ []
+names_moved r (orders.Tag c) = moved_by r (tag_move r c) ∷ []
+names_moved r (orders.Move c) = map (moved_on r c) c.to
+names_moved r (orders.Rename from to) = renamed r from to ∷ []
+names_moved r order = []
+
+abbrev pub name_taken : orders.Command → Option Bytes
+name_taken (orders.Rename from to) = Some from
+name_taken (orders.Delete name at) = Some name
+name_taken order = None
+
+-- the command is this one, and makes a commit or tag of this id
+abbrev pub IsDone : plain.Repository → orders.Command → Done → Type 0
+IsDone r (orders.Commit c) (done.Commit id) = id_of id ≡ (commit_move r c).id
+IsDone r (orders.Tag c) (done.Tag id) = id_of id ≡ (tag_move r c).id
+IsDone r (orders.Move c) done.Move = ⊤
+IsDone r (orders.Rename from to) done.Rename = ⊤
+IsDone r (orders.Delete name at) done.Delete = ⊤
+IsDone r _ _ = ⊥
+
+-- The command is this one, moves these names and removes that one.
+pub record IsChangeOf (r : plain.Repository) (order : orders.Command) (made : Done)
+    (moved : List MovedName) (taken : Option (Vec ℕ Global)) : Type 0 where
+  pub is : IsDone r order made
+  pub moves : map moved_in moved ≡ names_moved r order
+  pub takes : option_map (λ name. name.items) taken ≡ name_taken order
+
 -- how names are to move
 abbrev pub TellMoves : plain.Repository → orders.Command → Moves → Type 0
-TellMoves r (orders.Commit c) (move.Commit one) = IsMove r (commit_move r c) one
-TellMoves r (orders.Tag c) (move.Tag one) = IsMove r (tag_move r c) one
-TellMoves r (orders.Move c) (move.Together each) = AreMoves r c c.to each.items
-TellMoves r (orders.Rename from to) (move.Rename made gone) =
-    MakesName r from to made × (gone.items ≡ from)
-TellMoves r (orders.Delete name at) (move.Delete gone) = gone.items ≡ name
+TellMoves r order (move.Change made moved taken) = IsChangeOf r order made moved.items taken
 TellMoves r (orders.Switch name) (move.Switch branch) = branch.items ≡ name
 TellMoves r orders.Pack (move.Pack names) = AreAllNames r names.items
 TellMoves r _ _ = ⊥

@@ -13,13 +13,13 @@ ghost use Rattle.history_repository.specs.Stands.{Stands};
 ghost use Rattle.history_plans.specs.Halves.{names_tree};
 ghost use Rattle.history.specs.Moments.{GoesLater, StoodOnTheWay};
 ghost use Rattle.history.specs.NameFiles.{LeavesFiles};
-ghost use Rattle.history.specs.Replies.{TellsDone, done_word};
-ghost use Rattle.history.specs.Storing.{AreMovesOf, AskedChange};
+ghost use Rattle.history.specs.Replies.{TellsDone};
+ghost use Rattle.history.specs.Storing.{AreMovesOf, AskedChange, IsDone};
 ghost use Rattle.history_model.specs.Commands as orders;
 ghost use Rattle.history_model.specs.Repository as plain;
 ghost use Rattle.history_repository.specs.declared.stopped.Stopped.TheVariants as stopped;
 
-use crate::moves::{Moves, move_names, store_objects};
+use crate::moves::{Done, Moves, move_names, store_objects};
 use gix_hash::{Kind, ObjectId};
 use gix_ref_file::Files;
 use history_queries::line;
@@ -27,22 +27,6 @@ use history_repository::{Repository, Stopped};
 use history_store::hex_digits;
 use history_word::Command;
 use std::alloc::{AllocError, Global};
-
-/// Returns the word that says which command is done.
-fn done_word(moves: &Moves) -> &'static [u8]
-    ensures { result.now ≡ done_word moves.now }
-{
-    match moves {
-        Moves::Commit(_) => b"commit",
-        Moves::Tag(_) => b"tag",
-        Moves::Together(_) => b"move",
-        Moves::Rename { .. } => b"rename",
-        Moves::Delete(_) => b"delete",
-        Moves::Switch(_) => b"switch",
-        Moves::Pack(_) => b"pack",
-        Moves::Nothing => b"",
-    }
-}
 
 /// Returns the text that says with this word that a command is done.
 fn word_text(alloc: Global, word: &[u8]) -> Result<Vec<u8>, AllocError>
@@ -68,15 +52,30 @@ fn id_text(alloc: Global, word: &[u8], id: &ObjectId) -> Result<Vec<u8>, AllocEr
     Ok(text)
 }
 
+/// Returns the text of the reply to a command that changed names so.
+fn change_text(alloc: Global, done: &Done) -> Result<Vec<u8>, AllocError>
+    ensures { (r : plain.Repository) (order : orders.Command) → IsDone r order done.now
+        → IfOk result (λ text. TellsDone r order text.items) }
+{
+    match done {
+        Done::Commit(id) => id_text(alloc, b"commit", id),
+        Done::Tag(id) => id_text(alloc, b"tag", id),
+        Done::Move => word_text(alloc, b"move"),
+        Done::Rename => word_text(alloc, b"rename"),
+        Done::Delete => word_text(alloc, b"delete"),
+    }
+}
+
 /// Returns the text of the reply to a command with these moves.
 fn done_text(alloc: Global, moves: &Moves) -> Result<Vec<u8>, AllocError>
     ensures { (r : plain.Repository) (order : orders.Command) → AreMovesOf r order moves.now
         → IfOk result (λ text. TellsDone r order text.items) }
 {
     match moves {
-        Moves::Commit(one) => id_text(alloc, done_word(moves), &one.entry.after),
-        Moves::Tag(one) => id_text(alloc, done_word(moves), &one.entry.after),
-        _ => word_text(alloc, done_word(moves)),
+        Moves::Change { done, .. } => change_text(alloc, done),
+        Moves::Switch(_) => word_text(alloc, b"switch"),
+        Moves::Pack(_) => word_text(alloc, b"pack"),
+        Moves::Nothing => word_text(alloc, b""),
     }
 }
 

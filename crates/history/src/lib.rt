@@ -44,10 +44,11 @@ pub use history_model::{Cause, End, Fault, laws};
 pub use history_recovery::{RecoverError, recover};
 pub use history_repository::{NamedBy, OpenError, OpenRefusal, Stopped};
 pub use history_store::{
-    CreateError, Hit, IdIter, Lookup, Object, Objects, ObjectsRefusal, PutError, create,
+    CreateError, Hit, IdIter, LogEntry, Lookup, MovedName, Object, Objects, ObjectsRefusal,
+    PutError, create,
 };
 pub use history_word::{Broken, Bytes, Collected, Command, Received, Sink, Source, Stream};
-pub use moves::Moves;
+pub use moves::{Done, Moves};
 pub use reply::Reply;
 pub use repository::Repository;
 pub use running::{RunError, run};

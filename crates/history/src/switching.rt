@@ -51,7 +51,8 @@ pub(crate) fn switch_head<F: Files>(
     ensures memory { OnlyFileCounts F.failures repository.old repository.new
         (λ fault. IsErrOf result fault) }
     // Each other file is as it was, except lock files.
-    ensures alone { F.is_honest (names_part repository.old) → OnOk result (ChangesHeadAlone
+    ensures alone { (r : plain.Repository) → Stands F.is_honest F.history repository.old r
+        → first_cause r (orders.Switch name.items) ≡ None → OnOk result (ChangesHeadAlone
         (names_tree F.history repository.old) (names_tree F.history repository.new)) }
     // On the way HEAD, once recovered, names the branch before or after.
     ensures passes { (r : plain.Repository) → Stands F.is_honest F.history repository.old r
@@ -63,7 +64,7 @@ pub(crate) fn switch_head<F: Files>(
         → LeavesMoved (CountsFailure F.failures F.reading_may_fail repository.old repository.new)
         (Stands F.is_honest F.history repository.new (after r (orders.Switch name.items))) result }
 {
-    match repository.names.switch(alloc, &name) {
+    match repository.names.switch(alloc, &repository.branch, &name) {
         Ok(()) => {
             repository.branch = name;
             Ok(())

@@ -14,7 +14,7 @@ ghost use Rattle.history_model.specs.Repository as plain;
 ghost use Rattle.history_repository.specs.declared.stopped.Stopped.TheVariants as stopped;
 
 use crate::commit::put;
-use crate::moves::Moves;
+use crate::moves::{Done, Moves, only};
 use gix_ref_file::Files;
 use history_plans::plan_tag;
 use history_repository::{Repository, Stopped};
@@ -46,6 +46,12 @@ pub(crate) fn store_tag<F: Files>(
         → ObjectsPass F.history r (orders.Tag order) repository.old repository.new }
 {
     let tagged = plan_tag(repository, alloc, command)?;
+    let made = tagged.moves.entry.after;
+    let moved = only(alloc, tagged.moves)?;
     put(repository, alloc, &tagged.object)?;
-    Ok(Moves::Tag(tagged.moves))
+    Ok(Moves::Change {
+        done: Done::Tag(made),
+        moved,
+        taken: None,
+    })
 }

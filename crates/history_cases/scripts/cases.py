@@ -31,12 +31,13 @@ from sizes import histories, lengths, roots, tags as many_tags
 from stops import delete_stops, move_stops, rename_stops, reopened_stops, stops, switch_stops, tag_rename_stops, tag_stops
 from streams import KINDS, ROWS
 from tags import tags
+from transactions import transactions
 
 BY_HAND = (
     rows, first_causes, two_branches, of_names, moves, renames, deletions, switches, tags, renamed_tags, indexes, logs, path_logs, short_ids,
     removals, nested, limits, times, one_time, opening, reopening, reopened_between, readings, readers, faults, index_faults, reading_faults,
     refused_or_failed, log_faults, move_stops, rename_stops, delete_stops, switch_stops, tag_stops, tag_rename_stops, stops, reopened_stops,
-    packs, pack_stops, packed_delete_stops, packed_rename_stops, reopened_packs, grafts, graft_readings, graft_stops, printed, histories, many_tags,
+    packs, pack_stops, packed_delete_stops, packed_rename_stops, reopened_packs, transactions, grafts, graft_readings, graft_stops, printed, histories, many_tags,
     roots, lengths)
 
 

@@ -4,7 +4,7 @@ from case_words import word
 from git_moves import Moved
 from plain import Plain
 from streams import (
-    KINDS, NEW_LINE, ONE, PUT_HELLO, ROWS, SIGNED, each, left, left_logged, left_with, reading, refusals, runs, tag, told)
+    KINDS, NEW_LINE, ONE, PUT_HELLO, ROWS, SIGNED, each, left, left_logged, left_with, reading, refusals, runs, shows_line, tag, told)
 
 
 def graft(path, target, source):
@@ -120,7 +120,7 @@ def graft_stops():
             in_objects = [ends[0] + left(plain, count, False) for count in range(4 if made else 3)]
             in_objects += [ends[1] + left_with(plain, first, count) for count in ((3, 4, 5) if made else (3, 4))]
             in_names = [ends[0] + left(plain, 0, False), ends[0] + left(plain, 3, False), *([ends[0] + left(first)] if made else [])]
-            in_names += [ends[1] + left_with(plain, first, 3), ends[1] + left_with(plain, first, 5), ends[1] + left_logged(plain, first)]
+            in_names += [ends[1] + left_with(plain, first, 3), ends[1] + left_with(plain, first, 5), *([ends[1] + left_logged(plain, first)] if shows_line(kept) else [])]
             in_names += [ends[1] + left(plain)] if made else []
             for part, answers in (("objects", in_objects), ("names", in_names)):
                 each(90, kind, f"create {part}:{how}:#:{kept} open run:{word(stream)} left", [closed, *answers, whole])

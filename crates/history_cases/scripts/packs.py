@@ -3,7 +3,7 @@
 from case_words import word
 from git_moves import Moved
 from plain import Plain, Reader
-from streams import KINDS, PACK, PUT_HELLO, answer, branch, each, left, left_with, move, reopen_between, runs, tag, told
+from streams import KINDS, PACK, PUT_HELLO, answer, branch, each, left, left_with, move, reopen_between, runs, shows_line, tag, told
 
 
 def as_git_packs(kind, made, *commands):
@@ -141,10 +141,11 @@ def packed_delete_stops():
                 states += [ends[2] + left(both), *(ends[2] + left(as_on_the_way(packed, alone)) for alone in ((), (main,)))]
                 states += [ends[2] + left(packed)] if made else []
                 if more:
-                    states += [ends[3] + left_with(before, packed, 4), ends[3] + left_with(before, packed, 5), ends[3] + left(logged)]
+                    states += [ends[3] + left_with(before, packed, 4), ends[3] + left_with(before, packed, 5)]
+                    states += [ends[3] + left(logged)] if shows_line(kept) else []
                     states += [ends[3] + left(before)] if made else []
                 states += [ends[-1] + left(before), ends[-1] + left(unlogged), *([ends[-1] + left(unpacked)] if more else [])]
-                states += [ends[-1] + left(plain)] if made or not more else []
+                states.append(ends[-1] + left(plain))
                 each(200, kind, f"create names:{how}:#:{kept} open run:{word(stream)} left", [closed, *states, whole])
 
 

@@ -5,7 +5,7 @@ from copy import deepcopy
 
 from case_words import word
 from grafts import graft
-from streams import KINDS, PACK, PUT_HELLO, branch, move, tag, told
+from streams import KINDS, PACK, PUT_HELLO, branch, move, shows_line, tag, told
 from plain import Plain
 
 MAIN, X, Y, V, W = b"refs/heads/main", b"refs/heads/x", b"refs/heads/y", b"refs/tags/v", b"refs/tags/w"
@@ -25,12 +25,16 @@ class Way:
         self.before = self.after_(kind, made)
         self.after = self.after_(kind, made + command)
         self.between = [change(deepcopy(self.before), self.after) for change in between]
+        self.lines_alone = [getattr(change, "is_line", False) for change in between]
 
     @staticmethod
     def after_(kind, stream):
         plain = Plain(kind)
         plain.run(stream)
         return plain
+
+    def passed(self, kept):
+        return [it for it, is_line in zip(self.between, self.lines_alone) if shows_line(kept) or not is_line]
 
     def goes_on(self, state):
         """What is reported of a repository, and then of the rounds after."""
@@ -46,6 +50,7 @@ def logged(*names):
     def change(state, after):
         state.logs.update({it: after.logs[it] for it in names})
         return state
+    change.is_line = True
     return change
 
 
@@ -56,6 +61,7 @@ def moved(names, logs=()):
             state.names[it], state.logs[it] = after.names[it], after.logs[it]
             state.packed_alone.discard(it)
         return logged(*logs)(state, after)
+    change.is_line = bool(logs)
     return change
 
 
@@ -96,7 +102,7 @@ def ways(kind):
 
 # Commands that put objects or look up one, and those after whose last change a call still comes that changes no name.
 ASKING = ("commit", "commit-packed", "graft", "graft-packed", "tag", "tag-moved", "move", "move-two", "pack")
-CLEARED = ("rename-packed", "rename-tag", "delete-packed", "pack")
+CLEARED = ("rename", "rename-packed", "rename-tag", "delete", "delete-packed", "pack")
 # Those that are tried with both hash functions.
 OTHER = ("commit", "graft", "tag-moved", "move", "rename-packed", "delete-packed", "pack")
 
@@ -109,7 +115,7 @@ def stops():
             adds = [("stop", line)] if name in ASKING and name != "pack" else []
             for how, kept in cut + adds if kind == "sha1" else cut[:1] if name in OTHER else []:
                 last = [way.after] if kept != "-" or name in CLEARED else []
-                yield row(kind, way, "names", how, kept, [way.before, *way.between, *last])
+                yield row(kind, way, "names", how, kept, [way.before, *way.passed(kept), *last])
                 if name in ASKING and kept in ("-", half, 1000):
                     yield row(kind, way, "objects", how, kept, [way.before])
 

@@ -2,7 +2,7 @@
 
 from case_words import word
 from plain import Plain
-from streams import KINDS, PUT_HELLO, SIGNED, branch, creation, each, known, left, left_logged, left_with, move, tag, told
+from streams import KINDS, PUT_HELLO, SIGNED, branch, creation, each, known, left, left_logged, left_with, move, shows_line, tag, told
 
 
 def tag_stops():
@@ -28,7 +28,7 @@ def tag_stops():
 
 def delete_stops():
     """A run of two commits and a deletion that is stopped at each call, or of which each call fails: a stopped deletion leaves the name
-    as before, or without its log, or gone."""
+    as before, or without its log, or gone. Its lock goes after it."""
     second, deleting = branch(b"refs/heads/x new", 2, b"parent main\n"), b"delete refs/heads/x at x\n"
     fault = b"fault File\n"
     for kind in KINDS:
@@ -43,7 +43,7 @@ def delete_stops():
             made = kept != "-"
             states = [ends[0] + left(plain, 0, False), ends[0] + left(plain, 3, False), *([ends[0] + left(first)] if made else [])]
             states += [ends[1] + left_with(plain, first, 3), ends[1] + left_with(plain, first, 4), *([ends[1] + left(both)] if made else [])]
-            states += [ends[2] + left(both), ends[2] + left(unlogged), *([ends[2] + left(plain)] if made else [])]
+            states += [ends[2] + left(both), ends[2] + left(unlogged), ends[2] + left(plain)]
             each(120, kind, f"create names:{how}:#:{kept} open run:{word(PUT_HELLO + second + deleting)} left", [closed, *states, whole])
 
 
@@ -65,7 +65,7 @@ def rename_stops():
         for how, kept in [*(("stop", kept) for kept in ["-", 0, 3, 20, 50, 1000]), ("fail", "-")]:
             made = kept != "-"
             states = [ends[0] + left(first, 0, False), ends[0] + left(first, 3, False), *([ends[0] + left(first)] if made else [])]
-            states += [ends[1] + left(first), ends[1] + left(both), ends[1] + left(unlogged), *([ends[1] + left(plain)] if made else [])]
+            states += [ends[1] + left(first), ends[1] + left(both), ends[1] + left(unlogged), ends[1] + left(plain)]
             each(80, kind, f"create names:{how}:#:{kept} open run:{word(stream)} left", [closed, *states, whole])
 
 
@@ -88,7 +88,7 @@ def tag_rename_stops():
             made = kept != "-"
             states = [ends[0] + left(plain, 0, False), ends[0] + left(plain, 3, False), *([ends[0] + left(first)] if made else [])]
             states += [ends[1] + left_with(plain, first, 3), ends[1] + left_with(plain, first, 4), *([ends[1] + left(tagged)] if made else [])]
-            states += [ends[2] + left(tagged), ends[2] + left(both), ends[2] + left(unlogged), *([ends[2] + left(plain)] if made else [])]
+            states += [ends[2] + left(tagged), ends[2] + left(both), ends[2] + left(unlogged), ends[2] + left(plain)]
             each(120, kind, f"create names:{how}:#:{kept} open run:{word(stream)} left", [closed, *states, whole])
 
 
@@ -113,7 +113,7 @@ def stops():
             in_objects += [in_second + left_with(plain, first, count) for count in ((3, 4) if made else (3,))]
             in_names = [in_first + left(plain, 0, False), in_first + left(plain, 3, False)]
             in_names += [in_first + left(first)] if made else []
-            in_names += [in_second + left_with(plain, first, 3), in_second + left_with(plain, first, 4), in_second + logged]
+            in_names += [in_second + left_with(plain, first, 3), in_second + left_with(plain, first, 4), *([in_second + logged] if shows_line(kept) else [])]
             in_names += [in_second + left(plain)] if made else []
             for part, answers in (("objects", in_objects), ("names", in_names)):
                 each(80, kind, f"create {part}:stop:#:{kept} open run:{word(stream)} left", [closed, *answers, whole])
@@ -160,7 +160,7 @@ def move_stops():
             made = kept != "-"
             states = [ends[0] + left(plain, 0, False), ends[0] + left(plain, 3, False), *([ends[0] + left(first)] if made else [])]
             states += [ends[1] + left_with(plain, first, 3), ends[1] + left_with(plain, first, 4), *([ends[1] + left(both)] if made else [])]
-            states += [ends[2] + left(both), ends[2] + left(logged), ends[2] + left(one), *([ends[2] + left(plain)] if made else [])]
+            states += [ends[2] + left(both), *([ends[2] + left(logged)] if shows_line(kept) else []), ends[2] + left(one), *([ends[2] + left(plain)] if made else [])]
             each(120, kind, f"create names:{how}:#:{kept} open run:{word(PUT_HELLO + second + moving)} left", [closed, *states, whole])
 
 

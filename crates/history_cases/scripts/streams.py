@@ -137,6 +137,12 @@ def object_file(kind, text):
     return b"objects/" + digits[:2] + b"/" + digits[2:]
 
 
+def shows_line(kept):
+    """Whether a call that keeps so much may leave a log's line without its move: the next call is the rename, which is made or isn't, so only one
+    that keeps nothing, or the whole line, does."""
+    return kept in ("-", 1000)
+
+
 def reopen_between(streams):
     """These streams in a row, each accepted whole, with the folder closed and opened again after each."""
     for kind in KINDS:

@@ -189,7 +189,7 @@ module _ (kind : Kind) (moved : List MovedName) (taken : Option Bytes) (old lock
   packed_was = ready.locks packed_place refl
 
   -- if records aren't locked they are as before
-  unlocked : t ≡ None → file_at tree packed_place ≡ file_at old packed_place
+  pub unlocked : t ≡ None → file_at tree packed_place ≡ file_at old packed_place
   unlocked none =
       let apart = records_apart old locked tree ready.locks (edited_names moved taken) ready.named in
       rest packed_place (subst (λ o. IsNone packed_place (commit_paths o moves)) (sym none) (none_of_moves old locked tree ready.locks packed_place moved taken moves ready.moves_are refl apart.0 apart.1)) ∙ packed_was

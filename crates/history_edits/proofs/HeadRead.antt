@@ -22,7 +22,7 @@ use Rattle.history_model.specs.StandsFor.{head_text}
 use Rattle.history_layout.specs.TreeHalves.{HoldsNames}
 use Rattle.history_edits.specs.Bridges.{root_base}
 use Rattle.history_edits.specs.SwitchPlans.{AsksHead}
-use Rattle.history_names.proofs.NameRead.{full_of}
+use Rattle.history_layout.proofs.FullNames.{full_of}
 
 module _ (r : Repository) (to : Bytes) (tree : Tree) (records : List Record) (edit : RefEdit) (h : HoldsNames tree r) (named : is_name r.branch ≡ true) (asks : AsksHead r.branch to edit) where
   abbrev state : RefState

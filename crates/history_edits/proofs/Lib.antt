@@ -1,3 +1,4 @@
+pub mod NamePaths
 pub mod WholeReads
 pub mod PathsApart
 pub mod LinesTold
@@ -11,3 +12,14 @@ pub mod HeadCommitted
 pub mod HeadPlanned
 pub mod HeadRead
 pub mod NamePlaces
+pub mod NameFolders
+pub mod EditNames
+pub mod EditLocks
+pub mod RecordLocks
+pub mod EditTests
+pub mod EditsOnce
+pub mod EditsExcused
+pub mod EditChanges
+pub mod HeadMoments
+pub mod HeadPrepared
+pub mod RecordsStay

@@ -40,7 +40,7 @@ none_of_paths p (n ∷ names) file lock log =
 
 -- ---- what makes them different
 
-lock_ends : (place : Bytes) → is_lock_file (lock_of place) ≡ true
+pub lock_ends : (place : Bytes) → is_lock_file (lock_of place) ≡ true
 lock_ends place = ends_after place (codes ".lock")
 
 locks_told : (a b : Bytes) → lock_of a ≡ lock_of b → a ≡ b

@@ -1,34 +1,31 @@
 -- Packed records under a deletion are without the name.
-use Rattle.std.proofs.Common.{◌≡◌, unwrap_or, Bool, true, false, cond, not, ◌&&◌, ◌||◌, List, [], ◌∷◌, map, refl, sym, ◌∙◌, ap, subst, Option, Some, None, option_map, is_some, bytes_eq, MatchOption}
+use Rattle.std.proofs.Common.{◌≡◌, unwrap_or, Bool, true, false, cond, ◌||◌, List, [], refl, sym, ◌∙◌, ap, subst, Option, Some, None, option_map, is_some, MatchOption}
 use Rattle.std.specs.Prelude.{option_and_then}
-use Rattle.std.specs.List.{list_any, list_all}
-use Rattle.std.proofs.lemmas.Bool.{and_parts, or_parts}
+use Rattle.std.specs.List.{list_any}
+use Rattle.std.proofs.lemmas.Bool.{or_parts}
 use Rattle.gix_ref_file.specs.Tree.{Tree, bytes_at}
 use Rattle.gix_ref_format.specs.Lookup.{packed_hit, packed_key}
 use Rattle.gix_ref_format.specs.Packed.{Record, packed_records}
 use Rattle.gix_ref_format.specs.PackedBuffer.{KeepsFile, hit}
 use Rattle.gix_ref_format.specs.PackedKept.{kept}
 use Rattle.gix_ref_format.specs.declared.packed.buffer.Buffer.{Buffer}
-use Rattle.gix_ref_packed.specs.Edited.{IsEdited, Line}
+use Rattle.gix_ref_packed.specs.Edited.{IsEdited}
 use Rattle.gix_ref_lock.specs.PackedEdits.{lock_path_of, place_of}
 use Rattle.gix_ref_lock.specs.Records.{records_in, IsTextOf}
 use Rattle.gix_ref_lock.specs.declared.packed.Transaction.{Transaction}
 use Rattle.gix_ref_moves.specs.Committing.{packed_end}
 use Rattle.gix_ref_repacking.specs.Repacking.{HoldsIf, HoldsRecords, changes_record, changes_records}
 use Rattle.gix_ref_store.specs.RefStates.{records_of}
-use Rattle.history_model.specs.Bytes.{Bytes, has_twice}
+use Rattle.history_model.specs.Bytes.{Bytes}
 use Rattle.history_model.specs.Forms.{is_name, is_private}
 use Rattle.history_model.specs.PackedNames.{PackedAgrees, PackedFile, is_packed_form, packed_file, packed_with}
 use Rattle.history_model.specs.Places.{file_at, packed_place}
 use Rattle.history_model.specs.Repository.{Repository}
 use Rattle.history_model.proofs.FormatLemmas.{records_alike}
-use Rattle.history_model.proofs.PlaceLemmas.{one_text}
 use Rattle.history_layout.specs.TakeSteps.{LacksName, LacksRecord}
 use Rattle.history_layout.specs.TreeHalves.{HoldsNames}
-use Rattle.history_layout.proofs.PackedRecords.{found_named, name_in, not_found}
+use Rattle.history_layout.proofs.RecordsEdited.{lacks_written, removal, same_lacks}
 use Rattle.history_edits.specs.Bridges.{root_base, removals, records_end, RecordTaken}
-use Rattle.history_names.specs.Packing.{IsEditedText, IfSomeRecords}
-use Rattle.history_names.proofs.RecordsLeft.{removed_lacks}
 
 clash : {A : Type 0} {b : Bool} → b ≡ true → b ≡ false → A
 clash e f = absurd (go (sym e ∙ f))
@@ -36,52 +33,21 @@ clash e f = absurd (go (sym e ∙ f))
     go : true ≡ false → ⊥
     go e = cc
 
-abbrev removal : Bytes → List Line
-removal name = record { name = name; says = None } ∷ []
-
 none_of : {A : Type 0} (o : Option A) → is_some o ≡ false → o ≡ None
 none_of None e = refl
 none_of (Some x) e = cc
 
--- ---- records that have none of the name are as they are without it. RecordsLeft of history_names
--- has this too, for itself alone
-
-not_true : (b : Bool) → not b ≡ true → b ≡ false
-not_true true e = cc
-not_true false e = refl
-
-none_private : (packed : PackedFile) → is_packed_form packed ≡ true → list_any is_private (map name_in packed.records) ≡ false
-none_private packed formed =
-    let names = map name_in packed.records in
-    let named = not packed.returns && list_all is_name names && not (has_twice bytes_eq names) in
-    not_true _ (and_parts named (not (list_any is_private names)) (and_parts (named && not (list_any is_private names)) _ formed).0).1
-
-none_found : (records : List Record) (name : Bytes) → is_name name ≡ true → list_any is_private (map name_in records) ≡ false → packed_hit records name ≡ None → hit records name ≡ None
-none_found records name named none_is none = by_kind (is_private name) refl (sym (ap (option_and_then (hit records)) (records_alike name named)) ∙ none)
-  where
-    not_there : is_private name ≡ true → (o : Option Record) → hit records name ≡ o → o ≡ None
-    not_there private None e = refl
-    not_there private (Some r) e = clash (ap is_private (found_named records name r e) ∙ private) (not_found is_private records name r none_is e)
-
-    by_kind : (b : Bool) → is_private name ≡ b → option_and_then (hit records) (cond b None (Some name)) ≡ None → hit records name ≡ None
-    by_kind true private e = not_there private (hit records name) refl
-    by_kind false public e = e
-
-same_lacks : (name : Bytes) (packed : PackedFile) → is_packed_form packed ≡ true → hit packed.records name ≡ None → LacksName name packed packed
-same_lacks name packed formed none = record { formed = formed; each = λ other. go other (bytes_eq other name) refl }
-  where
-    go : (other : Bytes) (b : Bool) → bytes_eq other name ≡ b → hit packed.records other ≡ cond b None (hit packed.records other)
-    go other true e = ap (hit packed.records) (one_text other name e) ∙ none
-    go other false e = refl
-
 -- ---- what changes
+
+none_found : (records : List Record) (name : Bytes) → is_name name ≡ true → packed_hit records name ≡ None → is_private name ≡ false → hit records name ≡ None
+none_found records name named none public = sym (ap (option_and_then (hit records)) (records_alike name named ∙ ap (λ b. cond b None (Some name)) public)) ∙ none
 
 -- of private names there is no record
 private_hit : (records : List Record) (name : Bytes) → is_name name ≡ true → is_private name ≡ true → packed_hit records name ≡ None
 private_hit records name named private = ap (option_and_then (hit records)) (records_alike name named ∙ ap (λ b. cond b None (Some name)) private)
 
 -- if nothing changes the name has no record
-unchanged : (records : List Record) (name : Bytes) → is_name name ≡ true → list_any (changes_record records) (removals name) ≡ false → packed_hit records name ≡ None
+pub unchanged : (records : List Record) (name : Bytes) → is_name name ≡ true → list_any (changes_record records) (removals name) ≡ false → packed_hit records name ≡ None
 unchanged records name named none = go (is_private name) refl none
   where
     go : (b : Bool) → is_private name ≡ b → list_any (changes_record records) (cond b [] (removal name)) ≡ false → packed_hit records name ≡ None
@@ -96,7 +62,7 @@ changed records name some = go (is_private name) refl some
     go true private e = cc
     go false public e = public
 
-none_changed : (name : Bytes) → is_name name ≡ true → list_any (changes_record []) (removals name) ≡ true → ⊥
+pub none_changed : (name : Bytes) → is_name name ≡ true → list_any (changes_record []) (removals name) ≡ true → ⊥
 none_changed name named some = go (is_private name) refl some
   where
     no_hit : (o : Option Bytes) → is_some (option_and_then (hit []) o) ≡ false
@@ -124,7 +90,7 @@ module _ (r : Repository) (name : Bytes) (old locked : Tree) (h : HoldsNames old
       go None read unchanged_all formed = absurd formed
       go (Some records) read unchanged_all formed =
           subst (λ o. MatchOption (option_map (packed_with text) o) ⊥ (λ a. MatchOption (option_map (packed_with text) o) ⊥ (LacksName name a))) (sym read)
-          (same_lacks name (packed_with text records) formed (none_found records name named (none_private (packed_with text records) formed) (unchanged records name named unchanged_all)))
+          (same_lacks r.kind name text records formed (none_found records name named (unchanged records name named unchanged_all)))
 
   public : (file : Option Bytes) → file_at old packed_place ≡ file → changes_records (records_of r.kind file) (removals name) ≡ true → (is_private name ≡ false) × (is_some file ≡ true)
   public None at some = absurd (none_changed name named some)
@@ -136,18 +102,14 @@ module _ (r : Repository) (name : Bytes) (old locked : Tree) (h : HoldsNames old
 
   written : (packed : Option Buffer) (text : Bytes) → is_private name ≡ false → is_some (file_at old packed_place) ≡ true → KeepsFile r.kind (file_at old packed_place) (option_map kept packed) → IsTextOf r.kind (records_in packed) (removals name) text
       → LacksRecord r.kind name (file_at old packed_place) (Some text)
-  written packed text is_public there keeps told = removed_lacks r.kind name text (file_at old packed_place) packed keeps (form_of r old h) (go packed (file_at old packed_place) there keeps told)
+  written packed text is_public there keeps told = go packed (file_at old packed_place) refl there keeps told
     where
-      go : (packed : Option Buffer) (file : Option Bytes) → is_some file ≡ true → KeepsFile r.kind file (option_map kept packed) → IsTextOf r.kind (records_in packed) (removals name) text
-          → IfSomeRecords packed (λ records. IsEditedText r.kind records (removal name) text)
-      go None None there keeps told = cc
-      go None (Some found) there keeps told = absurd keeps
-      go (Some buffer) file there keeps told = record {
-        after = told.after;
-        edited = subst (λ b. IsEdited (kept buffer) (cond b [] (removal name)) told.after) is_public told.edited;
-        is = told.is;
-        reads = told.reads;
-      }
+      go : (packed : Option Buffer) (file : Option Bytes) → file_at old packed_place ≡ file → is_some file ≡ true → KeepsFile r.kind file (option_map kept packed) → IsTextOf r.kind (records_in packed) (removals name) text
+          → LacksRecord r.kind name file (Some text)
+      go packed None at there keeps told = cc
+      go None (Some found) at there keeps told = absurd keeps
+      go (Some buffer) (Some found) at there keeps told = lacks_written r.kind name found text (kept buffer) told.after keeps (form_of r old h found at)
+          (subst (λ b. IsEdited (kept buffer) (cond b [] (removal name)) told.after) is_public told.edited) told.is told.reads
 
   taken : (t : Option Transaction) → HoldsIf (root_base r.kind) old locked (removals name) t → LacksRecord r.kind name (file_at old packed_place) (records_end old locked t)
   taken None none = none_hit (file_at old packed_place) refl none

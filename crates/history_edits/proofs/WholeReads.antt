@@ -24,10 +24,11 @@ use Rattle.history_model.proofs.FormatLemmas.{records_alike, loose_reads_alike}
 use Rattle.history_model.proofs.WholePaths.{begins_parts}
 use Rattle.history_layout.specs.Passing.{reads_as}
 use Rattle.history_layout.specs.TreeHalves.{HoldsNames}
+use Rattle.history_layout.proofs.EditedNames.{state_of}
+use Rattle.history_layout.proofs.FullNames.{full_of}
 use Rattle.history_layout.proofs.PackedReads.{reads_held}
 use Rattle.history_layout.proofs.PackedRecords.{packed_read}
 use Rattle.history_edits.specs.Bridges.{root_base, StandsInPlace, NamesStandInPlace, ReadsAs, ReadsWhole}
-use Rattle.history_names.proofs.NameRead.{full_of, state_of}
 
 -- ---- places
 

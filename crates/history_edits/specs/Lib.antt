@@ -1,4 +1,6 @@
 pub mod Bridges
+pub mod EditChanges
 pub mod EditCommits
+pub mod EditFaults
 pub mod EditPlans
 pub mod SwitchPlans

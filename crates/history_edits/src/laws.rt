@@ -1,9 +1,13 @@
 //! What the references of `gix_ref`, and the moments of its transactions, are in the words of a repository.
 
 ghost use Rattle.history_edits.specs.Bridges.{NamesStandInPlace, ReadsWhole, PathsOnce, LineTold, RecordTaken};
+ghost use Rattle.history_edits.specs.EditChanges.{CommittingMakes, CommittingPasses, PreparingPasses};
 ghost use Rattle.history_edits.specs.EditCommits.{ReadyingPasses, CommitPasses, CommitMakes};
+ghost use Rattle.history_edits.specs.EditFaults.{EditsAreExcused, EditsAreLockable, EditsHaveRoom, RecordsAreLockable};
 ghost use Rattle.history_edits.specs.EditPlans.{EditsSay, EditsReady, UnsplitStay};
 ghost use Rattle.history_edits.specs.SwitchPlans.{HeadCommits, HeadIsReady, HeadPrepares, HeadSwitched, HeadSwitches};
+
+use gix_ref_file::Files;
 
 /// A name's files are where a store of the root looks for them.
 pub fn names_stand_in_place()
@@ -58,6 +62,41 @@ pub fn edits_ready()
 /// Edits that don't follow symbolic references aren't split.
 pub fn unsplit_stay()
     ensures { UnsplitStay }
+{}
+
+/// The locks of edits of names that can be edited can be made.
+pub fn edits_are_lockable()
+    ensures { EditsAreLockable }
+{}
+
+/// What is prepared of such edits has room.
+pub fn edits_have_room()
+    ensures { EditsHaveRoom }
+{}
+
+/// Packed records can be locked and read.
+pub fn records_are_lockable()
+    ensures { RecordsAreLockable }
+{}
+
+/// Over the names of a repository, edits that test what these hold aren't refused.
+pub fn edits_are_excused<F: Files>()
+    ensures { EditsAreExcused F.reading_may_fail }
+{}
+
+/// While edits are prepared no name moves, and no folders come but those of names.
+pub fn preparing_passes()
+    ensures { PreparingPasses }
+{}
+
+/// While they are committed the names are on the way, and no folders come but those of names.
+pub fn committing_passes()
+    ensures { CommittingPasses }
+{}
+
+/// After it they are made, and no lock is left.
+pub fn committing_makes()
+    ensures { CommittingMakes }
 {}
 
 /// Once the edit of a switch is prepared, only HEAD is to be replaced.

@@ -76,7 +76,7 @@ tags_edit r c sound none = one_edit r (Tag c) (tag_move r c) sound none (tags_mo
 
 -- ---- a move
 
-names_of_lines : (r : Repository) (c : MoveCommand) (lines : List To) → map moved_name (map (moved_on r c) lines) ≡ map name_of lines
+pub names_of_lines : (r : Repository) (c : MoveCommand) (lines : List To) → map moved_name (map (moved_on r c) lines) ≡ map name_of lines
 names_of_lines r c [] = refl
 names_of_lines r c (to ∷ lines) = ap (λ names. to.name ∷ names) (names_of_lines r c lines)
 

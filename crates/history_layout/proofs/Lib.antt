@@ -2,7 +2,11 @@ pub mod TreePuts
 pub mod TreeTexts
 pub mod TreeMoves
 pub mod PackedReads
+pub mod FullNames
 pub mod PackedRecords
+mod PlainTexts
+pub mod ReadRecords
+pub mod RecordsEdited
 pub mod OneNameStands
 pub mod AnyOrder
 pub mod OfferedFiles
@@ -22,3 +26,4 @@ pub mod EditedNames
 pub mod EditsPassed
 pub mod EditsStood
 pub mod EditsOfCommands
+pub mod EditsAllowed

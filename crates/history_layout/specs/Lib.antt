@@ -10,5 +10,6 @@ pub mod RenameSteps
 pub mod SwitchSteps
 pub mod TakeSteps
 pub mod PackSteps
+pub mod EditFits
 pub mod EditSteps
 pub mod CommandEdits

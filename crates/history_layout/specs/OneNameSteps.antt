@@ -5,15 +5,11 @@ use Rattle.gix_hash_id.specs.Id.{Id}
 use Rattle.history_model.specs.Bytes.{Bytes}
 use Rattle.history_model.specs.Objects.{Actor, StoredCommit, StoredTag, id_of}
 use Rattle.history_model.specs.Repository.{Repository, LogEntry}
-use Rattle.history_model.specs.Forms.{is_id, is_name, title}
+use Rattle.history_model.specs.Forms.{is_id, title}
 use Rattle.history_model.specs.Commands.{Command, Commit, CommitCommand, Tag, TagCommand}
-use Rattle.history_model.specs.Meaning.{branch_after, branch_or_name, names_after, new_commit, new_tag, read_actor, with_name, after}
-use Rattle.history_model.specs.Places.{Pair}
-use Rattle.history_model.specs.StandsFor.{StandsFor}
+use Rattle.history_model.specs.Meaning.{branch_after, branch_or_name, names_after, new_commit, new_tag, read_actor, with_name}
 use Rattle.history_model.specs.Stops.{IsNotLost}
-use Rattle.history_layout.specs.TreeHalves.{HoldsValues}
-use Rattle.history_layout.specs.TreeSteps.{MovesName, move_entry}
-use Rattle.gix_hash_id.specs.declared.kind.Kind.{Kind}
+use Rattle.history_layout.specs.TreeSteps.{move_entry}
 
 -- a name that is to hold an id, and the actor and the message for its log
 pub record NameMove : Type 0 where
@@ -61,12 +57,3 @@ CommitsMoveOneName =
 
 abbrev pub TagsMoveOneName : Type 0
 TagsMoveOneName = (r : Repository) (c : TagCommand) → MovesOneName r (Tag c) (tag_move r c)
-
--- If the objects are those after the command, the pair represents the repository after it.
-abbrev pub OneNameMoves : Type 0
-OneNameMoves =
-    (kind : Kind) (old new : Pair) (r : Repository) (command : Command) (move : NameMove)
-    → MovesOneName r command move → StandsFor kind old r → IsTrue (is_name move.name)
-    → HoldsValues r.kind new.objects (after r command).objects
-    → MovesName move.name (entry_of_move r move) old.names new.names
-    → StandsFor kind new (after r command)

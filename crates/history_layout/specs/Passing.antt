@@ -1,25 +1,23 @@
 -- What the two parts pass through while a command is acted on: each tree, once recovered.
-use Rattle.std.specs.Prelude.{◌≡◌, ◌≢◌, ◌⊎◌, ◌≤◌, ℕ, not, ◌||◌, bytes_eq, List, [], ◌∷◌, ◌++◌, map, take, Option, Some, None, unwrap_or, MatchOption, Contains, IsTrue, IsFalse}
+use Rattle.std.specs.Prelude.{◌≡◌, ◌≢◌, ◌⊎◌, ◌≤◌, not, ◌||◌, bytes_eq, List, [], ◌∷◌, ◌++◌, map, Option, Some, None, unwrap_or, MatchOption, Contains, IsTrue, IsFalse}
 use Rattle.std.specs.List.{flat_map}
 use Rattle.std.specs.FinMap.{get}
-use Rattle.gix_ref_file.specs.Tree.{Tree, folder, bytes_at}
-use Rattle.history_model.specs.Bytes.{Bytes, line}
+use Rattle.gix_ref_file.specs.Tree.{Tree, folder}
+use Rattle.history_model.specs.Bytes.{Bytes}
 use Rattle.history_model.specs.FileMap.{FileMap, folders_of, is_below}
-use Rattle.history_model.specs.Objects.{Value, StoredCommit, StoredFolder, hex, value_text, id_of}
-use Rattle.history_model.specs.Repository.{Repository, LogEntry, IsWholeStore, id_at, moves_at, stands, Values, HaveOwnIds}
+use Rattle.history_model.specs.Objects.{Value, StoredCommit, StoredFolder, value_text, id_of}
+use Rattle.history_model.specs.Repository.{Repository, IsWholeStore, id_at, moves_at, stands, Values, HaveOwnIds}
 use Rattle.gix_hash_id.specs.Id.{Id}
 use Rattle.history_model.specs.NameStates.{NameState, Holds, Absent, is_absent, name_state}
 use Rattle.history_model.specs.PackedNames.{packed_file, PackedAgrees}
-use Rattle.history_model.specs.Forms.{is_name}
 use Rattle.history_model.specs.Commands.{Command, CommitCommand, Commit, Rename, Tag, TagCommand}
 use Rattle.history_model.specs.Meaning.{References, after, edits_of, is_taken, new_commit, put_bytes, some_taken, store_all, stored_by, takes_id}
 use Rattle.history_model.specs.Causes.{first_cause}
-use Rattle.history_model.specs.Logs.{log_line, log_text, whole_lines}
+use Rattle.history_model.specs.Logs.{log_text, whole_lines}
 use Rattle.history_model.specs.Places.{Pair, file_at, head_place, is_log_place, object_place, unfinished_place, is_object_folder, packed_place, log_place, is_name_folder, is_lock_file}
 use Rattle.history_model.specs.StandsFor.{StandsFor, head_text}
 use Rattle.history_layout.specs.TreeHalves.{HoldsValues, HoldsNames}
 use Rattle.history_layout.specs.TreeSteps.{HasText}
-use Rattle.history_layout.specs.OneNameSteps.{NameMove, MovesOneName, entry_of_move}
 use Rattle.history_model.specs.Recovery.{recovered_objects, recovered_names}
 use Rattle.history_model.specs.Stops.{NameBetween, IsNotLost, deletes, is_changing}
 use Rattle.gix_ref_file.specs.History.{History, moment}
@@ -129,35 +127,6 @@ pub record HoldsBetween (old : Repository) (command : Command) (tree : Tree) : T
       → IsTrue (stands (passing old command names branch) b) → IsFalse (is_below a b)
   pub branch_is : (branch ≡ old.branch) ⊎ (branch ≡ (after old command).branch)
   pub not_lost : IsNotLost old command (passing old command names branch)
-
--- The tree while a name moves: its file is as before; or it holds the id after, whole, once its log
--- has the entry's line (unless the entry's two ids are equal). A beginning of the line may follow
--- what the log held. Of the other files only lock files may differ, and there are no folders but
--- those of names and logs.
-pub record MovesOnTheWay (name : Bytes) (entry : LogEntry) (old tree : Tree) : Type 0 where
-  pub here : (file_at tree name ≡ file_at old name)
-      ⊎ ((file_at tree name ≡ Some (line (hex entry.after)))
-      × (entry.before ≢ entry.after
-      → file_at tree (log_place name) ≡ Some (bytes_at old (log_place name) ++ log_line entry)))
-  pub log : (file_at tree (log_place name) ≡ file_at old (log_place name))
-      ⊎ ((entry.before ≢ entry.after)
-      × ((n : ℕ)
-      × (file_at tree (log_place name)
-      ≡ Some (bytes_at old (log_place name) ++ take n (log_line entry)))))
-  pub others : (path : Bytes) → path ≢ name → path ≢ log_place name → IsFalse (is_lock_file path)
-      → file_at tree path ≡ file_at old path
-  pub folders : (path : Bytes) → get tree path ≡ Some folder → IsTrue (is_name_folder path)
-
--- So the name of a command that moves one is as before or moved, and its log has each move that was
--- made.
-abbrev pub FilesPass : Type 0
-FilesPass =
-    (pair : Pair) (tree : Tree) (r : Repository) (command : Command) (move : NameMove)
-    → MovesOneName r command move → IsSound r
-    → StandsFor r.kind pair r → IsTrue (is_name move.name)
-    → first_cause r command ≡ None → IsFalse (takes_id r command)
-    → MovesOnTheWay move.name (entry_of_move r move) pair.names tree
-    → HoldsBetween r command tree
 
 -- A stop while names move, once all values are stored.
 abbrev pub MovingStops : Type 0

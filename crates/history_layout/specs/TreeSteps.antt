@@ -7,11 +7,10 @@ use Rattle.history_model.specs.Objects.{Actor, Value, StoredFolder, hex, value_t
 use Rattle.gix_hash_id.specs.Order.{id_eq}
 use Rattle.gix_hash_id.specs.Id.{Id, null_id}
 use Rattle.history_model.specs.Repository.{Repository, LogEntry, IsWholeStore, id_at, Values, HaveOwnIds}
-use Rattle.history_model.specs.Forms.{is_id, is_name}
-use Rattle.history_model.specs.Meaning.{store_one, store_all, some_taken, is_taken, is_other, with_name}
+use Rattle.history_model.specs.Meaning.{store_one, store_all, some_taken, is_taken, is_other}
 use Rattle.history_model.specs.Places.{file_at, object_place, unfinished_place, is_object_folder, log_place, is_name_folder}
 use Rattle.history_model.specs.Logs.{log_line}
-use Rattle.history_layout.specs.TreeHalves.{HoldsValues, HoldsNames}
+use Rattle.history_layout.specs.TreeHalves.{HoldsValues}
 use Rattle.gix_hash_id.specs.declared.kind.Kind.{Kind}
 
 -- ---- values
@@ -141,11 +140,3 @@ pub record MovesName (name : Bytes) (entry : LogEntry) (old new : Tree) : Type 0
   pub others : (path : Bytes) → path ≢ name → path ≢ log_place name
       → file_at new path ≡ file_at old path
   pub folders : (path : Bytes) → get new path ≡ Some folder → IsTrue (is_name_folder path)
-
--- A move of a name's files moves the name, even if it has a record: its own file takes precedence.
-abbrev pub FilesMoveNames : Type 0
-FilesMoveNames =
-    (old new : Tree) (r : Repository) (name : Bytes) (id : Id) (actor : Actor) (message : Bytes)
-    → IsTrue (is_name name) → IsTrue (is_id r.kind id) → HoldsNames old r
-    → MovesName name (move_entry r name id actor message) old new
-    → HoldsNames new (record r { names = with_name r name id actor message r.names })

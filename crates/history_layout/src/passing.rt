@@ -1,13 +1,11 @@
 //! Laws on what the two parts pass through while a command is acted on, over the definitions alone.
 
-ghost use Rattle.history_layout.specs.Passing.{PutsPass, CommitsStoreWhole, TagsStoreWhole, StoringStops, FilesPass, MovingStops, ActsLater, ActsThen, SomeStops, FirstAreSome, NamesPass, NamesBegin};
-ghost use Rattle.history_layout.specs.MoveSteps.{NextLinesFit, NextLinesMove, NextLinesPass};
-ghost use Rattle.history_layout.specs.RenameSteps.{RenamesFit, RenamesBring, BringingPasses, RenamesEnd, TakingPasses};
-ghost use Rattle.history_layout.specs.TakeSteps.{TakingsStand, TakingsPass};
+ghost use Rattle.history_layout.specs.Passing.{PutsPass, CommitsStoreWhole, TagsStoreWhole, StoringStops, MovingStops, ActsLater, ActsThen, SomeStops, FirstAreSome, NamesPass, NamesBegin};
 ghost use Rattle.history_layout.specs.PackSteps.{PacksReadAlike, PacksPass, PacksStand};
 ghost use Rattle.history_layout.specs.SwitchSteps.{SwitchesStand, SwitchesPass};
 ghost use Rattle.history_layout.specs.EditSteps.{EditsPass, EditsStand};
 ghost use Rattle.history_layout.specs.CommandEdits.{CommitsEdit, TagsEdit, MovesEdit, RenamesEdit, DeletesEdit};
+ghost use Rattle.history_layout.specs.EditFits.{CommitsCanBeEdited, TagsCanBeEdited, MovesCanBeEdited, RenamesCanBeEdited, DeletesCanBeEdited};
 
 /// While a value is put that takes no id, the tree, once recovered, holds the values of before, and
 /// the new value whole or not at all.
@@ -69,11 +67,6 @@ pub fn names_begin()
     ensures { NamesBegin }
 {}
 
-/// If no cause holds of a rename, the new name may exist beside the others.
-pub fn renames_fit()
-    ensures { RenamesFit }
-{}
-
 /// If only HEAD was written anew, the tree holds the names and the branch after a switch.
 pub fn switches_stand()
     ensures { SwitchesStand }
@@ -83,60 +76,6 @@ pub fn switches_stand()
 /// is as before.
 pub fn switches_pass()
     ensures { SwitchesPass }
-{}
-
-/// While the name of a command that moves one moves, it is as before or moved, whatever is packed.
-pub fn files_pass()
-    ensures { FilesPass }
-{}
-
-/// When the names of a move's first lines have moved, the name of the next may exist beside the
-/// others, whatever is packed.
-pub fn next_lines_fit()
-    ensures { NextLinesFit }
-{}
-
-/// A move of its files moves that name.
-pub fn next_lines_move()
-    ensures { NextLinesMove }
-{}
-
-/// Meanwhile each name, once recovered, is as before the command or as after it.
-pub fn next_lines_pass()
-    ensures { NextLinesPass }
-{}
-
-/// When the files of a deleted name and its record are gone, the pair represents the repository
-/// after the deletion.
-pub fn takings_stand()
-    ensures { TakingsStand }
-{}
-
-/// While they go, each name is as before the command or as after it.
-pub fn takings_pass()
-    ensures { TakingsPass }
-{}
-
-/// If no cause holds of a rename, the move of the new name's files makes it beside the old name,
-/// whatever is packed.
-pub fn renames_bring()
-    ensures { RenamesBring }
-{}
-
-/// Meanwhile each name is as before the rename or as after it, and the old one holds its id.
-pub fn bringing_passes()
-    ensures { BringingPasses }
-{}
-
-/// When the old name's files and its record are gone too, the pair represents the repository after
-/// the rename.
-pub fn renames_end()
-    ensures { RenamesEnd }
-{}
-
-/// While they go, each name is as before the rename or as after it, and the new one holds the id.
-pub fn taking_passes()
-    ensures { TakingPasses }
 {}
 
 /// While names are packed, each name reads as before at each moment, and its log is as before.
@@ -188,4 +127,30 @@ pub fn renames_edit()
 /// A deletion removes its name.
 pub fn deletes_edit()
     ensures { DeletesEdit }
+{}
+
+/// If no cause holds of a commit, its name can be moved.
+pub fn commits_can_be_edited()
+    ensures { CommitsCanBeEdited }
+{}
+
+/// If no cause holds of a tag, its name can be moved.
+pub fn tags_can_be_edited()
+    ensures { TagsCanBeEdited }
+{}
+
+/// If no cause holds of a move, the names of its lines can be moved in one transaction.
+pub fn moves_can_be_edited()
+    ensures { MovesCanBeEdited }
+{}
+
+/// If no cause holds of a rename, the new name can be moved and the old one removed in one
+/// transaction.
+pub fn renames_can_be_edited()
+    ensures { RenamesCanBeEdited }
+{}
+
+/// If no cause holds of a deletion, its name can be removed.
+pub fn deletes_can_be_edited()
+    ensures { DeletesCanBeEdited }
 {}

@@ -1,8 +1,8 @@
 //! Laws of the trees that represent a repository, over the definitions alone.
 
 ghost use Rattle.history_layout.specs.TreeHalves.{HalvesStand, NamesSpeakOfMore, PlacesTellIds, PlacesTellValues, ValuesHaveIds};
-ghost use Rattle.history_layout.specs.TreeSteps.{PutsStore, StandingIsStored, StoredStands, TreesTellTaken, OwnIdsStay, StoresInAnyOrder, FilesMoveNames, NoneUnfinished, RenamesPut};
-ghost use Rattle.history_layout.specs.OneNameSteps.{CommitsMoveOneName, TagsMoveOneName, OneNameMoves};
+ghost use Rattle.history_layout.specs.TreeSteps.{PutsStore, StandingIsStored, StoredStands, TreesTellTaken, OwnIdsStay, StoresInAnyOrder, NoneUnfinished, RenamesPut};
+ghost use Rattle.history_layout.specs.OneNameSteps.{CommitsMoveOneName, TagsMoveOneName};
 ghost use Rattle.history_layout.specs.TreeReads.{ObjectsTellValues, CommitsAreRead, FoldersAreRead, BytesAreRead};
 
 /// A pair represents a repository exactly if each of its trees holds its half.
@@ -99,15 +99,4 @@ pub fn renames_put()
 /// A tree that holds a repository's names holds them with more values too, whatever is packed.
 pub fn names_speak_of_more()
     ensures { NamesSpeakOfMore }
-{}
-
-/// A move of the files of a name moves the name, whatever is packed.
-pub fn files_move_names()
-    ensures { FilesMoveNames }
-{}
-
-/// The objects after a command that moves one name, and the move of that name, represent the
-/// repository after it, whatever is packed.
-pub fn one_name_moves()
-    ensures { OneNameMoves }
 {}

@@ -16,7 +16,8 @@ use Rattle.history_model.specs.Places.{file_at, log_place}
 use Rattle.gix_ref_way.specs.Ways.{ChangesOneFile, SameFiles, FoldersAbove, IsAbove}
 use Rattle.history_names.specs.References.{HasLockRoom, MayBeWritten, PutsBeside, lock_place}
 use Rattle.gix_ref_way.proofs.Above.{now_above}
-use Rattle.history_names.proofs.Locks.{lock_beside_name, lock_not_above, lock_not_above_log, lock_path, own_lock}
+use Rattle.history_edits.proofs.NamePaths.{lock_path}
+use Rattle.history_names.proofs.Locks.{lock_beside_name, lock_not_above, lock_not_above_log, own_lock}
 use Rattle.gix_ref_way.proofs.OneFile.{one_files}
 use Rattle.gix_ref_way.proofs.Stored.{now_same, apart_from_inserted, apart_from_removed}
 use Rattle.gix_ref_file.proofs.Rooted.{first}

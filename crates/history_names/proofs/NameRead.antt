@@ -1,12 +1,11 @@
 -- What is read of a name, packed or not, is what it reads as.
-use Rattle.std.proofs.Common.{◌≡◌, refl, sym, ◌∙◌, ap, inl, Bool, true, false, cond, ◌&&◌, ◌||◌, ℕ, List, [], ◌∷◌, ◌++◌, drop, length, nat_eq, Option, Some, None, option_map, unwrap_or, codes}
+use Rattle.std.proofs.Common.{◌≡◌, refl, sym, ◌∙◌, ap, Bool, true, false, cond, ◌&&◌, ℕ, List, [], ◌∷◌, drop, length, nat_eq, Option, Some, None, option_map, unwrap_or, codes}
 use Rattle.std.specs.Prelude.{option_and_then}
-use Rattle.std.proofs.lemmas.Bool.{and_from, and_parts, eqb-true}
+use Rattle.std.proofs.lemmas.Bool.{eqb-true}
 use Rattle.gix_hash_id.specs.Id.{Id, id_of}
 use Rattle.gix_hash_id.specs.declared.kind.Kind.{Kind}
 use Rattle.gix_hash_id.specs.declared.object_id.ObjectId.{ObjectId}
 use Rattle.gix_object_lines.specs.Bytes.{is_among}
-use Rattle.gix_object_lines.specs.NameTest.{is_partial_name, is_full_name, is_capitals, has_slash}
 use Rattle.gix_ref_file.specs.Tree.{Tree, bytes_at}
 use Rattle.gix_ref_format.specs.Ids.{digits_read}
 use Rattle.gix_ref_format.specs.Packed.{Record}
@@ -20,24 +19,12 @@ use Rattle.history_model.specs.NameStates.{Holds, Symbolic, Absent, Faulty, loos
 use Rattle.history_model.specs.PackedNames.{id_from_hex, packed_with, whole_line}
 use Rattle.history_model.specs.Places.{file_at, packed_place}
 use Rattle.history_model.proofs.FormatLemmas.{records_alike}
-use Rattle.history_model.proofs.NameLemmas.{partial_of, some_or}
-use Rattle.history_model.proofs.WholePaths.{begins_parts}
+use Rattle.history_layout.proofs.EditedNames.{state_of}
 use Rattle.history_layout.proofs.PackedRecords.{packed_read}
 use Rattle.history_names.specs.NameLists.{spelled_id}
 use Rattle.history_names.specs.Packing.{FileSaysLeft, NameReads, read_hit, told_id}
 use Rattle.history_names.specs.References.{SpellsId}
 use Rattle.history_names.proofs.Gathered.{spelled_told}
-
--- ---- names
-
-slash_below : (rest : Bytes) → has_slash (codes "refs/" ++ rest) ≡ true
-slash_below rest = refl
-
-pub full_of : (name : Bytes) → is_name name ≡ true → is_full_name name ≡ true
-full_of name h =
-    let below = begins_parts (codes "refs/") name (and_parts (is_partial_name name) (begins (codes "refs/") name) (and_parts _ _ (and_parts _ _ h).0).0).1 in
-    and_from (is_partial_name name) (has_slash name || is_capitals name) (partial_of name h)
-    (some_or (has_slash name) (is_capitals name) (inl (ap has_slash below ∙ slash_below (drop 5 name))))
 
 -- ---- a name's own file
 
@@ -127,10 +114,6 @@ kept_told kind name (Some text) (Some buffer) gone named says =
         ∙ by_kind (is_private name) None ∙ by_private (is_private name) (hit (kept buffer) name) ∙ ap found_told (sym (left false e))
 
 -- ---- both
-
-pub state_of : (kind : Kind) (tree : Tree) (name : Bytes) (o : Option Bytes) → is_name name ≡ true → file_at tree name ≡ o → name_state kind tree name ≡ unwrap_or (option_map (loose_state kind) o) (packed_read kind name (file_at tree packed_place))
-state_of kind tree name o named e =
-    λ i. cond (named i) (unwrap_or (option_map (loose_state kind) (e i)) (packed_read kind name (file_at tree packed_place))) Absent
 
 pub file_reads : (kind : Kind) (tree : Tree) (name text : Bytes) (found : Option ObjectId) → is_name name ≡ true → file_at tree name ≡ Some text → SpellsId kind text found → NameReads kind tree name found
 file_reads kind tree name text found named there spells = loose_told kind text found spells ∙ sym (ap told_id (state_of kind tree name (Some text) named there))

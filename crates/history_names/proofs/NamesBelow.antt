@@ -28,7 +28,8 @@ use Rattle.history_names.specs.NameLists.{Gathers, NameIds, held_id, id_below, n
 use Rattle.history_names.specs.Packing.{FileSaysLeft, NameReads, read_hit, told_id}
 use Rattle.history_names.specs.declared.listed.NamedId.{NamedId}
 use Rattle.history_names.proofs.Gathered.{Key, all_below, named_ids}
-use Rattle.history_names.proofs.NameRead.{kept_told, no_name_reads, spelled_read, state_of, target}
+use Rattle.history_layout.proofs.EditedNames.{state_of}
+use Rattle.history_names.proofs.NameRead.{kept_told, no_name_reads, spelled_read, target}
 
 -- ---- one name more
 

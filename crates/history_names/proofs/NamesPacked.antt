@@ -28,7 +28,7 @@ use Rattle.history_layout.proofs.PackedRecords.{all_by_finds}
 use Rattle.history_names.specs.Packed.{AllOfKind, ArePacked, HasPackedText, MayPack, name_texts, record_of_name, records_of}
 use Rattle.history_names.specs.References.{SameFolders, lock_place}
 use Rattle.history_names.specs.declared.packs.PackedName.{PackedName}
-use Rattle.history_names.proofs.RecordsLeft.{as_all, ascend_once, form_made}
+use Rattle.history_layout.proofs.RecordsEdited.{as_all, ascend_once, form_made}
 
 abbrev lock : Bytes
 lock = lock_place packed_place

@@ -16,7 +16,7 @@ use Rattle.gix_object_lines.specs.NameTest.{is_full_name}
 use Rattle.history_model.specs.Places.{file_at, packed_place}
 use Rattle.history_model.proofs.PlaceLemmas.{one_text, text_itself, texts_apart}
 use Rattle.history_layout.proofs.PackedRecords.{all_by_finds}
-use Rattle.history_names.proofs.RecordsLeft.{ascend_once, as_all}
+use Rattle.history_layout.proofs.RecordsEdited.{ascend_once, as_all}
 use Rattle.history_names.specs.Packed.{AllFull, AllOfKind, AreGone, ArePacked, HasPackedText, IsPackedText, MayBeGone, MayPack, lines_of_names, name_texts, records_of}
 use Rattle.history_names.specs.Packing.{FileIsGone, FileMayGo}
 use Rattle.history_names.specs.References.{MayBeWritten, PutsBeside, lock_place}

@@ -9,7 +9,7 @@ use Rattle.std.specs.FinMap.{remove}
 use Rattle.gix_hash_id.specs.declared.kind.Kind.{Kind}
 use Rattle.history_model.specs.Bytes.{Bytes}
 use Rattle.history_model.specs.Forms.{is_name}
-use Rattle.history_model.specs.Places.{file_at, head_place, is_lock_file, is_log_place, log_place, packed_place}
+use Rattle.history_model.specs.Places.{file_at, is_lock_file, is_log_place, log_place, packed_place}
 use Rattle.history_model.proofs.NameLemmas.{ends_after}
 use Rattle.history_layout.specs.TakeSteps.{LacksRecord, TakesRecord}
 use Rattle.history_names.specs.Packing.{FileIsGone, FileMayGo, FileSaysLeft, HasPackedRoom, IsPackedForm, IsTaken, KeepsRecords, LosesRecord, MayLoseRecord, MayTake}
@@ -195,7 +195,7 @@ log_keeps name old mid logs = logs.others packed_place (λ same. log_packed name
 pub own_keeps : (name : Bytes) (old new : Tree) → is_name name ≡ true → FileIsGone name old new → file_at new packed_place ≡ file_at old packed_place
 own_keeps name old new named gone = gone.others packed_place (λ same. name_packed name named (sym same))
 
--- ---- what a move and a switch leave of it
+-- ---- what a move leaves of it
 
 lock_last : (name : Bytes) → is_lock_file (lock_place name) ≡ true
 lock_last name = ends_after name (codes ".lock")
@@ -203,6 +203,3 @@ lock_last name = ends_after name (codes ".lock")
 pub move_keeps : (name : Bytes) (entry : LogEntry) (old new : Tree) → is_name name ≡ true → HasMoved name entry old new → file_at new packed_place ≡ file_at old packed_place
 move_keeps name entry old new named moved =
     moved.others packed_place (λ same. name_packed name named (sym same)) (λ same. log_packed name (sym same)) (λ same. log_apart (sym (lock_last name) ∙ ap is_lock_file (sym same)))
-
-pub head_keeps : (text : Bytes) (old new : Tree) → PutsBeside head_place text old new → file_at new packed_place ≡ file_at old packed_place
-head_keeps text old new puts = puts.others packed_place (λ same. log_apart (ap (bytes_eq packed_place) same)) (λ same. log_apart (ap (bytes_eq packed_place) same))

@@ -5,3 +5,5 @@ pub mod Packed
 pub mod Packing
 pub mod References
 pub mod RootStore
+pub mod Changing
+pub mod Faults

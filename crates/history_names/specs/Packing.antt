@@ -1,7 +1,8 @@
 -- What is kept of `packed-refs` (git-pack-refs(1)), what names read as by it, and what exists while
 -- it is replaced.
-use Rattle.std.specs.Prelude.{◌≡◌, ◌≢◌, ◌⊎◌, List, map, Option, Some, None, option_map, if◌then◌else◌, MatchOption, IsTrue}
+use Rattle.std.specs.Prelude.{◌≡◌, ◌≢◌, ◌⊎◌, List, [], map, Option, Some, None, option_map, if◌then◌else◌, MatchOption, IsTrue}
 use Rattle.std.specs.FinMap.{get}
+use Rattle.std.specs.List.Sorted.{IsPermutation}
 use Rattle.gix_ref_file.specs.Tree.{Tree, folder}
 use Rattle.gix_hash_id.specs.Id.{Id, id_of}
 use Rattle.gix_hash_id.specs.declared.kind.Kind.{Kind}
@@ -9,7 +10,7 @@ use Rattle.gix_hash_id.specs.declared.object_id.ObjectId.{ObjectId}
 use Rattle.gix_ref_format.specs.Lookup.{packed_hit}
 use Rattle.gix_ref_format.specs.Packed.{Record, packed_records}
 use Rattle.gix_object_lines.specs.Bytes.{is_among}
-use Rattle.gix_ref_format.specs.PackedBuffer.{hit}
+use Rattle.gix_ref_format.specs.PackedBuffer.{KeepsFile, hit}
 use Rattle.gix_ref_format.specs.PackedKept.{kept}
 use Rattle.gix_ref_format.specs.declared.packed.buffer.Buffer.{Buffer}
 use Rattle.gix_ref_packed.specs.Edited.{Line, IsEdited}
@@ -29,12 +30,13 @@ use Rattle.history_names.specs.declared.packed.Kept.{Kept}
 abbrev pub hit_left : List Record → List Bytes → Bytes → Option Record
 hit_left records gone name = if is_among gone name then None else hit records name
 
--- The text's records are, name by name, what is left of others.
+-- The text's records are, name by name, what is left of others; all of them, if none is gone.
 pub record SaysLeft (kind : Kind) (text : Bytes) (read : List Record) (gone : List Bytes)
     : Type 0 where
   pub records : List Record
   pub said : packed_records kind text ≡ Some records
   pub each : (name : Bytes) → hit records name ≡ hit_left read gone name
+  pub all : gone ≡ [] → IsPermutation records read
 
 abbrev pub FileSaysLeft : Kind → Option Bytes → Option Buffer → List Bytes → Type 0
 FileSaysLeft kind None None gone = Unit {0}
@@ -47,6 +49,11 @@ FileSaysLeft kind (Some text) None gone = ⊥
 abbrev pub KeepsRecords : {F : Type 0} → Names F → Tree → Type 0
 KeepsRecords names tree =
     FileSaysLeft names.kind (file_at tree packed_place) names.packed.read names.packed.gone.items
+
+-- The records that were read are those of the file, and none is gone.
+pub record KeepsAll {F : Type 0} (names : Names F) (tree : Tree) : Type 0 where
+  pub file : KeepsFile names.kind (file_at tree packed_place) (option_map kept names.packed.read)
+  pub none : names.packed.gone.items ≡ []
 
 -- the id that a state gives
 abbrev pub told_id : NameState → Option Id

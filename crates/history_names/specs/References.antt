@@ -84,11 +84,6 @@ pub record MayBeWritten (path text : Bytes) (old tree : Tree) : Type 0 where
 abbrev pub HasLockRoom : Bytes → Tree → Type 0
 HasLockRoom name tree = get tree (lock_place name) ≢ Some folder
 
--- there is no folder at HEAD's path, or at that of its lock file
-pub record HasHeadRoom (tree : Tree) : Type 0 where
-  pub head : get tree head_place ≢ Some folder
-  pub lock : HasLockRoom head_place tree
-
 -- each file but the one at this path is as before
 abbrev pub OthersStay : Bytes → Tree → Tree → Type 0
 OthersStay path old new = (other : Bytes) → other ≢ path → file_at new other ≡ file_at old other

@@ -1,68 +1,88 @@
-//! HEAD of an existing repository: its file is written whole.
-ghost use Rattle.std.specs.Prelude.{◌≡◌, ◌≤◌, IfOk, OnOk, IsErrOf};
-ghost use Rattle.gix_ref_file.specs.Calls.{Achieves, Passes};
-ghost use Rattle.gix_ref_file.specs.History.{HasRisen};
+//! HEAD of an existing repository: it is changed by a transaction.
+ghost use Rattle.std.specs.Prelude.{◌≡◌, ◌≢◌, ◌≤◌, Err, [], ◌∷◌, IfOk, IsErrOf, IsTrue, OnOk};
+ghost use Rattle.gix_ref_edit.specs.declared.change.RefEdit.{RefEdit};
+ghost use Rattle.gix_ref_file.specs.Calls.{HasFault};
+ghost use Rattle.gix_ref_file.specs.History.{Adds};
 ghost use Rattle.gix_ref_file.specs.declared.files.FileError.TheVariants.{Failed, Memory};
-ghost use Rattle.history_model.specs.Places.{head_place};
-ghost use Rattle.history_model.specs.StandsFor.{head_text};
-ghost use Rattle.gix_ref_way.specs.Ways.{SameFolders};
+ghost use Rattle.history_model.specs.Forms.{is_name};
+ghost use Rattle.history_model.specs.Repository.{Repository};
+ghost use Rattle.history_layout.specs.SwitchSteps.{HeadOnTheWay, NamesBranch};
+ghost use Rattle.history_edits.specs.SwitchPlans.{AsksHead};
+ghost use Rattle.history_names.specs.Changing.{MaySwitch};
 ghost use Rattle.history_names.specs.Packing.{KeepsRecords};
-ghost use Rattle.history_names.specs.References.{HasHeadRoom, MayBeWritten, PutsBeside};
 
+use crate::faults::{full_name, of_preparing};
 use crate::names::Names;
+use gix_object_lookup::find::Never;
+use gix_ref_edit::{Change, LogChange, PreviousValue, RefEdit};
 use gix_ref_file::{FileError, Files};
-use gix_ref_way::write_anew;
+use gix_ref_name::Target;
+use gix_ref_transaction::PackedRefs;
+use gix_ref_transaction::transaction::prepare_with;
 use history_model::names::HEAD;
-use std::alloc::{AllocError, Global};
+use std::alloc::Global;
 
-/// The path of the lock file in which HEAD is written before it is renamed to its place.
-pub const HEAD_LOCK: &[u8] = b"HEAD.lock";
-
-// Returns what HEAD has in it if it names this branch.
-fn head_text(alloc: Global, branch: &[u8]) -> Result<Vec<u8>, AllocError>
-    ensures { IfOk result (λ text. text.items ≡ head_text branch.now) }
+// Returns the edit by which HEAD, if it names the one branch, names the other.
+fn head_edit(alloc: Global, from: &[u8], to: &[u8]) -> Result<Vec<RefEdit>, FileError>
+    ensures asks { IfOk result (λ edits. (edit : RefEdit)
+        × (edits.items ≡ edit ∷ []) × AsksHead from.now to.now edit) }
+    ensures failed { IsTrue (is_name from.now) → IsTrue (is_name to.now) → result ≢ Err Failed }
 {
-    let mut text = Vec::from_slice(alloc, b"ref: ")?;
-    text.extend_from_slice(branch)?;
-    text.push(b'\n')?;
-    Ok(text)
+    let log = LogChange::new(alloc);
+    let old = full_name(alloc, from)?;
+    let new = full_name(alloc, to)?;
+    let head = full_name(alloc, HEAD)?;
+    let mut edits = Vec::new(alloc);
+    edits.push(RefEdit {
+        change: Change::Update {
+            log,
+            expected: PreviousValue::MustExistAndMatch(Target::Symbolic(old)),
+            new: Target::Symbolic(new),
+        },
+        name: head,
+        deref: false,
+    })?;
+    Ok(edits)
 }
 
 impl<F: Files> Names<F> {
-    /// Makes HEAD name this branch, whether the branch exists or not: HEAD is written in its lock
-    /// file, which is then renamed. No log gets a line.
+    /// Makes HEAD, which names the one branch, name the other, whether that exists or not: its lock
+    /// is made exclusively, and then put in its place. No log gets a line.
     ///
-    /// Returns `Failed` if a file call failed, and `Memory` if memory ran out. After an error HEAD
-    /// is as before or names the branch, whole.
-    pub fn switch(&mut self, alloc: Global, branch: &[u8]) -> Result<(), FileError>
+    /// Returns `Failed` if a file call failed, or if HEAD names another branch or is locked, and
+    /// `Memory` if memory ran out. After an error HEAD is as before or names the branch, whole.
+    pub fn switch(&mut self, alloc: Global, from: &[u8], to: &[u8]) -> Result<(), FileError>
         ensures honest { F.is_honest self.old.store.files → F.is_honest self.new.store.files }
         ensures kind { self.new.kind ≡ self.old.kind }
-        ensures packed { self.new.packed ≡ self.old.packed }
-        ensures switched { Achieves F.is_honest F.history self.old.store.files self.new.store.files
-            result (PutsBeside head_place (head_text branch.now)) }
-        ensures keeps { F.is_honest self.old.store.files
-            → KeepsRecords self.old (F.history self.old.store.files).tree
+        ensures moments { (r : Repository)
+            → MaySwitch F.is_honest F.history self.old r from.now to.now
+            → Adds (HeadOnTheWay to.now (F.history self.old.store.files).tree)
+            (F.history self.old.store.files) (F.history self.new.store.files) }
+        ensures switched { (r : Repository)
+            → MaySwitch F.is_honest F.history self.old r from.now to.now
+            → OnOk result (NamesBranch to.now (F.history self.old.store.files).tree
+            (F.history self.new.store.files).tree) }
+        ensures keeps { (r : Repository)
+            → MaySwitch F.is_honest F.history self.old r from.now to.now
             → OnOk result (KeepsRecords self.new (F.history self.new.store.files).tree) }
-
-        // What exists on the way; no folder is made or removed.
-        ensures moments { Passes F.is_honest F.history self.old.store.files self.new.store.files
-            (MayBeWritten head_place (head_text branch.now)) }
-        ensures folders { Passes F.is_honest F.history self.old.store.files self.new.store.files
-            SameFolders }
-
-        // If HEAD and its lock file have room, `Failed` comes only from a call of the files that
-        // failed.
         ensures later { F.failures self.old.store.files ≤ F.failures self.new.store.files }
         ensures unfailed { OnOk result
             (F.failures self.new.store.files ≡ F.failures self.old.store.files) }
         ensures memory { IsErrOf result Memory
             → F.failures self.new.store.files ≡ F.failures self.old.store.files }
-        ensures failed { F.is_honest self.old.store.files
-            → HasHeadRoom (F.history self.old.store.files).tree → IsErrOf result Failed
-            → HasRisen (F.failures self.old.store.files) (F.failures self.new.store.files) }
+        // `Failed` comes only from a fault of the files.
+        ensures failed { (r : Repository)
+            → MaySwitch F.is_honest F.history self.old r from.now to.now
+            → IsErrOf result Failed
+            → HasFault F.failures F.reading_may_fail self.old.store.files self.new.store.files }
     {
-        let text = head_text(alloc, branch)?;
-        write_anew(alloc, &mut self.store.files, HEAD_LOCK, &text)?;
-        self.store.files.rename(alloc, HEAD_LOCK, HEAD)
+        let edits = head_edit(alloc, from, to)?;
+        self.refresh(alloc)?;
+        let records = self.packed.read.as_ref();
+        let mode = PackedRefs::<Never>::DeletionsOnly;
+        match prepare_with(alloc, &mut self.store, records, edits, None, mode) {
+            Ok(made) => self.finish(alloc, made),
+            Err(error) => Err(of_preparing(error)),
+        }
     }
 }

@@ -1,5 +1,5 @@
 //! The records of `packed-refs`: read once and kept, looked up, and replaced.
-ghost use Rattle.std.specs.Prelude.{◌≡◌, ◌≢◌, ◌≤◌, ◌++◌, [], ◌∷◌, None, Some, IfOk, IfErr, OnOk, IsErrOf, IsTrue, option_map};
+ghost use Rattle.std.specs.Prelude.{◌≡◌, ◌≢◌, ◌≤◌, [], None, Some, IfOk, IfErr, OnOk, IsErrOf, IsTrue, option_map};
 ghost use Rattle.gix_hash_id.specs.Id.{id_of};
 ghost use Rattle.gix_ref_file.specs.Calls.{Achieves, Finds, Passes};
 ghost use Rattle.gix_ref_file.specs.History.{HasRisen};
@@ -12,9 +12,10 @@ ghost use Rattle.gix_ref_format.specs.declared.packed.buffer.Error.TheVariants.{
 ghost use Rattle.gix_ref_name.specs.Names.{name_of};
 ghost use Rattle.history_model.specs.Forms.{is_name};
 ghost use Rattle.history_model.specs.Places.{file_at, packed_place};
-ghost use Rattle.history_names.specs.Packing.{HasPackedRoom, IfSomeRecords, KeepsRecords, NameReads, SaysLeft, kept_hit};
+ghost use Rattle.history_names.specs.Packing.{HasPackedRoom, KeepsAll, KeepsRecords, NameReads, kept_hit};
 ghost use Rattle.history_names.specs.References.{MayBeWritten, PutsBeside, SameFolders};
 
+use crate::faults::of_opening;
 use crate::names::{Names, id_in};
 use gix_hash::{Kind, ObjectId};
 use gix_ref_file::{FileError, Files};
@@ -30,9 +31,6 @@ pub const PACKED: &[u8] = b"packed-refs";
 
 // The path of the lock file in which they are written before it is renamed to their place.
 const PACKED_LOCK: &[u8] = b"packed-refs.lock";
-
-// How many names may be gone before the records are read anew: a lookup goes over them.
-const MOST_GONE: usize = 256;
 
 // What is kept of `packed-refs`: its records as they were read, and the names that lost theirs
 // since.
@@ -52,6 +50,7 @@ impl<F: Files> Names<F> {
         ensures kind { self.new.kind ≡ self.old.kind }
         ensures keeps { Finds F.is_honest F.history self.new.store.files
             (λ tree. OnOk result (KeepsRecords self.new tree)) }
+        ensures gone { OnOk result (self.new.packed.gone.items ≡ []) }
         ensures faulty { Finds F.is_honest F.history self.new.store.files
             (λ tree. IfErr result (FileFault self.new.kind (file_at tree packed_place))) }
         ensures failed { IsErrOf result Io → F.reading_may_fail }
@@ -59,6 +58,24 @@ impl<F: Files> Names<F> {
         let read = Buffer::open(alloc, &self.store.files, PACKED, self.kind)?;
         self.packed = all_of(alloc, read);
         Ok(())
+    }
+
+    // Reads the records anew if one went since they were read.
+    pub(crate) fn refresh(&mut self, alloc: Global) -> Result<(), FileError>
+        ensures files { self.new.store.files ≡ self.old.store.files }
+        ensures kind { self.new.kind ≡ self.old.kind }
+        ensures keeps { Finds F.is_honest F.history self.new.store.files (λ tree.
+            KeepsRecords self.old tree → OnOk result (KeepsAll self.new tree)) }
+        ensures failed { Finds F.is_honest F.history self.old.store.files (λ tree.
+            KeepsRecords self.old tree → IsErrOf result Failed → F.reading_may_fail) }
+    {
+        if self.packed.gone.is_empty() {
+            return Ok(());
+        }
+        match self.read_packed(alloc) {
+            Ok(()) => Ok(()),
+            Err(error) => Err(of_opening(error)),
+        }
     }
 
     /// Returns the id that a name holds: that of its own file, or that of its record if there is no
@@ -106,43 +123,6 @@ impl<F: Files> Names<F> {
         let packed = buffer_of(alloc, text, self.kind)?;
         self.put_packed(alloc, packed.as_ref())?;
         self.packed = all_of(alloc, Some(packed));
-        Ok(())
-    }
-
-    // Replaces `packed-refs` by this text, in which only this name lost its record.
-    pub(crate) fn lose_record(
-        &mut self,
-        alloc: Global,
-        text: Vec<u8>,
-        name: FullName,
-    ) -> Result<(), FileError>
-        ensures honest { F.is_honest self.old.store.files → F.is_honest self.new.store.files }
-        ensures kind { self.new.kind ≡ self.old.kind }
-        ensures put { Achieves F.is_honest F.history self.old.store.files self.new.store.files
-            result (PutsBeside packed_place text.items) }
-        ensures keeps { F.is_honest self.old.store.files
-            → IfSomeRecords self.old.packed.read (λ records. SaysLeft self.old.kind text.items
-            records (self.old.packed.gone.items ++ name ∷ []))
-            → OnOk result (KeepsRecords self.new (F.history self.new.store.files).tree) }
-        ensures moments { Passes F.is_honest F.history self.old.store.files self.new.store.files
-            (MayBeWritten packed_place text.items) }
-        ensures folders { Passes F.is_honest F.history self.old.store.files self.new.store.files
-            SameFolders }
-        ensures later { F.failures self.old.store.files ≤ F.failures self.new.store.files }
-        ensures unfailed { OnOk result
-            (F.failures self.new.store.files ≡ F.failures self.old.store.files) }
-        ensures memory { IsErrOf result Memory
-            → F.failures self.new.store.files ≡ F.failures self.old.store.files }
-        ensures failed { F.is_honest self.old.store.files
-            → HasPackedRoom (F.history self.old.store.files).tree
-            → packed_records self.old.kind text.items ≢ None → IsErrOf result Failed
-            → HasRisen (F.failures self.old.store.files) (F.failures self.new.store.files) }
-    {
-        if self.packed.gone.len() >= MOST_GONE {
-            return self.replace_packed(alloc, text);
-        }
-        self.put_packed(alloc, &text)?;
-        self.packed.gone.push(name)?;
         Ok(())
     }
 
@@ -203,7 +183,7 @@ impl Kept {
 }
 
 // Returns the id in the name's record, if it has one.
-fn packed_id(packed: &Kept, name: &[u8]) -> Option<ObjectId>
+pub(crate) fn packed_id(packed: &Kept, name: &[u8]) -> Option<ObjectId>
     ensures { IsTrue (is_name name.now) → option_map id_of result
         ≡ option_map (λ (e : Record). e.target) (kept_hit packed.now name.now) }
 {

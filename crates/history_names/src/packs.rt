@@ -3,7 +3,7 @@ ghost use Rattle.std.specs.Prelude.{◌≡◌, ◌≤◌, IfOk, OnOk, IsErrOf};
 ghost use Rattle.gix_ref_file.specs.Calls.{Achieves, HasFault, Passes};
 ghost use Rattle.gix_ref_file.specs.declared.files.FileError.TheVariants.{Failed, Memory};
 ghost use Rattle.gix_ref_packed.specs.Edited.{line_of, lines_of, own_line};
-ghost use Rattle.history_names.specs.Packing.{HasPackedRoom, KeepsRecords};
+ghost use Rattle.history_names.specs.Packing.{HasPackedRoom, KeepsRecords, FileIsGone, FileMayGo};
 ghost use Rattle.history_names.specs.Packed.{AllFull, AllOfKind, AreGone, ArePacked, IsPackedText, MayBeGone, MayPack, lines_of_names, name_texts, record_of_name, records_of};
 ghost use Rattle.history_names.specs.References.{SameFolders};
 
@@ -14,6 +14,7 @@ use gix_ref_format::packed::Reference;
 use gix_ref_name::FullName;
 use gix_ref_packed::laws::written_records_are_read;
 use gix_ref_packed::{Edit, packed_text, written};
+use gix_ref_way::is_file;
 use std::alloc::{AllocError, Global};
 
 /// A name that is packed, and its id.
@@ -80,6 +81,31 @@ impl<F: Files> Names<F> {
     {
         for named in names {
             self.remove_own_file(alloc, named.name.to_path())?;
+        }
+        Ok(())
+    }
+
+    // Removes the name's own file, if there is one.
+    pub(crate) fn remove_own_file(&mut self, alloc: Global, name: &[u8]) -> Result<(), FileError>
+        ensures honest { F.is_honest self.old.store.files → F.is_honest self.new.store.files }
+        ensures kind { self.new.kind ≡ self.old.kind }
+        ensures packed { self.new.packed ≡ self.old.packed }
+        ensures gone { Achieves F.is_honest F.history self.old.store.files self.new.store.files
+            result (FileIsGone name.now) }
+        ensures moments { Passes F.is_honest F.history self.old.store.files self.new.store.files
+            (FileMayGo name.now) }
+        ensures folders { Passes F.is_honest F.history self.old.store.files self.new.store.files
+            SameFolders }
+        ensures later { F.failures self.old.store.files ≤ F.failures self.new.store.files }
+        ensures unfailed { OnOk result
+            (F.failures self.new.store.files ≡ F.failures self.old.store.files) }
+        ensures memory { IsErrOf result Memory
+            → F.failures self.new.store.files ≡ F.failures self.old.store.files }
+        ensures failed { F.is_honest self.old.store.files → IsErrOf result Failed
+            → HasFault F.failures F.reading_may_fail self.old.store.files self.new.store.files }
+    {
+        if is_file(&self.store.files, name)? {
+            return self.store.files.remove_file(alloc, name);
         }
         Ok(())
     }

@@ -1,11 +1,11 @@
 -- When a name collides with those that exist.
-use Rattle.std.proofs.Common.{◌≡◌, Bool, true, false, cond, not, ◌&&◌, ◌||◌, List, [], ◌∷◌, ◌++◌, length, drop, refl, sym, ◌∙◌, ap, Some, None, append_assoc, nat_eq}
+use Rattle.std.proofs.Common.{◌≡◌, Bool, true, false, cond, not, ◌&&◌, ◌||◌, List, [], ◌∷◌, ◌++◌, length, drop, refl, ◌∙◌, ap, Some, None, append_assoc, nat_eq}
 use Rattle.std.specs.List.{list_any, list_all}
 use Rattle.std.specs.FinMap.{keys}
 use Rattle.std.proofs.lemmas.List.Folds.{list_any-append}
 use Rattle.history_model.specs.Bytes.{Bytes, begins}
 use Rattle.history_model.specs.FileMap.{is_below}
-use Rattle.history_model.specs.Repository.{HasWholeNames, stands}
+use Rattle.history_model.specs.Repository.{stands}
 use Rattle.history_model.specs.Forms.{is_name}
 use Rattle.history_model.specs.Commands.{Commit, CommitCommand}
 use Rattle.history_model.specs.Causes.{do_collide, holds_tag, some_collide}
@@ -13,7 +13,7 @@ use Rattle.history_model.specs.declared.Cause.TheVariants.{Collides, HoldsTag}
 use Rattle.history_layout.proofs.OfferedFiles.{each_key}
 use Rattle.gix_ref_way.specs.Ways.{IsAbove}
 use Rattle.history_plans.specs.CommitCauses.{first_among, place_causes}
-use Rattle.history_plans.specs.Halves.{FitsAmong}
+use Rattle.history_plans.proofs.NameWays.{FitsAmong}
 use Rattle.std.proofs.lemmas.Bool.{not-true, or_from}
 use Rattle.history_model.proofs.WholePaths.{begins_parts}
 use Rattle.history_model.specs.Repository as plain
@@ -82,14 +82,6 @@ module _ (r : plain.Repository) (name : Bytes) where
       last : (b : Bool) → ((b || false) || false) ≡ b
       last true = refl
       last false = refl
-
-  -- if it doesn't collide, no existing name is in its way
-  pub fits_so : HasWholeNames r → is_name name ≡ true → one_collides ≡ false → FitsAmong r name
-  fits_so whole formed none = record { named = formed; apart = by_standing_name (stands r name) refl }
-    where
-      by_standing_name : (s : Bool) → stands r name ≡ s → (other : Bytes) → stands r other ≡ true → do_collide name other ≡ false
-      by_standing_name true is other there = or_from (is_below name other) (is_below other name) (whole.apart name other is there) (whole.apart other name there is)
-      by_standing_name false is other there = (fits_free r name formed (sym (new_collides is) ∙ none)).apart other there
 
 -- the first cause of a commit's place, by whether its name collides and whether it holds a tag
 pub place_told : (r : plain.Repository) (order : CommitCommand) (collides tag : Bool) → some_collide r (Commit order) ≡ collides → holds_tag r (Commit order) ≡ tag

@@ -36,7 +36,7 @@ use Rattle.history_plans.specs.declared.base.Expected.{Expected}
 use Rattle.history_repository.specs.Held.{held_id}
 use Rattle.history_repository.specs.declared.held.Held.{Held}
 use Rattle.history_plans.specs.declared.moving.Line.{Line}
-use Rattle.history_plans.specs.declared.planning.Moves.{Moves}
+use Rattle.history_names.specs.declared.changing.MovedName.{MovedName}
 use Rattle.history_repository.specs.declared.stopped.Stopped.{Stopped}
 use Rattle.history_plans.proofs.FirstCauses.{find_after_none, find_in_front, here, passed}
 use Rattle.history_repository.proofs.WordCauses.{any_map, commit_told, words_told as all_words_told}
@@ -289,7 +289,7 @@ line_names r (order ∷ orders) (line ∷ lines) are = λ i. (are.0).name i ∷ 
 -- ---- stops
 
 -- names that a move can't be of, and memory that ran out on the way
-pub names_planned : (r : plain.Repository) (order : MoveCommand) (MayFail : Type 0) (result : Result (Unit {0}) Stopped) (ends : Result (Vec Moves Global) Stopped) (stopped : Stopped)
+pub names_planned : (r : plain.Repository) (order : MoveCommand) (MayFail : Type 0) (result : Result (Unit {0}) Stopped) (ends : Result (Vec MovedName Global) Stopped) (stopped : Stopped)
     → result ≡ Err stopped → ends ≡ Err stopped → TestsNames (map name_of order.to) result → PlansMoves MayFail r order ends
 names_planned r order MayFail result ends stopped was is_end tests =
     subst (PlansMoves MayFail r order) (sym is_end) (by_case stopped (subst (TestsNames (map name_of order.to)) was tests))
@@ -326,11 +326,11 @@ entry_told r order to line other entry is other_null before after actor message 
     let after_is = ap id_of after ∙ or_null (commit_in line.word) other ∙ (λ i. unwrap_or (is.commit i) (other_null i)) in
     λ i. record { before = before_is i; after = after_is i; actor = actor i; message = message i }
 
-pub refusal_planned : (MayFail : Type 0) (r : plain.Repository) (order : MoveCommand) (ends : Result (Vec Moves Global) Stopped) (cause : Cause) → ends ≡ Err (why.Refused cause) → first_cause r (Move order) ≡ Some cause → PlansMoves MayFail r order ends
+pub refusal_planned : (MayFail : Type 0) (r : plain.Repository) (order : MoveCommand) (ends : Result (Vec MovedName Global) Stopped) (cause : Cause) → ends ≡ Err (why.Refused cause) → first_cause r (Move order) ≡ Some cause → PlansMoves MayFail r order ends
 refusal_planned MayFail r order ends cause is_end told = subst (PlansMoves MayFail r order) (sym is_end) told
 
 pub places_planned : (r : plain.Repository) (order : MoveCommand) → first_among to_causes r (Move order) ≡ None → first_among word_causes r (Move order) ≡ None → first_among held_causes r (Move order) ≡ None
-    → (MayFail : Type 0) (result : Result (Unit {0}) Stopped) (ends : Result (Vec Moves Global) Stopped) (stopped : Stopped) → result ≡ Err stopped → ends ≡ Err stopped → TestsOf MayFail place_causes r (Move order) (λ (done : Unit {0}). ⊤) result
+    → (MayFail : Type 0) (result : Result (Unit {0}) Stopped) (ends : Result (Vec MovedName Global) Stopped) (stopped : Stopped) → result ≡ Err stopped → ends ≡ Err stopped → TestsOf MayFail place_causes r (Move order) (λ (done : Unit {0}). ⊤) result
     → PlansMoves MayFail r order ends
 places_planned r order names words held MayFail result ends stopped was is_end tests =
     subst (PlansMoves MayFail r order) (sym is_end) (by_case stopped (subst (λ (x : Result (Unit {0}) Stopped). TestsOf MayFail place_causes r (Move order) (λ (done : Unit {0}). ⊤) x) was tests))
@@ -392,7 +392,7 @@ line_added r tos to orders lines more line are so_far here added =
     (subst (λ all. AreLines r all (lines ++ line ∷ [])) (sym cut.2) (zip_add (IsLine r) cut.0 lines cut.1 line (so_far cut.0 cut.3) (here cut.1 cut.4)))
 
 -- one line more is made a move
-pub moves_added : (r : plain.Repository) (order : MoveCommand) (lines : List Line) (line : Line) (orders : List To) (moves more : List Moves) (one : Moves) → AllZip (swapped r) (lines ++ line ∷ []) orders
+pub moves_added : (r : plain.Repository) (order : MoveCommand) (lines : List Line) (line : Line) (orders : List To) (moves more : List MovedName) (one : MovedName) → AllZip (swapped r) (lines ++ line ∷ []) orders
     → ((front : List To) → AllZip (swapped r) lines front → AreMoves r order front moves) → ((to : To) → IsLine r to line → IsLineMove r order to one) → more ≡ moves ++ one ∷ [] → AreMoves r order orders more
 moves_added r order lines line orders moves more one are so_far here added =
     let cut = zip_split (swapped r) lines line orders are in

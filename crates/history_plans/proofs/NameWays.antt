@@ -1,22 +1,25 @@
 -- What may be in the way of a name.
-use Rattle.std.proofs.Common.{◌≡◌, ◌⊎◌, inl, inr, ◌||◌, ◌&&◌, not, bytes_eq, codes, [], ◌∷◌, ◌++◌, drop, append_assoc, Bool, true, false, None, Some, Option, refl, sym, ◌∙◌, ap}
+use Rattle.std.proofs.Common.{◌≡◌, ◌⊎◌, inl, inr, ◌||◌, ◌&&◌, bytes_eq, codes, [], ◌∷◌, ◌++◌, drop, append_assoc, Bool, true, false, None, Some, Option, refl, sym, ◌∙◌, ap}
 use Rattle.history_model.specs.Repository.{stands}
 use Rattle.gix_ref_file.specs.Tree.{Tree}
 use Rattle.history_model.specs.Bytes.{Bytes, begins}
 use Rattle.history_model.specs.FileMap.{is_below}
 use Rattle.history_model.proofs.NameLemmas.{name-lock, log-lock}
 use Rattle.gix_ref_way.specs.Ways.{IsAbove, HasWay}
+use Rattle.history_model.specs.Causes.{do_collide}
 use Rattle.history_model.specs.Forms.{is_name}
 use Rattle.history_model.specs.Places.{file_at, head_place, packed_place, log_place, log_name, is_lock_file, is_log_place}
 use Rattle.history_layout.specs.TreeHalves.{HoldsNames}
-use Rattle.history_names.specs.References.{HasLockRoom, lock_place}
 use Rattle.history_names.proofs.NameFolders.{refs_of}
 use Rattle.std.proofs.lemmas.Slice.Eq.{bytes_eq-Decides}
-use Rattle.history_names.proofs.Locks.{lock_is_lock}
-use Rattle.history_plans.specs.Halves.{FitsAmong}
 use Rattle.std.proofs.lemmas.Bool.{or_cases, or_parts, and_parts}
 use Rattle.history_model.proofs.WholePaths.{begins_front, begins_parts}
 use Rattle.history_model.specs.Repository as plain
+
+-- A name can be added to those of the repository: it is one, and none of these is a folder of it or lies below it.
+pub record FitsAmong (r : plain.Repository) (name : Bytes) : Type 0 where
+  pub named : is_name name ≡ true
+  pub apart : (other : Bytes) → stands r other ≡ true → do_collide name other ≡ false
 
 -- ---- the places of the files of names
 
@@ -59,9 +62,6 @@ module _ (r : plain.Repository) (tree : Tree) (holds : HoldsNames tree r) (forme
     abbrev refs : name ≡ codes "refs" ++ 47 ∷ drop 5 name
     refs = refs_of name fits.named
 
-    other_refs : (other : Bytes) → stands r other ≡ true → other ≡ codes "refs" ++ 47 ∷ drop 5 other
-    other_refs other stood = refs_of other (formed other stood)
-
     apart : (other : Bytes) → stands r other ≡ true → (is_below name other ≡ false) × (is_below other name ≡ false)
     apart other stood = or_parts (is_below name other) (is_below other name) (fits.apart other stood)
 
@@ -73,20 +73,3 @@ module _ (r : plain.Repository) (tree : Tree) (holds : HoldsNames tree r) (forme
       below = λ other below. none_at (λ path. is_below name path) (ap (λ n. is_below n head_place) refs) (ap (λ n. is_below n packed_place) refs)
           (λ another stood. (apart another stood).0) (λ another stood. ap (λ n. is_below n (log_place another)) refs) other (is_below_it name other below);
     }
-
-    pub log_way : HasWay (log_place name) tree
-    log_way = record {
-      above = λ place above. none_at (λ path. is_below path (log_place name)) refl refl
-          (λ other stood. ap (λ o. is_below o (log_place name)) (other_refs other stood)) (λ other stood. (apart other stood).1) place (is_below_it place (log_place name) above);
-      below = λ other below. none_at (λ path. is_below (log_place name) path) refl refl
-          (λ another stood. ap (λ o. is_below (log_place name) o) (other_refs another stood)) (λ another stood. (apart another stood).0) other (is_below_it (log_place name) other below);
-    }
-
-    -- no folder is at the place of its lock file
-    pub lock_room : HasLockRoom name tree
-    lock_room stood =
-        let parts = and_parts _ (not (is_lock_file (lock_place name))) (holds.folders (lock_place name) stood) in
-        absurd (cc (parts.1, lock_is_lock name))
-
-    pub unlocked : file_at tree (lock_place name) ≡ None
-    unlocked = no_lock_stands (lock_place name) (lock_is_lock name)

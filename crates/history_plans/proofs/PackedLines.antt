@@ -24,7 +24,7 @@ use Rattle.history_layout.specs.PackSteps.{record_for}
 use Rattle.history_layout.proofs.OfferedReads.{tags_stand_for_others}
 use Rattle.history_names.specs.Packed.{record_of_name, records_of}
 use Rattle.history_names.specs.declared.packs.PackedName.{PackedName}
-use Rattle.history_names.proofs.NameRead.{full_of}
+use Rattle.history_layout.proofs.FullNames.{full_of}
 use Rattle.history_repository.specs.Reads.{GivesMeant}
 use Rattle.history_repository.specs.NamesShown.{shown_name}
 use Rattle.history_plans.specs.Packing.{AreAllNames, AreFull, line_record}

@@ -19,12 +19,12 @@ use Rattle.history_names.specs.AllNames.{TellsMeeting}
 use Rattle.history_repository.specs.Face.{names_part}
 use Rattle.history_repository.specs.Stands.{Stands, pair_of}
 use Rattle.history_names.specs.Packing.{told_id}
-use Rattle.history_plans.specs.Halves.{FitsAmong, NamesStand}
+use Rattle.history_plans.specs.Halves.{NamesStand}
 use Rattle.history_repository.specs.declared.repository.Repository.{Repository}
 use Rattle.std.specs.List.{list_any}
 use Rattle.history_plans.proofs.Collisions.{none_any, above_it, fits_free, new_collides, one_collides}
-use Rattle.history_plans.proofs.PartsStand.{names_stand}
-use Rattle.history_plans.proofs.NameWays.{is_below_it, way}
+use Rattle.history_plans.proofs.PartsStand.{name_formed, names_stand}
+use Rattle.history_plans.proofs.NameWays.{FitsAmong, is_below_it, way}
 use Rattle.history_repository.proofs.NameReads.{stands_held, state_told}
 use Rattle.std.proofs.lemmas.Bool.{or_from, or_parts}
 use Rattle.history_model.specs.Repository as plain
@@ -62,7 +62,7 @@ module _ {F : Type 0} (IsHonest : F → Type 0) (history : F → History) (repos
           absurd (cc (clear.0, is_below_it name other below))
 
       meets : {A : Type 0} → FitsAmong r name → (IsTrue (is_file_at tree other) ⊎ IsTrue (is_some (told_id (name_state r.kind tree other)))) → A
-      meets fits (inl file) = barred (way r tree parts.holds parts.named name fits) file beside
+      meets fits (inl file) = barred (way r tree parts.holds (name_formed r stand.whole.written) name fits) file beside
       meets fits (inr reads) = met fits reads beside
 
       go : (b : Bool) → list_any (do_collide name) (keys r.names) ≡ b → list_any (do_collide name) (keys r.names) ≡ true

@@ -24,7 +24,7 @@ use Rattle.history_repository.specs.Face.{names_part}
 use Rattle.history_plans.specs.Moving.{names_cause}
 use Rattle.history_plans.specs.Renaming.{PlansRename, TestsRename}
 use Rattle.history_repository.specs.Stands.{Stands}
-use Rattle.history_plans.specs.declared.planning.Moves.{Moves}
+use Rattle.history_names.specs.declared.changing.MovedName.{MovedName}
 use Rattle.history_repository.specs.declared.repository.Repository.{Repository}
 use Rattle.history_repository.specs.declared.stopped.Stopped.{Stopped}
 use Rattle.history_repository.specs.declared.stopped.Stopped.TheVariants.{Refused, Fault}
@@ -114,7 +114,7 @@ free_told held (Some id) e none = cc
 pub refusal_told : (MayFail : Type 0) (r : plain.Repository) (from to : Bytes) (ends : Result ObjectId Stopped) (cause : Cause) → ends ≡ Err (Refused cause) → first_cause r (Rename from to) ≡ Some cause → TestsRename MayFail r from to ends
 refusal_told MayFail r from to ends cause is_end first = subst (TestsRename MayFail r from to) (sym is_end) first
 
-pub test_stopped : (MayFail : Type 0) (r : plain.Repository) (from to : Bytes) (result : Result ObjectId Stopped) (ends : Result Moves Stopped) (stopped : Stopped) → result ≡ Err stopped → ends ≡ Err stopped → TestsRename MayFail r from to result → PlansRename MayFail r from to ends
+pub test_stopped : (MayFail : Type 0) (r : plain.Repository) (from to : Bytes) (result : Result ObjectId Stopped) (ends : Result MovedName Stopped) (stopped : Stopped) → result ≡ Err stopped → ends ≡ Err stopped → TestsRename MayFail r from to result → PlansRename MayFail r from to ends
 test_stopped MayFail r from to result ends stopped was is_end h = subst (PlansRename MayFail r from to) (sym is_end) (by_case stopped (subst (TestsRename MayFail r from to) was h))
   where
     by_case : (stopped : Stopped) → TestsRename MayFail r from to (Err stopped) → PlansRename MayFail r from to (Err stopped)

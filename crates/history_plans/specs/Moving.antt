@@ -27,7 +27,7 @@ use Rattle.history_repository.specs.Meanings.{commit_in, commit_or_cause, meanin
 use Rattle.history_plans.specs.declared.base.Expected.{Expected}
 use Rattle.history_plans.specs.declared.base.Expected.TheVariants.{Any, New, At}
 use Rattle.history_plans.specs.declared.moving.Line.{Line}
-use Rattle.history_plans.specs.declared.planning.Moves.{Moves}
+use Rattle.history_names.specs.declared.changing.MovedName.{MovedName}
 use Rattle.history_repository.specs.declared.stopped.Stopped.{Stopped}
 use Rattle.history_repository.specs.declared.stopped.Stopped.TheVariants.{Refused, Fault}
 use Rattle.history_model.specs.Repository as plain
@@ -144,17 +144,17 @@ TellsTeller r order message (Err cause) = first_among teller_causes r (Move orde
 
 -- the line's name moves to what its word means
 pub record IsLineMove (r : plain.Repository) (order : MoveCommand) (to : To)
-    (moves : Moves) : Type 0 where
+    (moves : MovedName) : Type 0 where
   pub name : moves.name.items ≡ to.name
   pub entry : entry_of moves.entry ≡ line_entry r order to
 
-abbrev pub AreMoves : plain.Repository → MoveCommand → List To → List Moves → Type 0
+abbrev pub AreMoves : plain.Repository → MoveCommand → List To → List MovedName → Type 0
 AreMoves r order = AllZip (IsLineMove r order)
 
 -- The moves are made if no cause holds; or it is refused for the first that holds, or a fault was
 -- met.
 abbrev pub PlansMoves : Type 0 → plain.Repository → MoveCommand
-    → Result (Vec Moves Global) Stopped → Type 0
+    → Result (Vec MovedName Global) Stopped → Type 0
 PlansMoves MayFail r order (Ok moves) =
     (first_cause r (Move order) ≡ None) × AreMoves r order order.to moves.items
 PlansMoves MayFail r order (Err (Refused cause)) = first_cause r (Move order) ≡ Some cause

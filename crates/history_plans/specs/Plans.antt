@@ -29,7 +29,7 @@ use Rattle.history_plans.specs.declared.planning.Below.{Below}
 use Rattle.history_plans.specs.declared.planning.Committed.{Committed}
 use Rattle.history_plans.specs.declared.planning.NewFiles.{NewFiles}
 use Rattle.history_plans.specs.declared.planning.Plan.{Plan}
-use Rattle.history_plans.specs.declared.planning.Moves.{Moves}
+use Rattle.history_names.specs.declared.changing.MovedName.{MovedName}
 use Rattle.history_repository.specs.declared.stopped.Stopped.{Stopped}
 use Rattle.history_repository.specs.declared.stopped.Stopped.TheVariants.{Refused, Fault}
 use Rattle.gix_hash_id.specs.Id as object_id
@@ -40,7 +40,7 @@ use Rattle.history_model.specs.Repository as plain
 -- ---- the parts of a plan
 
 -- the name moves so
-pub record IsMove (r : plain.Repository) (move : NameMove) (moves : Moves) : Type 0 where
+pub record IsMove (r : plain.Repository) (move : NameMove) (moves : MovedName) : Type 0 where
   pub name : moves.name.items ≡ move.name
   pub entry : entry_of moves.entry ≡ entry_of_move r move
 

@@ -9,7 +9,7 @@ use Rattle.history_model.specs.Repository.{id_at}
 use Rattle.history_layout.specs.RenameSteps.{rename_entry}
 use Rattle.history_texts.specs.Formats.{entry_of}
 use Rattle.history_repository.specs.Reads.{IsReadingFault}
-use Rattle.history_plans.specs.declared.planning.Moves.{Moves}
+use Rattle.history_names.specs.declared.changing.MovedName.{MovedName}
 use Rattle.history_repository.specs.declared.stopped.Stopped.{Stopped}
 use Rattle.history_repository.specs.declared.stopped.Stopped.TheVariants.{Refused, Fault}
 use Rattle.history_model.specs.Repository as plain
@@ -24,13 +24,13 @@ TestsRename MayFail r from to (Err (Refused cause)) = first_cause r (Rename from
 TestsRename MayFail r from to (Err (Fault fault)) = IsReadingFault MayFail (Fault fault)
 
 -- the new name is made at what the old one holds, and its log says so
-pub record MakesName (r : plain.Repository) (from to : Bytes) (moves : Moves) : Type 0 where
+pub record MakesName (r : plain.Repository) (from to : Bytes) (moves : MovedName) : Type 0 where
   pub name : moves.name.items ≡ to
   pub entry : entry_of moves.entry ≡ rename_entry r from to
 
 -- The new name is to be made so if no cause holds; or it is refused for the first that holds, or a
 -- fault was met.
-abbrev pub PlansRename : Type 0 → plain.Repository → Bytes → Bytes → Result Moves Stopped → Type 0
+abbrev pub PlansRename : Type 0 → plain.Repository → Bytes → Bytes → Result MovedName Stopped → Type 0
 PlansRename MayFail r from to (Ok moves) =
     (first_cause r (Rename from to) ≡ None) × MakesName r from to moves
 PlansRename MayFail r from to (Err (Refused cause)) = first_cause r (Rename from to) ≡ Some cause

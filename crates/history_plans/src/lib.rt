@@ -19,7 +19,7 @@ mod tagging;
 pub use deleting::test_delete;
 pub use moving::plan_moves;
 pub use packing::names_to_pack;
-pub use planning::{Moves, Plan, plan_commit};
+pub use planning::{Plan, plan_commit};
 pub use renaming::plan_rename;
 pub use switching::test_switch;
 pub use tagging::{Tagged, plan_tag};

@@ -20,7 +20,7 @@ use crate::actors::{actor_at, has_good_names, time_of};
 use crate::apart::{do_lines_collide, have_twice};
 use crate::base::{Expected, read_expected, test_words};
 use crate::causes::is_bad_title;
-use crate::planning::{Moves, moves_to};
+use crate::planning::moves_to;
 use gix_hash::{Kind, ObjectId};
 use gix_ref_file::Files;
 use history_model::Cause;
@@ -28,7 +28,7 @@ use history_repository::{
     Held, ReadObjects, Repository, Stopped, WordMeaning, commit_held, id_before, id_held,
     is_private, kept, read_held, read_word,
 };
-use history_store::{Actor, is_name};
+use history_store::{Actor, MovedName, is_name};
 use history_word::{ActorLine, Field, MoveCommand, To};
 use std::alloc::{AllocError, Global};
 
@@ -95,7 +95,7 @@ impl Line {
         kind: Kind,
         actor: &Actor,
         message: &[u8],
-    ) -> Result<Moves, AllocError>
+    ) -> Result<MovedName, AllocError>
         ensures { (r : plain.Repository) (order : orders.MoveCommand) (to : orders.To)
             → IsLine r to self → kind ≡ r.kind → IsTeller order actor.now message.now
             → IfOk result (IsLineMove r order to) }
@@ -241,7 +241,7 @@ fn moves_of(
     lines: Vec<Line>,
     actor: &Actor,
     message: &[u8],
-) -> Result<Vec<Moves>, AllocError>
+) -> Result<Vec<MovedName>, AllocError>
     ensures { (r : plain.Repository) (order : orders.MoveCommand) → AreLines r order.to lines.items
         → kind ≡ r.kind → IsTeller order actor.now message.now
         → IfOk result (λ moves. AreMoves r order order.to moves.items) }
@@ -364,7 +364,7 @@ pub fn plan_moves<F: Files>(
     repository: &Repository<F>,
     alloc: Global,
     command: MoveCommand,
-) -> Result<Vec<Moves>, Stopped>
+) -> Result<Vec<MovedName>, Stopped>
     ensures { (r : plain.Repository) (order : orders.MoveCommand)
         → Stands F.is_honest F.history repository.now r → IsMove command order
         → PlansMoves F.reading_may_fail r order result }

@@ -32,7 +32,7 @@ use history_files::{EditedFiles, EditedTree};
 use history_model::limits::MAX_CONTENT;
 use history_model::{Cause, Fault};
 use history_repository::{PeeledCommit, Repository, Stopped, into_kept};
-use history_store::{Actor, LogEntry, NewObject, commit_bytes, plain_commit, title};
+use history_store::{Actor, LogEntry, MovedName, NewObject, commit_bytes, plain_commit, title};
 use history_word::{ActorLine, CommitCommand, Edit, Field};
 use std::alloc::{AllocError, Global};
 
@@ -41,14 +41,7 @@ use std::alloc::{AllocError, Global};
 pub struct Plan {
     /// The content of each `put`, the trees, each after those of its folders, the commit.
     pub objects: Vec<NewObject>,
-    pub moves: Moves,
-}
-
-/// A name that is to hold another id, and the line of its log that says so.
-#[derive(Drop)]
-pub struct Moves {
-    pub name: Vec<u8>,
-    pub entry: LogEntry,
+    pub moves: MovedName,
 }
 
 /// Who wrote a commit, and who made it.
@@ -79,7 +72,7 @@ struct Below {
 #[derive(Drop)]
 struct Committed {
     object: NewObject,
-    moves: Moves,
+    moves: MovedName,
 }
 
 /// Returns whether a tree is over the limit.
@@ -162,14 +155,14 @@ pub(crate) fn moves_to(
     after: ObjectId,
     actor: Actor,
     message: Vec<u8>,
-) -> Moves
+) -> MovedName
     ensures name { result.name ≡ name }
     ensures before { result.entry.before ≡ before }
     ensures after { result.entry.after ≡ after }
     ensures actor { result.entry.actor ≡ actor }
     ensures message { result.entry.message ≡ message }
 {
-    Moves {
+    MovedName {
         name,
         entry: LogEntry {
             before,

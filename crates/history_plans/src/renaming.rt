@@ -12,13 +12,13 @@ ghost use Rattle.history_plans.specs.Renaming.{MakesName, PlansRename, TestsRena
 ghost use Rattle.history_repository.specs.Stands.{Stands};
 ghost use Rattle.history_model.specs.Repository as plain;
 
-use crate::planning::{Moves, moves_to};
+use crate::planning::moves_to;
 use gix_hash::{Kind, ObjectId};
 use gix_object::lines::Time;
 use gix_ref_file::Files;
 use history_model::Cause;
 use history_repository::{Repository, Stopped, is_private};
-use history_store::{Actor, is_name};
+use history_store::{Actor, MovedName, is_name};
 use history_word::Rename;
 use std::alloc::{AllocError, Global};
 
@@ -55,7 +55,7 @@ fn renamer(alloc: Global) -> Result<Actor, AllocError>
 }
 
 /// Returns how the new name is made at this id.
-fn new_name(alloc: Global, kind: Kind, to: &[u8], id: ObjectId) -> Result<Moves, AllocError>
+fn new_name(alloc: Global, kind: Kind, to: &[u8], id: ObjectId) -> Result<MovedName, AllocError>
     ensures { (r : plain.Repository) (from : Bytes) → kind ≡ r.kind
         → id_at r from ≡ Some (id_of id) → id_at r to.now ≡ None
         → IfOk result (MakesName r from to.now) }
@@ -99,7 +99,7 @@ pub fn plan_rename<F: Files>(
     repository: &Repository<F>,
     alloc: Global,
     command: &Rename,
-) -> Result<Moves, Stopped>
+) -> Result<MovedName, Stopped>
     ensures { (r : plain.Repository) (from to : Bytes)
         → Stands F.is_honest F.history repository.now r → IsRename command.now from to
         → PlansRename F.reading_may_fail r from to result }

@@ -18,7 +18,7 @@ use crate::actors::{actor_at, has_good_names, time_of};
 use crate::base::{read_expected, test_words};
 use crate::causes::is_bad_title;
 use crate::moving::same_id;
-use crate::planning::{Moves, moves_to, new_object};
+use crate::planning::{moves_to, new_object};
 use gix_hash::ObjectId;
 use gix_object_lines::cut::strip_prefix;
 use gix_ref_file::Files;
@@ -28,7 +28,7 @@ use history_repository::{
     Held, ReadObjects, Repository, Stopped, commit_held, id_before, id_held, into_kept,
     is_too_long, kept, read_held, read_word,
 };
-use history_store::{Actor, NewObject, is_name, tag_bytes, title};
+use history_store::{Actor, MovedName, NewObject, is_name, tag_bytes, title};
 use history_word::{ActorLine, Expect, Field, TagCommand};
 use std::alloc::Global;
 
@@ -43,7 +43,7 @@ struct TagBase {
 #[derive(Drop)]
 pub struct Tagged {
     pub object: NewObject,
-    pub moves: Moves,
+    pub moves: MovedName,
 }
 
 /// Returns a tag's own name, which follows `refs/tags/`; `None` if no tag may have the name.

@@ -11,7 +11,7 @@ use Rattle.history_model.specs.Places.{file_at, packed_place}
 use Rattle.history_model.specs.Bytes.{Bytes}
 use Rattle.history_model.specs.PackedNames.{packed_with}
 use Rattle.history_check_names.specs.Packed.{is_good_file, is_packed_text}
-use Rattle.history_names.proofs.ReadRecords.{bad_header, bad_line}
+use Rattle.history_layout.proofs.ReadRecords.{bad_header, bad_line}
 
 no_records : (kind : Kind) (text : Bytes) → is_packed_text kind text ≡ true → packed_records kind text ≡ None → ⊥
 no_records kind text good none =

@@ -5,7 +5,7 @@ mod creation;
 
 pub use creation::{CreateError, create};
 pub use gix_object_lines::Kind as ObjectKind;
-pub use history_names::{NamedId, Names, PACKED, PackedName};
+pub use history_names::{MovedName, NamedId, Names, PACKED, PackedName};
 pub use history_objects::{
     Hit, IdIter, Lookup, Object, Objects, ObjectsRefusal, PutError, PutMadeError,
 };

@@ -1,12 +1,11 @@
 //! Ids as Git's texts spell them: in lower-case hexadecimal, and read in either letter case.
-ghost use Rattle.std.specs.Prelude.{◌≡◌, ◌≢◌, ◌++◌, OnOk, MatchOption, IsTrue};
+ghost use Rattle.std.specs.Prelude.{◌≡◌, ◌≢◌, MatchOption, IsTrue};
 ghost use Rattle.gix_hash_id.specs.Id.{Id, id_of};
 ghost use Rattle.history_model.specs.Forms.{is_id};
 ghost use Rattle.history_model.specs.Objects.{hex};
 
 use gix_hash::{Kind, ObjectId};
 use gix_ref_format::ids::parse_hex;
-use std::alloc::AllocError;
 
 /// Writes an id's lower-case hex digits to the start of a buffer, which `Kind::hex_buf` makes, and
 /// returns them.
@@ -14,14 +13,6 @@ pub fn hex_digits<'b>(id: &ObjectId, buffer: &'b mut [u8; 64]) -> &'b [u8]
     ensures { result.now ≡ hex (id_of id.now) }
 {
     id.hex_to_buf(buffer).as_bytes()
-}
-
-/// Appends an id's lower-case hex digits.
-pub fn push_hex(text: &mut Vec<u8>, id: &ObjectId) -> Result<(), AllocError>
-    ensures { OnOk result (text.new.items ≡ text.old.items ++ hex (id_of id.now)) }
-{
-    let mut digits = Kind::hex_buf();
-    text.extend_from_slice(hex_digits(id, &mut digits))
 }
 
 /// Returns the id of this kind that hex digits spell, all in lower case; `None` if they spell none.

@@ -15,7 +15,7 @@ mod written;
 
 pub use actor::{Actor, is_actor_part, parse_time};
 pub use commit::{commit_bytes, commit_tree, parse_commit, plain_commit};
-pub use id_text::{hex_digits, parse_lower_hex, push_hex};
+pub use id_text::{hex_digits, parse_lower_hex};
 pub use log_entry::{LogEntry, log_lines};
 pub use object::{NewObject, parse_header};
 pub use open_error::{NamedBy, OpenError};

@@ -3,11 +3,8 @@ ghost use Rattle.std.specs.Prelude.{◌≡◌, ◌++◌, List, IfOk, map, revers
 ghost use Rattle.std.specs.List.{All, flat_map};
 ghost use Rattle.gix_object_lines.specs.Bytes.{Lacks};
 ghost use Rattle.history_model.specs.Bytes.{Bytes, line};
-ghost use Rattle.history_model.specs.Logs.{log_line};
-ghost use Rattle.history_texts.specs.Formats.{entry_of};
 
 use crate::actor::Actor;
-use crate::id_text::push_hex;
 use gix_hash::ObjectId;
 use std::alloc::{AllocError, Global};
 
@@ -19,24 +16,6 @@ pub struct LogEntry {
     pub actor: Actor,
     /// One line, without its line feed.
     pub message: Vec<u8>,
-}
-
-impl LogEntry {
-    /// Returns the entry's line.
-    pub fn to_bytes(&self, alloc: Global) -> Result<Vec<u8>, AllocError>
-        ensures { IfOk result (λ text. text.items ≡ log_line (entry_of self.now)) }
-    {
-        let mut line = Vec::new(alloc);
-        push_hex(&mut line, &self.before)?;
-        line.push(b' ')?;
-        push_hex(&mut line, &self.after)?;
-        line.push(b' ')?;
-        self.actor.write_to(&mut line)?;
-        line.push(b'\t')?;
-        line.extend_from_slice(&self.message)?;
-        line.push(b'\n')?;
-        Ok(line)
-    }
 }
 
 /// Returns the lines of a log without their line feeds, the newest first. What follows the last

@@ -1,6 +1,5 @@
 //! The program's version.
 
-/// What `--version` prints after the program's name: the version, the kit that proves it, and that
-/// it is proved. The kit builds only what it has proved; whoever builds by other means writes
-/// `unproved` here first.
-pub(crate) const VERSION: &str = "0.1.0 (rattle-kit-13f, proved)";
+/// What `--version` prints after the program's name: the version, and that it is proved. The kit
+/// builds only what it has proved; whoever builds by other means writes `unproved` here first.
+pub(crate) const VERSION: &str = "0.1.0 (proved)";

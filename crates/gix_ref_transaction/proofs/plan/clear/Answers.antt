@@ -4,7 +4,7 @@ use Rattle.std.proofs.lemmas.Result.{err_from_is_err_and}
 use Rattle.gix_ref_way.proofs.Rooms.{way_only}
 use Rattle.gix_ref_transaction.specs.Errors.{of_file}
 use Rattle.gix_ref_transaction.specs.declared.error.PrepareError.TheVariants.{LockAcquire}
-use Rattle.gix_ref_transaction.proofs.Counting.{counts_file}
+use Rattle.gix_ref_transaction.proofs.Counting.{counts_file, file_memory}
 use Rattle.gix_ref_transaction.proofs.Takings.{err_same, file_no_lock, file_take}
 use Rattle.gix_ref_transaction.proofs.plan.clear.Goals as goal
 
@@ -28,7 +28,12 @@ pub returns-in_err-try_make_way-clause-counted : goal.returns-in_err-try_make_wa
 returns-in_err-try_make_way-clause-counted g c = λ honest.
     let f = g.F.Files.failures in
     let p = err_from_is_err_and c.from_residual.result c.from_residual.ensures.1 in
-    rw (p.1, p.2) (counts_file c.in_err-try_make_way.field-0.0 (f c.args.files.now) (f c.try_make_way.new.files) (λ is. c.in_err-try_make_way.ensures.failed honest c.requires (ap Err is)) (λ is. c.in_err-try_make_way.ensures.memory (ap Err is)))
+    rw (p.1, p.2) (counts_file c.in_err-try_make_way.field-0.0 (f c.args.files.now) (f c.try_make_way.new.files) (λ is. c.in_err-try_make_way.ensures.failed honest c.requires (ap Err is)))
+
+pub returns-in_err-try_make_way-clause-memory : goal.returns-in_err-try_make_way-clause-memory
+returns-in_err-try_make_way-clause-memory g c =
+    let p = err_from_is_err_and c.from_residual.result c.from_residual.ensures.1 in
+    rw (p.1, p.2) (λ other. c.in_err-try_make_way.ensures.memory (ap Err (file_memory c.in_err-try_make_way.field-0.0 other)))
 
 pub returns-in_err-try_make_way-clause-refused : goal.returns-in_err-try_make_way-clause-refused
 returns-in_err-try_make_way-clause-refused g c = λ honest.

@@ -1,7 +1,7 @@
 use Rattle.std.proofs.Common.{ap}
 use Rattle.std.specs.Prelude.{Err}
 use Rattle.std.proofs.lemmas.Result.{err_from_is_err_and}
-use Rattle.gix_ref_transaction.proofs.Counting.{counts_file}
+use Rattle.gix_ref_transaction.proofs.Counting.{counts_file, file_memory}
 use Rattle.gix_ref_transaction.proofs.Takings.{file_io}
 use Rattle.gix_ref_transaction.proofs.plan.fill.Goals as goal
 
@@ -9,7 +9,12 @@ pub returns-in_err-fill-clause-counted : goal.returns-in_err-fill-clause-counted
 returns-in_err-fill-clause-counted g c = λ honest held.
     let f = g.F.Files.failures in
     let p = err_from_is_err_and c.from_residual-in_err-fill.result c.from_residual-in_err-fill.ensures.1 in
-    rw (p.1, p.2) (counts_file c.in_err-fill.field-0.0 (f c.args.files.now) (f c.fill.new.files) (λ is. c.in_err-fill.ensures.failed honest held (ap Err is)) (λ is. c.in_err-fill.ensures.memory (ap Err is)))
+    rw (p.1, p.2) (counts_file c.in_err-fill.field-0.0 (f c.args.files.now) (f c.fill.new.files) (λ is. c.in_err-fill.ensures.failed honest held (ap Err is)))
+
+pub returns-in_err-fill-clause-memory : goal.returns-in_err-fill-clause-memory
+returns-in_err-fill-clause-memory g c =
+    let p = err_from_is_err_and c.from_residual-in_err-fill.result c.from_residual-in_err-fill.ensures.1 in
+    rw (p.1, p.2) (λ other. c.in_err-fill.ensures.memory (ap Err (file_memory c.in_err-fill.field-0.0 other)))
 
 pub returns-in_err-fill-clause-failed : goal.returns-in_err-fill-clause-failed
 returns-in_err-fill-clause-failed g c =

@@ -23,7 +23,7 @@ use Rattle.gix_object_lines.specs.NameTest.{is_full_name}
 use Rattle.gix_ref_transaction.specs.LogLines.{has_log, line_in, logging}
 use Rattle.gix_ref_transaction.specs.Causes.{EditFault}
 use Rattle.gix_ref_transaction.specs.Rollback.{MoreFilesAt}
-use Rattle.gix_ref_transaction.proofs.Counting.{after_no_lock, of_edit, or_after, take_edit}
+use Rattle.gix_ref_transaction.proofs.Counting.{after_no_lock, or_after, take_edit}
 use Rattle.gix_ref_transaction.proofs.Rollbacks.{more_on, unplanned_back}
 use Rattle.gix_ref_transaction.proofs.Takings.{err_same, still_room}
 use Rattle.gix_ref_transaction.proofs.Plannings.{among_alike, keeps_but, lined_alike, fault_alike}
@@ -130,16 +130,22 @@ returns-in_err-lock-clause-counted g c = λ honest.
 pub returns-clause-counted : goal.returns-clause-counted
 returns-clause-counted g c = λ honest.
     let f = g.F.Files.failures in
-    let b = base_of c.args.store.now in
-    let edit = c.args.edit.now in
     let mid = (g.F.Files.history c.take.new.files).tree in
     let lock = c.in_ok-lock.lock in
     let first = c.take.ensures.honest honest in
     let held = subst (λ p. IsTrue (is_file_at mid p)) (sym (lock.beside ∙ ap lock_of c.in_ok-lock.ensures.place)) (c.in_ok-lock.ensures.held honest) in
-    let l = logging c.args.store.now.options (state_among b mid (records_in c.args.packed)) c.args.committer in
-    let of = of_edit l (has_log b mid edit.name) g.F.Files.reading_may_fail edit c.in-Err.error (c.in-Err.ensures.failed first) in
-    c.unplanned.ensures.counted (f c.args.store.now.files) (c.act_of.ensures.honest first) (omega (arith, c.take.ensures.later, c.act_of.ensures.later)) (c.act_of.ensures.held first held) of
+    c.unplanned.ensures.counted (f c.args.store.now.files) (c.act_of.ensures.honest first) (omega (arith, c.take.ensures.later, c.act_of.ensures.later)) (c.act_of.ensures.held first held)
     (subst (λ n. Counts n (f c.act_of.new.store.files) c.in-Err.error) c.in_ok-lock.ensures.unfailed (c.in-Err.ensures.counted first held))
+
+pub returns-in_err-lock-clause-memory : goal.returns-in_err-lock-clause-memory
+returns-in_err-lock-clause-memory g c =
+    let p = err_from_is_err_and c.from_residual-in_err-lock.result c.from_residual-in_err-lock.ensures.1 in
+    rw (p.1, p.2) c.in_err-lock.ensures.memory
+
+pub returns-clause-memory : goal.returns-clause-memory
+returns-clause-memory g c = λ other.
+    let parts = c.unplanned.ensures.memory other in
+    parts.1 ∙ c.in-Err.ensures.memory parts.0 ∙ c.in_ok-lock.ensures.unfailed
 
 pub returns-in_err-lock-clause-refused : goal.returns-in_err-lock-clause-refused
 returns-in_err-lock-clause-refused g c = λ honest.
@@ -211,17 +217,13 @@ returns-clause-rolled_back g c = λ honest.
     let new = g.F.Files.history c.unplanned.new.files in
     let lock = c.in_ok-lock.lock in
     let f = g.F.Files.failures in
-    let b = base_of c.args.store.now in
-    let edit = c.args.edit.now in
-    let l = logging c.args.store.now.options (state_among b mid.tree (records_in c.args.packed)) c.args.committer in
     let held = subst (λ p. IsTrue (is_file_at mid.tree p)) (sym (lock.beside ∙ ap lock_of c.in_ok-lock.ensures.place)) (c.in_ok-lock.ensures.held honest) in
     let first = c.take.ensures.honest honest in
     let second = c.act_of.ensures.honest first in
     let stay = now_of (OthersStay lock.path.items mid.tree) mid then (λ path apart. refl) (c.act_of.ensures.moments first) in
     let still = now_of (OthersStay lock.path.items then.tree) then new (λ path apart. refl) (c.unplanned.ensures.moments second) in
     let came = more_on lock.path.items old mid.tree then.tree (subst (λ (l : List ℕ). MoreFilesAt (l ∷ []) old mid.tree) (sym (lock.beside ∙ ap lock_of c.in_ok-lock.ensures.place)) (c.in_ok-lock.ensures.locked honest)) stay in
-    let of = of_edit l (has_log b mid.tree edit.name) g.F.Files.reading_may_fail edit c.in-Err.error (c.in-Err.ensures.failed first) in
-    let counts = c.unplanned.ensures.counted (f c.args.store.now.files) second (omega (arith, c.take.ensures.later, c.act_of.ensures.later)) (c.act_of.ensures.held first held) of
+    let counts = c.unplanned.ensures.counted (f c.args.store.now.files) second (omega (arith, c.take.ensures.later, c.act_of.ensures.later)) (c.act_of.ensures.held first held)
     (subst (λ n. Counts n (f c.act_of.new.store.files) c.in-Err.error) c.in_ok-lock.ensures.unfailed (c.in-Err.ensures.counted first held)) in
     unplanned_back (f c.args.store.now.files) (f c.unplanned.new.files) lock.path.items old new.tree c.unplanned.result
     (more_on lock.path.items old then.tree new.tree came still) (c.unplanned.ensures.rolled_back second) counts
@@ -244,7 +246,7 @@ returns-in_err-log-clause-rolled_back g c = λ honest.
 pub returns-in_err-place-clause-counted : goal.returns-in_err-place-clause-counted
 returns-in_err-place-clause-counted g c = λ honest.
     let p = err_from_is_err_and c.from_residual.result c.from_residual.ensures.1 in
-    rw (p.1, p.2) refl
+    rw (p.1, p.2) tt
 
 pub returns-in_err-place-clause-refused : goal.returns-in_err-place-clause-refused
 returns-in_err-place-clause-refused g c = λ honest.
@@ -257,7 +259,7 @@ returns-in_err-place-clause-folders g c = λ honest. adds_nothing (g.F.Files.his
 pub returns-in_err-log-clause-counted : goal.returns-in_err-log-clause-counted
 returns-in_err-log-clause-counted g c = λ honest.
     let p = err_from_is_err_and c.from_residual-in_err-log.result c.from_residual-in_err-log.ensures.1 in
-    rw (p.1, p.2) refl
+    rw (p.1, p.2) tt
 
 pub returns-in_err-log-clause-refused : goal.returns-in_err-log-clause-refused
 returns-in_err-log-clause-refused g c = λ honest.

@@ -10,7 +10,7 @@ use Rattle.gix_ref_moves.proofs.LockPaths.{locks_joined, one_lock, same_files}
 use Rattle.gix_ref_way.proofs.Rooms.{only_now, onlys_joined, onlys_same}
 use Rattle.gix_ref_transaction.specs.Errors.{of_file}
 use Rattle.gix_ref_transaction.specs.declared.error.PrepareError.TheVariants.{LockAcquire}
-use Rattle.gix_ref_transaction.proofs.Counting.{counts_file}
+use Rattle.gix_ref_transaction.proofs.Counting.{counts_file, file_memory}
 use Rattle.gix_ref_transaction.proofs.Plannings.{keeps_same, keeps_joined}
 use Rattle.gix_ref_transaction.proofs.Rollbacks.{same_more, trees_more, more_after, untaken}
 use Rattle.gix_ref_transaction.proofs.Takings.{blamed, err_same, file_no_lock, file_take, found_so, fresh_keeps, still_free, still_room}
@@ -39,6 +39,11 @@ pub returns-in_err-clear-clause-counted : goal.returns-in_err-clear-clause-count
 returns-in_err-clear-clause-counted g c = λ honest.
     let p = err_from_is_err_and c.from_residual.result c.from_residual.ensures.1 in
     rw (p.1, p.2) (c.in_err-clear.ensures.counted honest)
+
+pub returns-in_err-clear-clause-memory : goal.returns-in_err-clear-clause-memory
+returns-in_err-clear-clause-memory g c =
+    let p = err_from_is_err_and c.from_residual.result c.from_residual.ensures.1 in
+    rw (p.1, p.2) c.in_err-clear.ensures.memory
 
 pub returns-in_err-clear-clause-refused : goal.returns-in_err-clear-clause-refused
 returns-in_err-clear-clause-refused g c = λ honest.
@@ -96,8 +101,12 @@ returns-in_err-made-clause-counted g c = λ honest.
     let p = err_from_is_err_and c.from_residual-in_err-made.result c.from_residual-in_err-made.ensures.1 in
     rw (p.1, p.2) (counts_file c.in_err-made.field-0.0 (f c.args.files.now) (f c.acquire.new.files)
     (λ is. subst (λ n. HasRisen n (f c.acquire.new.files)) still (blamed (HasRisen (f c.clear.new.files) (f c.acquire.new.files)) (is_path (lock_of c.args.place.now)) c.requires.1
-    (c.in_err-made.ensures.blamed (c.clear.ensures.honest honest) (c.in_ok-clear.ensures.room honest) (ap Err is))))
-    (λ is. c.in_err-made.ensures.memory (ap Err is) ∙ still))
+    (c.in_err-made.ensures.blamed (c.clear.ensures.honest honest) (c.in_ok-clear.ensures.room honest) (ap Err is)))))
+
+pub returns-in_err-made-clause-memory : goal.returns-in_err-made-clause-memory
+returns-in_err-made-clause-memory g c =
+    let p = err_from_is_err_and c.from_residual-in_err-made.result c.from_residual-in_err-made.ensures.1 in
+    rw (p.1, p.2) (λ other. c.in_err-made.ensures.memory (ap Err (file_memory c.in_err-made.field-0.0 other)) ∙ c.in_ok-clear.ensures.unfailed)
 
 pub returns-in_err-made-clause-refused : goal.returns-in_err-made-clause-refused
 returns-in_err-made-clause-refused g c = λ honest.
@@ -146,8 +155,8 @@ returns-in-None-clause-rolled_back g c = λ honest.
     inl (λ path there. same_more old.tree mid.tree (same_now old mid (c.clear.ensures.moments honest)) path
     (trees_more mid.tree new.tree (c.in_ok-made.ensures.kept (c.clear.ensures.honest honest) c.in-None.is) path there))
 
-pub returns-in-None-clause-counted : goal.returns-in-None-clause-counted
-returns-in-None-clause-counted g c = λ honest. c.in_ok-made.ensures.unfailed ∙ c.in_ok-clear.ensures.unfailed
+pub returns-in-None-clause-memory : goal.returns-in-None-clause-memory
+returns-in-None-clause-memory g c = λ other. c.in_ok-made.ensures.unfailed ∙ c.in_ok-clear.ensures.unfailed
 
 pub returns-in-None-clause-refused : goal.returns-in-None-clause-refused
 returns-in-None-clause-refused g c = λ honest is can.

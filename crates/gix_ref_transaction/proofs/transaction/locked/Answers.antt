@@ -34,7 +34,7 @@ use Rattle.gix_ref_transaction.specs.Plans.{AllPlanned, AllTested}
 use Rattle.gix_ref_transaction.specs.Reads.{AllGiveKind, AllReadBack}
 use Rattle.gix_ref_transaction.specs.Rollback.{AllGone, SameFilesBut, all_locks}
 use Rattle.gix_ref_transaction.proofs.Committable.{all_same_but, can_commit, commit_once, records_same_but, same_but}
-use Rattle.gix_ref_transaction.proofs.Counting.{after_no_records, after_unresolved, records_cause, records_count, records_unresolved, some_edit}
+use Rattle.gix_ref_transaction.proofs.Counting.{after_no_records, after_unresolved, quiet_other, records_cause, records_count, records_quiet, records_unresolved, some_edit}
 use Rattle.gix_ref_transaction.proofs.Faults.{by_all, by_records}
 use Rattle.gix_ref_transaction.proofs.LockedEdits.{held_now, names_beside, names_paths, not_lockable}
 use Rattle.gix_ref_transaction.proofs.Plannings.{among_alike, tested_alike, all_lined_alike, some_fault_alike}
@@ -145,7 +145,13 @@ pub returns-in_err-records-clause-counted : goal.returns-in_err-records-clause-c
 returns-in_err-records-clause-counted g c = λ honest.
     let f = g.F.Files.failures in
     let p = err_from_is_err_and c.from_residual.result c.from_residual.ensures.1 in
-    rw (p.1, p.2) (records_count (f c.args.store.now.files) (f c.repack.new.store.files) c.in_err-records.field-0.0 c.in_err-records.ensures.memory (λ early. ap (λ s. f s.files) (c.in_err-records.ensures.early early)))
+    rw (p.1, p.2) (records_count (f c.args.store.now.files) (f c.repack.new.store.files) c.in_err-records.field-0.0)
+
+pub returns-in_err-records-clause-memory : goal.returns-in_err-records-clause-memory
+returns-in_err-records-clause-memory g c =
+    let f = g.F.Files.failures in
+    let p = err_from_is_err_and c.from_residual.result c.from_residual.ensures.1 in
+    rw (p.1, p.2) (records_quiet (f c.repack.new.store.files ≡ f c.args.store.now.files) c.in_err-records.field-0.0 c.in_err-records.ensures.memory (λ early. ap (λ s. f s.files) (c.in_err-records.ensures.early early)))
 
 pub returns-in_err-records-clause-records : goal.returns-in_err-records-clause-records
 returns-in_err-records-clause-records g c = λ honest can.
@@ -193,14 +199,18 @@ returns-in-Err-clause-counted g c = λ honest.
     let mid = (g.F.Files.history c.repack.new.store.files).tree in
     let then = (g.F.Files.history c.plan_all.new.store.files).tree in
     let held = held_now c.in_ok-records.records mid then (c.plan_all.ensures.keeps first) (c.in_ok-records.ensures.held honest) in
-    let of = some_edit (logging c.repack.new.store.options (reads_with c.repack.new.store mid c.args.packed) c.args.committer) (base_of c.repack.new.store) mid g.F.Files.reading_may_fail c.deref-2.result.now c.in-Err.error (c.in-Err.ensures.failed first) in
     let records = c.in_ok-records.records in
     let moves = c.plan_all.new.moves.items in
     let own : moves ≡ c.deref-in-Err.result.now = sym c.deref-in-Err.ensures.value in
     let all = subst (λ (ms : List Move). AreHeld records ms then) own (record { packed = held; each = c.plan_all.ensures.held first }) in
     let once = subst (λ (ms : List Move). Once (all_locks records ms)) own (all_once records moves mid (c.in_ok-records.ensures.held honest) (c.plan_all.ensures.fresh first) (c.plan_all.ensures.once first)) in
-    c.drop_all.ensures.counted (f c.args.store.now.files) (c.plan_all.ensures.honest first) (omega (arith, c.repack.ensures.later, c.plan_all.ensures.later)) all once of
+    c.drop_all.ensures.counted (f c.args.store.now.files) (c.plan_all.ensures.honest first) (omega (arith, c.repack.ensures.later, c.plan_all.ensures.later)) all once
     (subst (λ n. Counts n (f c.plan_all.new.store.files) c.in-Err.error) c.in_ok-records.ensures.unfailed (c.in-Err.ensures.counted first))
+
+pub returns-in-Err-clause-memory : goal.returns-in-Err-clause-memory
+returns-in-Err-clause-memory g c = λ quiet.
+    let parts = c.drop_all.ensures.memory (quiet_other c.drop_all.result quiet) in
+    parts.1 ∙ c.in-Err.ensures.memory parts.0 ∙ c.in_ok-records.ensures.unfailed
 
 pub returns-in-Err-clause-records : goal.returns-in-Err-clause-records
 returns-in-Err-clause-records g c = λ honest can of_records.
@@ -252,13 +262,12 @@ returns-in-Err-clause-rolled_back g c = λ honest.
     let stay = now_of (OthersStay lock old.tree) old mid (λ path apart. refl) (c.repack.ensures.moments honest) in
     let came = with_records lock c.in_ok-records.records old.tree mid.tree stay (c.in_ok-records.ensures.here honest) (λ none. ap (λ s. (g.F.Files.history s.files).tree) (c.in_ok-records.ensures.idle none)) in
     let held = held_now c.in_ok-records.records mid.tree then (c.plan_all.ensures.keeps first) (c.in_ok-records.ensures.held honest) in
-    let of = some_edit (logging c.repack.new.store.options (reads_with c.repack.new.store mid.tree c.args.packed) c.args.committer) (base_of c.repack.new.store) mid.tree g.F.Files.reading_may_fail c.deref-2.result.now c.in-Err.error (c.in-Err.ensures.failed first) in
     let records = c.in_ok-records.records in
     let moves = c.plan_all.new.moves.items in
     let own : moves ≡ c.deref-in-Err.result.now = sym c.deref-in-Err.ensures.value in
     let all = subst (λ (ms : List Move). AreHeld records ms then) own (record { packed = held; each = c.plan_all.ensures.held first }) in
     let once = subst (λ (ms : List Move). Once (all_locks records ms)) own (all_once records moves mid.tree (c.in_ok-records.ensures.held honest) (c.plan_all.ensures.fresh first) (c.plan_all.ensures.once first)) in
-    let counts = c.drop_all.ensures.counted (f c.args.store.now.files) second (omega (arith, c.repack.ensures.later, c.plan_all.ensures.later)) all once of
+    let counts = c.drop_all.ensures.counted (f c.args.store.now.files) second (omega (arith, c.repack.ensures.later, c.plan_all.ensures.later)) all once
     (subst (λ n. Counts n (f c.plan_all.new.store.files) c.in-Err.error) c.in_ok-records.ensures.unfailed (c.in-Err.ensures.counted first)) in
     let dropped = subst (λ (ms : List Move). AllGone ms c.in_ok-records.records then new ⊎ MayBeLeft c.drop_all.result) c.deref-in-Err.ensures.value (c.drop_all.ensures.rolled_back second) in
     dropped_back (f c.args.store.now.files) (f c.repack.new.store.files) (f c.plan_all.new.store.files) (f c.drop_all.new.files) c.plan_all.new.moves.items c.in_ok-records.records old.tree mid.tree then new c.in-Err.error c.drop_all.result

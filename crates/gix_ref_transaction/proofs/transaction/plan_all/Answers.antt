@@ -217,7 +217,17 @@ returns-in_err-planned-clause-counted g c = λ honest.
 pub returns-in_err-push-clause-counted : goal.returns-in_err-push-clause-counted
 returns-in_err-push-clause-counted g c = λ honest.
     let p = err_from_is_err_and c.from_residual-in_err-push.result c.from_residual-in_err-push.ensures.1 in
-    rw (p.1, p.2) (c.in_ok-planned.ensures.unfailed ∙ c.edits.invariant.unfailed)
+    rw (p.1, p.2) tt
+
+pub returns-in_err-planned-clause-memory : goal.returns-in_err-planned-clause-memory
+returns-in_err-planned-clause-memory g c =
+    let p = err_from_is_err_and c.from_residual.result c.from_residual.ensures.1 in
+    rw (p.1, p.2) (λ other. c.in_err-planned.ensures.memory other ∙ c.edits.invariant.unfailed)
+
+pub returns-in_err-push-clause-memory : goal.returns-in_err-push-clause-memory
+returns-in_err-push-clause-memory g c =
+    let p = err_from_is_err_and c.from_residual-in_err-push.result c.from_residual-in_err-push.ensures.1 in
+    rw (p.1, p.2) (λ other. c.in_ok-planned.ensures.unfailed ∙ c.edits.invariant.unfailed)
 
 pub returns-in_err-planned-clause-folders : goal.returns-in_err-planned-clause-folders
 returns-in_err-planned-clause-folders g c = λ honest.

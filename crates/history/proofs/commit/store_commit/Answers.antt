@@ -6,12 +6,20 @@ use Rattle.history.specs.Acts.{CountsFailure}
 use Rattle.history.specs.Storing.{HasStored}
 use Rattle.history_repository.specs.Face.{objects_part}
 use Rattle.history_plans.specs.Halves.{objects_tree}
-use Rattle.history.proofs.Storing.{objects_stopped, planned_stored, planned_pass, planned_known}
+use Rattle.history_layout.specs.OneNameSteps.{commit_move}
+use Rattle.history.proofs.NamesPlanned.{made_id, one_moved}
+use Rattle.history.proofs.Storing.{objects_stopped, planned_stored, planned_pass, planned_known, stored_without_memory}
 use Rattle.history.proofs.Stood.{adds_same}
 use Rattle.history.proofs.Told.{passed_on}
 use Rattle.history.proofs.Counts.{stay_same}
 use Rattle.history_repository.specs.declared.stopped.Stopped.TheVariants.{Fault}
 use Rattle.history.proofs.commit.store_commit.Goals as goal
+
+pub returns-in_err-moved-clause-stores : goal.returns-in_err-moved-clause-stores
+returns-in_err-moved-clause-stores g c = λ r order asked.
+    let old = c.args.repository.now in
+    let stopped = err_from_is_err_and c.from_residual-in_err-moved.result c.from_residual-in_err-moved.ensures.1 in
+    stored_without_memory (CountsFailure g.F.Files.failures g.F.Files.reading_may_fail old old) (HasStored g.F.Files.is_honest g.F.Files.history old r (Commit order)) r (Commit order) c.from_residual-in_err-moved.result (stopped.1 ∙ ap Err stopped.2)
 
 pub returns-in_err-put_all-clause-stores : goal.returns-in_err-put_all-clause-stores
 returns-in_err-put_all-clause-stores g c = λ r order asked.
@@ -33,7 +41,15 @@ returns-clause-stores g c = λ r order asked.
     let CallFailed = CountsFailure g.F.Files.failures g.F.Files.reading_may_fail old new in
     let stored = planned_stored g.F.Files.is_honest g.F.Files.history old r order c.in_ok-plan.plan h plan.1 c.deref.result.now c.deref.ensures.value
     CallFailed (objects_tree g.F.Files.history new) (Ok tt) c.in_ok-put_all.ensures.stores in (
-      record { none = plan.0; free = stored.0; told = plan.1.moves },
+      record {
+        none = plan.0;
+        free = stored.0;
+        told = record {
+          is = made_id r (commit_move r order) c.in_ok-plan.plan.moves plan.1.moves;
+          moves = one_moved r (commit_move r order) c.in_ok-plan.plan.moves c.in_ok-moved.moved.items c.in_ok-moved.ensures plan.1.moves;
+          takes = refl;
+        };
+      },
       record {
         before = old;
         stood = h;
@@ -48,6 +64,9 @@ returns-clause-stores g c = λ r order asked.
 
 pub returns-in_err-plan-clause-passes : goal.returns-in_err-plan-clause-passes
 returns-in_err-plan-clause-passes g c = λ r order asked. adds_same _ _ refl
+
+pub returns-in_err-moved-clause-passes : goal.returns-in_err-moved-clause-passes
+returns-in_err-moved-clause-passes g c = λ r order asked. adds_same _ _ refl
 
 pub returns-in_err-put_all-clause-passes : goal.returns-in_err-put_all-clause-passes
 returns-in_err-put_all-clause-passes g c = λ r order asked.
@@ -65,6 +84,9 @@ returns-clause-passes g c = λ r order asked.
 
 pub returns-in_err-plan-clause-memory : goal.returns-in_err-plan-clause-memory
 returns-in_err-plan-clause-memory g c = λ fault told other. stay_same g.F.Files.failures c.args.repository.now c.args.repository.now refl
+
+pub returns-in_err-moved-clause-memory : goal.returns-in_err-moved-clause-memory
+returns-in_err-moved-clause-memory g c = λ fault told other. stay_same g.F.Files.failures c.args.repository.now c.args.repository.now refl
 
 pub returns-in_err-put_all-clause-memory : goal.returns-in_err-put_all-clause-memory
 returns-in_err-put_all-clause-memory g c = λ fault told other.

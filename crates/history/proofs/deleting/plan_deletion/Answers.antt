@@ -1,6 +1,7 @@
-use Rattle.std.proofs.Common.{◌∙◌, ap, refl, Err}
+use Rattle.std.proofs.Common.{◌∙◌, ap, refl, Err, Some}
 use Rattle.std.proofs.lemmas.Result.{err_from_is_err_and}
 use Rattle.history_model.specs.Commands.{Delete}
+use Rattle.history.specs.Moving.{edits_of}
 use Rattle.history.proofs.MovesPlanned.{tests_failed}
 use Rattle.history.proofs.deleting.plan_deletion.Goals as goal
 
@@ -10,4 +11,4 @@ returns-in_err-test_delete g c = λ r name at h is.
     tests_failed g.F.Files.reading_may_fail r c.from_residual.result c.in_err-test_delete.field-0.0 (stopped.1 ∙ ap Err stopped.2) (Delete name at) c.test_delete.result c.in_err-test_delete.was (c.test_delete.ensures r name at h is)
 
 pub returns : goal.returns
-returns g c = λ r name at h is. record { none = c.in_ok-test_delete.ensures r name at h is; free = refl; told = is.name_is }
+returns g c = λ r name at h is. record { none = c.in_ok-test_delete.ensures r name at h is; free = refl; told = record { is = tt; moves = ap edits_of c.new.ensures.items; takes = ap Some is.name_is } }

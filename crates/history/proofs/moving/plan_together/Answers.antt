@@ -1,6 +1,7 @@
 use Rattle.std.proofs.Common.{◌∙◌, ap, refl, Err}
 use Rattle.std.proofs.lemmas.Result.{err_from_is_err_and}
 use Rattle.history.proofs.MovesPlanned.{moves_unplanned}
+use Rattle.history.proofs.NamesPlanned.{lines_moved}
 use Rattle.history.proofs.moving.plan_together.Goals as goal
 
 pub returns-in_err-plan_moves : goal.returns-in_err-plan_moves
@@ -11,4 +12,4 @@ returns-in_err-plan_moves g c = λ r order h is.
 pub returns : goal.returns
 returns g c = λ r order h is.
     let planned = c.in_ok-plan_moves.ensures r order h is in
-    record { none = planned.0; free = refl; told = planned.1 }
+    record { none = planned.0; free = refl; told = record { is = tt; moves = lines_moved r order order.to c.in_ok-plan_moves.field-0.items planned.1; takes = refl } }

@@ -3,7 +3,7 @@ use Rattle.gix_ref_file.specs.History.{Adds}
 use Rattle.history_names.specs.Packed.{AllOfKind, ArePacked, MayPack}
 use Rattle.history_names.proofs.NamesPacked.{kinds_told, packs_moments, packs_names}
 use Rattle.history_names.proofs.Removals.{same_folders_now}
-use Rattle.history.proofs.DeleteLemmas.{packed_room}
+use Rattle.history.proofs.PackLemmas.{packed_room}
 use Rattle.history_plans.proofs.PackedLines.{all_records}
 use Rattle.history_layout.specs.PackSteps.{PacksNames}
 use Rattle.history.proofs.MoveFaults.{met_fault}

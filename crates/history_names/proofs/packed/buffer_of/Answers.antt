@@ -1,4 +1,4 @@
-use Rattle.history_names.proofs.ReadRecords.{bad_header, bad_line}
+use Rattle.history_layout.proofs.ReadRecords.{bad_header, bad_line}
 use Rattle.history_names.proofs.packed.buffer_of.Goals as goal
 
 pub returns-in-Err-Iter-clause-failed : goal.returns-in-Err-Iter-clause-failed

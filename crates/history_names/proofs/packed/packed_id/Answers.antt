@@ -1,5 +1,5 @@
 use Rattle.std.proofs.Common.{◌≡◌, ◌∙◌, sym, true, false}
-use Rattle.history_names.proofs.NameRead.{full_of}
+use Rattle.history_layout.proofs.FullNames.{full_of}
 use Rattle.history_names.proofs.packed.packed_id.Goals as goal
 
 pub returns-in-Err : goal.returns-in-Err

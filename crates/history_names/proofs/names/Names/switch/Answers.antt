@@ -1,72 +1,94 @@
-use Rattle.std.proofs.Common.{◌≡◌, refl, ◌∙◌, ap, subst, ⊎_elim, Err}
-use Rattle.std.proofs.lemmas.Result.{err_from_is_err_and}
+use Rattle.std.proofs.Common.{◌≡◌, ◌∙◌, ap, inr, rules, subst, sym, Err}
+use Rattle.std.proofs.lemmas.Result.{err_from_is_err_and, on_ok_weaker}
 use Rattle.gix_ref_file.specs.History.{Adds}
-use Rattle.gix_ref_file.specs.declared.files.FileError.TheVariants.{Failed}
+use Rattle.gix_ref_file.specs.declared.files.FileError.TheVariants.{Failed, Memory}
 use Rattle.gix_ref_file.proofs.Histories.{adds_nothing}
-use Rattle.history_model.specs.Places.{head_place}
-use Rattle.history_names.specs.References.{head_lock}
-use Rattle.history_names.specs.References.{PutsBeside, MayBeWritten}
-use Rattle.history_names.proofs.Beside.{lock_beside, rename_beside, put_beside, told_error}
-use Rattle.gix_ref_way.proofs.FoldersMade.{caused}
-use Rattle.gix_ref_way.proofs.OneFile.{ones_folders, renamed_after}
-use Rattle.history_names.proofs.HeadNamed.{lock_room, may_follow}
-use Rattle.gix_ref_way.proofs.Stored.{on_ok_both}
-use Rattle.history_names.proofs.Taken.{head_keeps, keeps_on}
+use Rattle.gix_ref_moves.specs.Needs.{IsOutOfMemory}
+use Rattle.history_layout.specs.SwitchSteps.{HeadOnTheWay}
+use Rattle.history_model.specs.Places.{file_at, packed_place}
+use Rattle.history_names.specs.Packing.{FileSaysLeft}
+use Rattle.history_names.specs.declared.packed.Kept.{Kept}
+use Rattle.history_names.specs.Faults.{of_committing, of_preparing}
+use Rattle.history_names.proofs.Beside.{told_error}
+use Rattle.history_names.proofs.HeadChanges.{switch_keeps, switch_names, switch_passes, uncommitted, unprepared_passes, unprepared_told}
+use Rattle.history_names.proofs.Transactions.{commit_failed, commit_wants, prepare_quiet}
 use Rattle.history_names.proofs.names.Names.switch.Goals as goal
 
-pub returns-clause-switched : goal.returns-clause-switched
-returns-clause-switched g c = λ honest.
-    let old = g.F.Files.history c.args.self.now.store.files in
-    let locked = g.F.Files.history c.write_anew.new.files in
-    let new = g.F.Files.history c.rename.new.self in
-    let renamed = c.rename.ensures.change (c.write_anew.ensures.honest honest) in
-    on_ok_both c.rename.result
-    (λ may is. subst (λ bytes. PutsBeside head_place bytes old.tree new.tree) (c.deref.ensures.value ∙ c.in_ok-text.ensures)
-    (put_beside head_place c.deref.result.now head_lock refl old old locked new (adds_nothing old) (c.in_ok-write_anew.ensures.allowed honest) (c.in_ok-write_anew.ensures.made honest) may is))
-    renamed.allowed renamed.made
+pub returns-in_err-edits-clause-moments : goal.returns-in_err-edits-clause-moments
+returns-in_err-edits-clause-moments g c = λ r may. adds_nothing (g.F.Files.history c.args.self.now.store.files)
 
-pub returns-clause-keeps : goal.returns-clause-keeps
-returns-clause-keeps g c = λ honest keeps.
-    let old = c.args.self.now in
-    let before = g.F.Files.history old.store.files in
-    let locked = g.F.Files.history c.write_anew.new.files in
-    let new = g.F.Files.history c.rename.new.self in
-    let renamed = c.rename.ensures.change (c.write_anew.ensures.honest honest) in
-    on_ok_both c.rename.result
-    (λ may is. keeps_on old (record old { store = record old.store { files = c.rename.new.self }; root = old.root }) before.tree new.tree refl refl
-    (head_keeps c.deref.result.now before.tree new.tree (put_beside head_place c.deref.result.now head_lock refl before before locked new (adds_nothing before) (c.in_ok-write_anew.ensures.allowed honest) (c.in_ok-write_anew.ensures.made honest) may is)) keeps)
-    renamed.allowed renamed.made
+pub returns-in_err-edits-clause-failed : goal.returns-in_err-edits-clause-failed
+returns-in_err-edits-clause-failed g c = λ r may failed.
+    let error = err_from_is_err_and c.from_residual.result c.from_residual.ensures.1 in
+    let same : c.head_edit.result ≡ Err Failed = c.in_err-edits.was ∙ ap Err (told_error c.from_residual.result c.in_err-edits.field-0.0 error.0 error.1 error.2 failed) in
+    absurd (c.head_edit.ensures.failed may.named may.names_to same)
 
-pub returns-in_err-write_anew-clause-moments : goal.returns-in_err-write_anew-clause-moments
-returns-in_err-write_anew-clause-moments g c = λ honest.
-    let old = g.F.Files.history c.args.self.now.store.files in
-    let locked = g.F.Files.history c.write_anew.new.files in
-    subst (λ bytes. Adds (MayBeWritten head_place bytes old.tree) old locked) (c.deref.ensures.value ∙ c.in_ok-text.ensures)
-    (lock_beside head_place c.deref.result.now head_lock refl old old locked locked (adds_nothing old) (c.write_anew.ensures.moments honest))
+pub returns-in_err-refresh-clause-moments : goal.returns-in_err-refresh-clause-moments
+returns-in_err-refresh-clause-moments g c = λ r may.
+    let history = g.F.Files.history in
+    let old = c.args.self.now.store.files in
+    subst (λ f. Adds (HeadOnTheWay c.args.to.now (history old).tree) (history old) (history f)) (sym c.refresh.ensures.files) (adds_nothing (history old))
 
-pub returns-clause-moments : goal.returns-clause-moments
-returns-clause-moments g c = λ honest.
-    let old = g.F.Files.history c.args.self.now.store.files in
-    let locked = g.F.Files.history c.write_anew.new.files in
-    let new = g.F.Files.history c.rename.new.self in
-    let renamed = c.rename.ensures.change (c.write_anew.ensures.honest honest) in
-    subst (λ bytes. Adds (MayBeWritten head_place bytes old.tree) old new) (c.deref.ensures.value ∙ c.in_ok-text.ensures)
-    (rename_beside head_place c.deref.result.now head_lock refl old old locked new (adds_nothing old) (c.in_ok-write_anew.ensures.allowed honest) (c.in_ok-write_anew.ensures.made honest) (c.write_anew.ensures.moments honest) renamed.moments)
+pub returns-in_err-refresh-clause-failed : goal.returns-in_err-refresh-clause-failed
+returns-in_err-refresh-clause-failed g c = λ r may failed.
+    let inner = c.in_err-refresh.ensures.failed may.whole.honest may.whole.records in
+    let residual = c.from_residual-in_err-refresh.ensures in
+    inr (inner (search rules))
 
-pub returns-in_err-write_anew-clause-folders : goal.returns-in_err-write_anew-clause-folders
-returns-in_err-write_anew-clause-folders g c = λ honest. ones_folders head_lock _ _ (c.write_anew.ensures.moments honest)
+pub returns-in-Err-clause-moments : goal.returns-in-Err-clause-moments
+returns-in-Err-clause-moments g c = λ r may.
+    unprepared_passes g.F.Files.is_honest g.F.Files.history g.F.Files.failures g.F.Files.reading_may_fail c.args.self.now c.refresh.new.self c.refresh.ensures.files c.refresh.ensures.kind c.in_ok-refresh.ensures.keeps c.args.from.now c.args.to.now c.in_ok-edits.edits.items c.in_ok-edits.ensures.asks c.as_ref-records.result c.as_ref-records.ensures.value r may
+    c.prepare_with.new.store.files c.prepare_with.ensures.moments c.prepare_with.ensures.folders
 
-pub returns-clause-folders : goal.returns-clause-folders
-returns-clause-folders g c = λ honest. renamed_after head_lock head_place _ _ _ (c.write_anew.ensures.moments honest) (c.rename.ensures.change (c.write_anew.ensures.honest honest)).moments
+pub returns-in-Err-clause-memory : goal.returns-in-Err-clause-memory
+returns-in-Err-clause-memory g c = λ told.
+    let is : of_preparing c.in-Err.error ≡ Memory = cc (told, c.of_preparing.ensures) in
+    c.in-Err.ensures.memory (prepare_quiet c.in-Err.error is) ∙ ap g.F.Files.failures c.refresh.ensures.files
 
-pub returns-in_err-write_anew-clause-failed : goal.returns-in_err-write_anew-clause-failed
-returns-in_err-write_anew-clause-failed g c = λ honest room failed.
-    let error = err_from_is_err_and c.from_residual-in_err-write_anew.result c.from_residual-in_err-write_anew.ensures.1 in
-    let same : c.write_anew.result ≡ Err Failed = c.in_err-write_anew.was ∙ ap Err (told_error c.from_residual-in_err-write_anew.result c.in_err-write_anew.field-0.0 error.0 error.1 error.2 failed) in
-    c.write_anew.ensures.failed honest (lock_room (g.F.Files.history c.args.self.now.store.files).tree room) same
+pub returns-in-Err-clause-failed : goal.returns-in-Err-clause-failed
+returns-in-Err-clause-failed g c = λ r may failed.
+    let is : of_preparing c.in-Err.error ≡ Failed = cc (failed, c.of_preparing.ensures) in
+    let honest = subst g.F.Files.is_honest (sym c.refresh.ensures.files) may.whole.honest in
+    unprepared_told g.F.Files.is_honest g.F.Files.history g.F.Files.failures g.F.Files.reading_may_fail c.args.self.now c.refresh.new.self c.refresh.ensures.files c.refresh.ensures.kind c.in_ok-refresh.ensures.keeps c.args.from.now c.args.to.now c.in_ok-edits.edits.items c.in_ok-edits.ensures.asks c.as_ref-records.result c.as_ref-records.ensures.value r may
+    (g.F.Files.failures c.prepare_with.new.store.files) _ _ (g.met.F.Files.rooted c.refresh.new.self.store.files honest) c.in-Err.error is
+    c.in-Err.ensures.causes c.in-Err.ensures.counted c.in-Err.ensures.records (λ honest. c.in-Err.ensures.resolves honest tt)
 
-pub returns-clause-failed : goal.returns-clause-failed
-returns-clause-failed g c = λ honest room failed.
-    ⊎_elim (λ risen. risen) (λ (never : ⊥). absurd never)
-    (caused _ _ _ _ c.rename.result (c.rename.ensures.cause (c.write_anew.ensures.honest honest))
-    (may_follow c.deref.result.now (g.F.Files.history c.args.self.now.store.files).tree (g.F.Files.history c.write_anew.new.files).tree room (c.in_ok-write_anew.ensures.made honest)) failed c.write_anew.ensures.later)
+pub returns-in-Ok-clause-moments : goal.returns-in-Ok-clause-moments
+returns-in-Ok-clause-moments g c = λ r may.
+    switch_passes g.F.Files.is_honest g.F.Files.history g.F.Files.failures g.F.Files.reading_may_fail c.args.self.now c.refresh.new.self c.refresh.ensures.files c.refresh.ensures.kind c.in_ok-refresh.ensures.keeps c.args.from.now c.args.to.now c.in_ok-edits.edits.items c.in_ok-edits.ensures.asks c.as_ref-records.result c.as_ref-records.ensures.value r may
+    c.prepare_with.new.store.files c.prepare_with.ensures.moments c.prepare_with.ensures.folders
+    c.in-Ok.made c.in-Ok.ensures.split c.in-Ok.ensures.planned c.in-Ok.ensures.texts c.in-Ok.ensures.lines (λ honest. c.in-Ok.ensures.repacked honest tt) c.in-Ok.ensures.locked c.prepare_with.ensures.honest
+    c.finish.new.self.store.files c.finish.ensures.moments c.finish.ensures.folders
+
+pub returns-in-Ok-clause-failed : goal.returns-in-Ok-clause-failed
+returns-in-Ok-clause-failed g c = λ r may failed.
+    let honest = subst g.F.Files.is_honest (sym c.refresh.ensures.files) may.whole.honest in
+    uncommitted g.F.Files.is_honest g.F.Files.history g.F.Files.failures g.F.Files.reading_may_fail c.args.self.now c.refresh.new.self c.refresh.ensures.files c.refresh.ensures.kind c.in_ok-refresh.ensures.keeps c.args.from.now c.args.to.now c.in_ok-edits.edits.items c.in_ok-edits.ensures.asks c.as_ref-records.result c.as_ref-records.ensures.value r may
+    c.prepare_with.new.store.files c.prepare_with.ensures.moments c.prepare_with.ensures.folders
+    c.in-Ok.made c.in-Ok.ensures.split c.in-Ok.ensures.planned c.in-Ok.ensures.texts c.in-Ok.ensures.lines (λ honest. c.in-Ok.ensures.repacked honest tt) c.in-Ok.ensures.locked c.prepare_with.ensures.honest
+    c.finish.new.self.store.files ⊥ (g.met.F.Files.rooted c.prepare_with.new.store.files (c.prepare_with.ensures.honest honest))
+    (λ held can. inr (c.finish.ensures.failed held can failed)) (λ never. never) c.in-Ok.ensures.unfailed
+
+pub returns-in-Ok-clause-switched : goal.returns-in-Ok-clause-switched
+returns-in-Ok-clause-switched g c = λ r may.
+    let honest = subst g.F.Files.is_honest (sym c.refresh.ensures.files) may.whole.honest in
+    on_ok_weaker c.finish.result
+    (λ done. switch_names g.F.Files.is_honest g.F.Files.history g.F.Files.failures g.F.Files.reading_may_fail c.args.self.now c.refresh.new.self c.refresh.ensures.files c.refresh.ensures.kind c.in_ok-refresh.ensures.keeps c.args.from.now c.args.to.now c.in_ok-edits.edits.items c.in_ok-edits.ensures.asks c.as_ref-records.result c.as_ref-records.ensures.value r may
+    c.prepare_with.new.store.files c.prepare_with.ensures.moments c.prepare_with.ensures.folders
+    c.in-Ok.made c.in-Ok.ensures.split c.in-Ok.ensures.planned c.in-Ok.ensures.texts c.in-Ok.ensures.lines (λ honest. c.in-Ok.ensures.repacked honest tt) c.in-Ok.ensures.locked c.prepare_with.ensures.honest
+    c.finish.new.self.store.files c.finish.ensures.moments c.finish.ensures.folders (λ _. done))
+    (c.finish.ensures.done (c.prepare_with.ensures.honest honest))
+
+pub returns-in-Ok-clause-keeps : goal.returns-in-Ok-clause-keeps
+returns-in-Ok-clause-keeps g c = λ r may.
+    let honest = subst g.F.Files.is_honest (sym c.refresh.ensures.files) may.whole.honest in
+    on_ok_weaker c.finish.result
+    (λ done.
+    let here = file_at (g.F.Files.history c.finish.new.self.store.files).tree packed_place in
+    let kept = switch_keeps g.F.Files.is_honest g.F.Files.history g.F.Files.failures g.F.Files.reading_may_fail c.args.self.now c.refresh.new.self c.refresh.ensures.files c.refresh.ensures.kind c.in_ok-refresh.ensures.keeps c.args.from.now c.args.to.now c.in_ok-edits.edits.items c.in_ok-edits.ensures.asks c.as_ref-records.result c.as_ref-records.ensures.value r may
+    c.prepare_with.new.store.files c.prepare_with.ensures.moments c.prepare_with.ensures.folders
+    c.in-Ok.made c.in-Ok.ensures.split c.in-Ok.ensures.planned c.in-Ok.ensures.texts c.in-Ok.ensures.lines (λ honest. c.in-Ok.ensures.repacked honest tt) c.in-Ok.ensures.locked c.prepare_with.ensures.honest
+    c.finish.new.self.store.files c.finish.ensures.moments c.finish.ensures.folders (λ _. done) in
+    subst (λ kind. FileSaysLeft kind here c.finish.new.self.packed.read c.finish.new.self.packed.gone.items) (sym c.finish.ensures.kind)
+    (subst (λ (packed : Kept). FileSaysLeft c.refresh.new.self.kind here packed.read packed.gone.items) (sym c.finish.ensures.packed) kept))
+    (c.finish.ensures.done (c.prepare_with.ensures.honest honest))

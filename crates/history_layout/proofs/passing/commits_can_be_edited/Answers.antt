@@ -1,0 +1,5 @@
+use Rattle.history_layout.proofs.EditsAllowed.{commits_can_be_edited as lemma}
+use Rattle.history_layout.proofs.passing.commits_can_be_edited.Goals as goal
+
+pub returns : goal.returns
+returns c = lemma
