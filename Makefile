@@ -25,7 +25,7 @@ quick: ## the example and the programs of cases by rt try, without a proof; some
 	@echo 'Nothing of this is proved: rt try runs the sources as they are.'
 	@scripts/quick
 
-wrong-bodies: ## tries the wrong bodies of planted/ and must-fail/; CRATES="gix_hash_id history" those of some crates, NAMED=1 the named; many hours for all
+wrong-bodies: ## tries the wrong bodies of planted/ and must-fail/; CRATES="gix_hash history" those of some crates, NAMED=1 the named; many hours for all
 	planted/try $(CRATES)
 
 # The proved program if it is built of these sources, else the crate `example` by rt try.

@@ -2,9 +2,9 @@
 use Rattle.std.proofs.Common.{◌≡◌, sym, subst, refl, Bor, zero, suc, Bool, true, false, cond, List, [], ◌∷◌, Option, Some, None, arith}
 use Rattle.std.specs.Prelude.{find, is_some, Contains}
 use Rattle.std.specs.Option.{option_copied}
-use Rattle.gix_hash_id.specs.Id.{Id, id_of}
-use Rattle.gix_hash_id.specs.Order.{id_eq}
-use Rattle.gix_hash_id.specs.OrderLaws.{id_eq-same, id_eq-itself}
+use Rattle.gix_hash.specs.Id.{Id, id_of}
+use Rattle.gix_hash.specs.Order.{id_eq}
+use Rattle.gix_hash.specs.OrderLaws.{id_eq-same, id_eq-itself}
 use Rattle.case_words.specs.Store.{ids_of}
 use Rattle.case_words.specs.declared.stored.Stored.{Stored}
 

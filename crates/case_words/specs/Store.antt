@@ -1,7 +1,7 @@
 -- The objects of a store, the first of an id before others.
 use Rattle.std.specs.Prelude.{List, find, map, option_map}
-use Rattle.gix_hash_id.specs.Id.{Id, id_of}
-use Rattle.gix_hash_id.specs.Order.{id_eq}
+use Rattle.gix_hash.specs.Id.{Id, id_of}
+use Rattle.gix_hash.specs.Order.{id_eq}
 use Rattle.gix_object_lookup.specs.Table.{Table}
 use Rattle.case_words.specs.declared.stored.Stored.{Stored}
 

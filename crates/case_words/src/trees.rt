@@ -1,7 +1,7 @@
 //! Trees in memory, which count how often one is looked up, and may fail at one lookup.
 
 ghost use Rattle.std.specs.Prelude.{map, None, ⊤};
-ghost use Rattle.gix_hash_id.specs.Id.{id_of};
+ghost use Rattle.gix_hash.specs.Id.{id_of};
 
 use gix_hash::{Kind, ObjectId, oid};
 use gix_object_lines::encode::loose_header;

@@ -17,9 +17,7 @@ pub mod commit {
 
     /// The parts of a commit, one after another.
     pub mod ref_iter {
-        pub use gix_object_commit_tokens::ref_iter::{
-            CommitSignature, ParentIds, Signatures, Token,
-        };
+        pub use gix_object_commit::ref_iter::{CommitSignature, ParentIds, Signatures, Token};
     }
 
     pub use gix_object_commit::commit::{
@@ -150,8 +148,7 @@ pub mod write {
 }
 
 pub use gix_object_any::{Data, Object, ObjectRef};
-pub use gix_object_commit::{Commit, CommitRef};
-pub use gix_object_commit_tokens::CommitRefIter;
+pub use gix_object_commit::{Commit, CommitRef, CommitRefIter};
 pub use gix_object_find::{Find, FindExt, FindObjectOrHeader, HeaderExt};
 pub use gix_object_hash::{Blob, BlobRef, compute_hash, compute_stream_hash};
 pub use gix_object_lines::write::Error as WriteToError;

@@ -1,13 +1,13 @@
 -- Bytes are one loose object at most.
 use Rattle.std.proofs.Common.{◌≡◌, ◌∙◌, ap, sym, subst, ℕ, List, ◌++◌, length, drop, Result, Ok}
 use Rattle.std.proofs.Math.Seq.{drop-append_seam}
-use Rattle.gix_hash_id.specs.Kind.{hex_len}
-use Rattle.gix_hash_id.specs.declared.kind.Kind as hash
+use Rattle.gix_hash.specs.Kind.{hex_len}
+use Rattle.gix_hash.specs.declared.kind.Kind as hash
 use Rattle.gix_object_lines.specs.Header.{header_text}
 use Rattle.gix_object_lines.specs.declared.kind.Kind.{Kind}
 use Rattle.gix_object_lines.specs.declared.kind.Kind.TheVariants as kinds
-use Rattle.gix_object_commit_lines.specs.Commit as commit
-use Rattle.gix_object_commit_lines.specs.Commit.{SpellsCommit}
+use Rattle.gix_object_commit.specs.Commit as commit
+use Rattle.gix_object_commit.specs.Commit.{SpellsCommit}
 use Rattle.gix_object_tag.specs.Tag as tag
 use Rattle.gix_object_tag.specs.Tag.{SpellsTag}
 use Rattle.gix_object_any.specs.Loose.{IsLoose, loose_text}

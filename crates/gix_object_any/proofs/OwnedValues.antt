@@ -4,23 +4,23 @@ use Rattle.std.proofs.Common.{◌≡◌, ◌∙◌, ap, refl, sym, ℕ, List, []
 use Rattle.std.specs.Prelude.{All, IfSome}
 use Rattle.std.specs.List.{AllZip}
 use Rattle.std.proofs.lemmas.List.Elements.{All-head, All-tail}
-use Rattle.gix_hash_id.specs.Id.{id_of}
-use Rattle.gix_hash_id.specs.Kind.{hex_len}
-use Rattle.gix_hash_id.specs.LetterCase.{IsLowerCase}
-use Rattle.gix_hash_id.specs.Spelling.{hex_text, IsHexOf}
-use Rattle.gix_hash_id.specs.declared.kind.Kind as hash
-use Rattle.gix_hash_id.specs.declared.object_id.ObjectId.{ObjectId}
+use Rattle.gix_hash.specs.Id.{id_of}
+use Rattle.gix_hash.specs.Kind.{hex_len}
+use Rattle.gix_hash.specs.LetterCase.{IsLowerCase}
+use Rattle.gix_hash.specs.Spelling.{hex_text, IsHexOf}
+use Rattle.gix_hash.specs.declared.kind.Kind as hash
+use Rattle.gix_hash.specs.declared.object_id.ObjectId.{ObjectId}
 use Rattle.gix_object_lines.specs.Time.{SpellsTime, time_text}
 use Rattle.gix_object_lines.specs.declared.lines.actor.Actor.{Actor}
 use Rattle.gix_object_lines.specs.declared.lines.time.Time.{Time}
 use Rattle.gix_object_lines.proofs.TimeLemmas.{time_once}
 use Rattle.gix_object_lines.specs.Person.{Person, IsActorOf, own_person}
-use Rattle.gix_object_commit_lines.specs.Commit as commit
-use Rattle.gix_object_commit_lines.specs.Commit.{Field, IsField, SpellsCommit, folded}
+use Rattle.gix_object_commit.specs.Commit as commit
+use Rattle.gix_object_commit.specs.Commit.{Field, IsField, SpellsCommit, folded}
 use Rattle.gix_object_commit.specs.Owned.{IsOwnId, IsHeaderOf, IsCommitOf}
 use Rattle.gix_object_commit.specs.OwnedText.{own_digits, own_field, own_parts}
 use Rattle.gix_object_commit.specs.declared.commit.owned.Commit as owned_commit
-use Rattle.gix_object_commit_lines.specs.declared.header.ExtraHeader.{ExtraHeader}
+use Rattle.gix_object_commit.specs.declared.header.ExtraHeader.{ExtraHeader}
 use Rattle.gix_object_tag.specs.Owned.{IsOwnTagger, IsTagOf}
 use Rattle.gix_object_tag.specs.OwnedText.{own_tagger, own_parts as own_tag_parts}
 use Rattle.gix_object_tag.specs.Tag as tag

@@ -2,12 +2,12 @@
 -- read is written to the same bytes.
 use Rattle.std.proofs.Common.{◌≡◌, ◌∙◌, ap, refl, sym, subst, Bool, false, List, ◌∷◌, ℕ, length, map, None}
 use Rattle.std.specs.Prelude.{◌≢◌, []}
-use Rattle.gix_hash_id.specs.Id.{id_of}
-use Rattle.gix_hash_id.specs.Kind.{hex_len}
-use Rattle.gix_hash_id.specs.declared.kind.Kind as hash
+use Rattle.gix_hash.specs.Id.{id_of}
+use Rattle.gix_hash.specs.Kind.{hex_len}
+use Rattle.gix_hash.specs.declared.kind.Kind as hash
 use Rattle.gix_object_lines.specs.Writes.{cause_of}
-use Rattle.gix_object_commit_lines.specs.Commit as commit
-use Rattle.gix_object_commit_lines.specs.Commit.{SpellsCommit, commit_text}
+use Rattle.gix_object_commit.specs.Commit as commit
+use Rattle.gix_object_commit.specs.Commit.{SpellsCommit, commit_text}
 use Rattle.gix_object_commit.specs.OwnedText.{own_parts, own_refusal}
 use Rattle.gix_object_commit.specs.Writable as writable
 use Rattle.gix_object_commit.specs.Writing.{commit_refusal}

@@ -1,6 +1,6 @@
 -- What a comparison of ids reports.
 use Rattle.std.specs.Prelude.{◌≡◌}
-use Rattle.gix_hash_id.specs.Id.{Id, id_of}
+use Rattle.gix_hash.specs.Id.{Id, id_of}
 use Rattle.gix_object_any.specs.declared.data.verify.Error.{Error}
 use Rattle.gix_object_any.specs.declared.data.verify.Error.TheVariants.{Verify}
 

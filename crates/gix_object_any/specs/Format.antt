@@ -1,13 +1,13 @@
 -- Objects that are read again as they were written, and written again as they were read
 -- (git-cat-file prints what git-hash-object stored).
 use Rattle.std.specs.Prelude.{ℕ, ◌≡◌, ◌≢◌, ⊤, false, None, List, [], length, IfSome, All, map}
-use Rattle.gix_hash_id.specs.Id.{id_of}
-use Rattle.gix_hash_id.specs.Kind.{hex_len}
-use Rattle.gix_hash_id.specs.LetterCase.{IsLowerCase}
-use Rattle.gix_hash_id.specs.declared.kind.Kind as hash
+use Rattle.gix_hash.specs.Id.{id_of}
+use Rattle.gix_hash.specs.Kind.{hex_len}
+use Rattle.gix_hash.specs.LetterCase.{IsLowerCase}
+use Rattle.gix_hash.specs.declared.kind.Kind as hash
 use Rattle.gix_object_lines.specs.Time.{SpellsTime, time_text}
 use Rattle.gix_object_lines.specs.declared.lines.time.Time.{Time}
-use Rattle.gix_object_commit_lines.specs.Commit as commit
+use Rattle.gix_object_commit.specs.Commit as commit
 use Rattle.gix_object_commit.specs.Writable as writable
 use Rattle.gix_object_tag.specs.NameTest.{name_fault}
 use Rattle.gix_object_tag.specs.Tag as tag_parts

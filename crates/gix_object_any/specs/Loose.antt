@@ -1,7 +1,7 @@
 -- Loose objects: a header and the content after it, as many bytes as the header says (Git User
 -- Manual, "Object storage format"; git-fsck refuses fewer bytes than that, and more).
 use Rattle.std.specs.Prelude.{ℕ, ◌≡◌, ◌≢◌, ◌<◌, ◌^◌, List, ◌++◌, length, None, Some}
-use Rattle.gix_hash_id.specs.declared.kind.Kind as hash
+use Rattle.gix_hash.specs.declared.kind.Kind as hash
 use Rattle.gix_object_lines.specs.Header.{header_text, HeaderFault}
 use Rattle.gix_object_lines.specs.declared.kind.Kind.{Kind}
 use Rattle.gix_object_lines.specs.declared.decode.Error.{Error}

@@ -1,16 +1,16 @@
 -- What objects hold, and how it is spelled: by the grammars of their kinds.
 use Rattle.std.specs.Prelude.{ℕ, ◌≡◌, List, Option, None}
-use Rattle.gix_hash_id.specs.Kind.{hex_len}
-use Rattle.gix_hash_id.specs.declared.kind.Kind as hash
+use Rattle.gix_hash.specs.Kind.{hex_len}
+use Rattle.gix_hash.specs.declared.kind.Kind as hash
 use Rattle.gix_object_lines.specs.Writes.{Refusal}
 use Rattle.gix_object_lines.specs.declared.kind.Kind.{Kind}
 use Rattle.gix_object_lines.specs.declared.kind.Kind.TheVariants as kinds
 use Rattle.gix_object_lines.specs.declared.decode.Error.{Error}
 use Rattle.gix_object_tree.specs.Entry.{Item, SpellsTree, TreeFault}
 use Rattle.gix_object_tree.specs.Writing.{tree_text, tree_refusal}
-use Rattle.gix_object_commit_lines.specs.Commit as commit
-use Rattle.gix_object_commit_lines.specs.Commit.{SpellsCommit, commit_text}
-use Rattle.gix_object_commit_lines.specs.Faults.{CommitFault}
+use Rattle.gix_object_commit.specs.Commit as commit
+use Rattle.gix_object_commit.specs.Commit.{SpellsCommit, commit_text}
+use Rattle.gix_object_commit.specs.Faults.{CommitFault}
 use Rattle.gix_object_commit.specs.Writing.{commit_refusal}
 use Rattle.gix_object_tag.specs.Faults.{TagFault}
 use Rattle.gix_object_tag.specs.Tag as tag

@@ -1,8 +1,8 @@
 -- Token readers that begin.
 use Rattle.std.specs.Prelude.{ℕ, ◌≡◌, List}
-use Rattle.gix_hash_id.specs.declared.kind.Kind as hash
-use Rattle.gix_object_commit_tokens.specs.Tokens as commit
-use Rattle.gix_object_commit_tokens.specs.declared.ref_iter.CommitRefIter.{CommitRefIter}
+use Rattle.gix_hash.specs.declared.kind.Kind as hash
+use Rattle.gix_object_commit.specs.Tokens as commit
+use Rattle.gix_object_commit.specs.declared.ref_iter.CommitRefIter.{CommitRefIter}
 use Rattle.gix_object_tree.specs.Reading as tree
 use Rattle.gix_object_tree.specs.declared.tree.ref_iter.TreeRefIter.{TreeRefIter}
 use Rattle.gix_object_tag.specs.Tokens as tag

@@ -1,9 +1,9 @@
 //! The bytes of an object.
 
 ghost use Rattle.std.specs.Prelude.{◌≡◌, ◌≢◌, ◌⊎◌, ℕ, List, Err, IfOk, IfErr, MatchOption, MatchResult};
-ghost use Rattle.gix_hash_id.specs.Id.{id_of};
-ghost use Rattle.gix_hash_id.specs.Hasher.{id_of_message};
-ghost use Rattle.gix_hash_id.specs.Views.{viewed_id};
+ghost use Rattle.gix_hash.specs.Id.{id_of};
+ghost use Rattle.gix_hash.specs.Hasher.{id_of_message};
+ghost use Rattle.gix_hash.specs.Views.{viewed_id};
 ghost use Rattle.gix_object_lines.specs.declared.decode.Error.TheVariants.{Memory};
 ghost use Rattle.gix_object_lines.specs.declared.kind.Kind.TheVariants as kinds;
 ghost use Rattle.gix_object_any.specs.Checks.{TellsBoth};
@@ -16,7 +16,7 @@ pub mod verify;
 
 use crate::ObjectRef;
 use gix_hash::{ObjectId, oid};
-use gix_object_commit_tokens::CommitRefIter;
+use gix_object_commit::CommitRefIter;
 use gix_object_hash::compute_hash;
 use gix_object_lines::Kind;
 use gix_object_lines::decode::Error;

@@ -1,9 +1,9 @@
 -- A store with one object more before the others.
 use Rattle.std.proofs.Common.{◌≡◌, ap, refl, sym, subst, ℕ, Bool, true, false, cond, List, ◌∷◌, Some, option_map}
 use Rattle.std.specs.Prelude.{◌≢◌, find}
-use Rattle.gix_hash_id.specs.Id.{Id, id_of}
-use Rattle.gix_hash_id.specs.Order.{id_eq}
-use Rattle.gix_hash_id.specs.OrderLaws.{id_eq-same, id_eq-itself}
+use Rattle.gix_hash.specs.Id.{Id, id_of}
+use Rattle.gix_hash.specs.Order.{id_eq}
+use Rattle.gix_hash.specs.OrderLaws.{id_eq-same, id_eq-itself}
 use Rattle.gix_object_lookup.specs.Table.{Object}
 use Rattle.gix_object_write.specs.Keeping.{Puts}
 use Rattle.case_words.specs.Store.{table_of}

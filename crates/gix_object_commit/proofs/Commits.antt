@@ -5,7 +5,7 @@ use Rattle.std.proofs.lemmas.List.Folds.{flat_map-map}
 use Rattle.gix_object_lines.specs.HexLine.{hex_line}
 use Rattle.gix_object_lines.specs.Writes.{Writes}
 use Rattle.gix_object_lines.specs.declared.write.Error.{Error}
-use Rattle.gix_object_commit_lines.specs.Commit.{Field, Parts, line, encoding_text, field_text, commit_text}
+use Rattle.gix_object_commit.specs.Commit.{Field, Parts, line, encoding_text, field_text, commit_text}
 use Rattle.gix_object_commit.specs.Writing.{parent_piece, person_piece, encoding_piece, field_piece, id_pieces, author_pieces, committer_pieces, encoding_pieces, header_pieces, message_pieces, commit_pieces, commit_refusal}
 use Rattle.gix_object_lines.specs.Pieces.{Piece, pieces_text, WritesPieces}
 use Rattle.gix_object_lines.proofs.Pieces.{text_more}

@@ -3,12 +3,12 @@ use Rattle.std.proofs.Common.{◌≡◌, ◌∙◌, sym, subst, ℕ, List, [], �
 use Rattle.std.specs.Prelude.{Option, Result, Ok, Err}
 use Rattle.gix_object_lines.specs.Writes.{Writes}
 use Rattle.gix_object_lines.specs.declared.write.Error.{Error}
-use Rattle.gix_object_commit_lines.specs.Commit.{commit_text}
+use Rattle.gix_object_commit.specs.Commit.{commit_text}
 use Rattle.gix_object_commit.specs.OwnedText.{own_field, own_parts_with, own_author_pieces, own_committer_pieces, own_front_pieces, own_pieces_with, own_refusal_with}
 use Rattle.gix_object_commit.specs.Writing.{field_piece, message_piece, id_pieces, author_pieces, committer_pieces, encoding_pieces, header_pieces, message_pieces}
 use Rattle.gix_object_lines.specs.Pieces.{Piece, pieces_text, WritesPieces}
 use Rattle.gix_object_commit.specs.declared.commit.owned.Commit.{Commit}
-use Rattle.gix_object_commit_lines.specs.declared.header.ExtraHeader.{ExtraHeader}
+use Rattle.gix_object_commit.specs.declared.header.ExtraHeader.{ExtraHeader}
 use Rattle.gix_object_commit.proofs.Commits.{text_is}
 use Rattle.gix_object_lines.proofs.Pieces.{text_more, pieces_then, pieces_stop}
 

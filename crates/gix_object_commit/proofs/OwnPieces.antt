@@ -8,7 +8,7 @@ use Rattle.gix_object_lines.specs.declared.write.Error.{Error}
 use Rattle.gix_object_lines.specs.declared.write.Error.TheVariants.{Writer, Header, TagName, Filename}
 use Rattle.gix_object_lines.specs.declared.encode.Error as encode
 use Rattle.gix_object_lines.specs.declared.encode.Error.TheVariants.{NewlineInHeaderValue, EmptyValue, Unspellable}
-use Rattle.gix_object_commit_lines.specs.Commit.{line}
+use Rattle.gix_object_commit.specs.Commit.{line}
 use Rattle.gix_object_commit.specs.OwnedText.{text_piece}
 use Rattle.gix_object_lines.specs.Pieces.{Piece, pieces_text, first_refused, refused_or, WritesPieces}
 use Rattle.gix_object_lines.proofs.Pieces.{pieces_then, pieces_stop}

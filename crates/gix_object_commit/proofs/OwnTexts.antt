@@ -10,12 +10,12 @@ use Rattle.gix_object_lines.specs.Writes.{cause_of}
 use Rattle.gix_object_lines.specs.declared.encode.Error as encode
 use Rattle.gix_object_lines.specs.declared.write.Error.TheVariants.{Header}
 use Rattle.gix_object_lines.specs.declared.lines.actor.Actor.{Actor}
-use Rattle.gix_object_commit_lines.specs.Commit.{line, field_text, folded}
+use Rattle.gix_object_commit.specs.Commit.{line, field_text, folded}
 use Rattle.gix_object_commit.specs.OwnedText.{own_field, is_whole_offset, is_own_person}
 use Rattle.gix_object_commit.specs.Writing.{unspellable_unless, is_plain, is_word, is_folded, field_piece}
 use Rattle.gix_object_lines.specs.Pieces.{refused_or}
-use Rattle.gix_object_commit_lines.specs.declared.header.ExtraHeader.{ExtraHeader}
-use Rattle.gix_object_commit_lines.proofs.Folds.{by_feed, feed_folded, plain_folded}
+use Rattle.gix_object_commit.specs.declared.header.ExtraHeader.{ExtraHeader}
+use Rattle.gix_object_commit.proofs.Folds.{by_feed, feed_folded, plain_folded}
 use Rattle.gix_object_commit.proofs.FoldedTests.{plain_byte}
 use Rattle.gix_object_commit.proofs.OwnPieces.{line_piece}
 use Rattle.gix_object_commit.proofs.Written.{fine, plain_name}

@@ -8,7 +8,7 @@ use Rattle.gix_object_lines.specs.declared.lines.actor.Actor.{Actor}
 use Rattle.gix_object_lines.specs.TimeTest.{tells_time}
 use Rattle.gix_object_lines.proofs.TimeTests.{tells_time-Decides}
 use Rattle.gix_object_lines.proofs.TimeLemmas.{time_written}
-use Rattle.gix_object_commit_lines.specs.Commit.{SpellsCommit, commit_text}
+use Rattle.gix_object_commit.specs.Commit.{SpellsCommit, commit_text}
 use Rattle.gix_object_commit.specs.OwnedText.{own_parts, own_person_piece, own_refusal, is_own_person, is_whole_offset}
 use Rattle.gix_object_commit.specs.Writing.{is_plain, is_person, refused_unless, id_pieces, person_piece, encoding_pieces, header_pieces, message_pieces, commit_refusal}
 use Rattle.gix_object_lines.specs.Pieces.{Piece, first_refused, refused_or}

@@ -4,14 +4,14 @@ use Rattle.std.specs.Prelude.{◌⊎◌, Any, IsTrue}
 use Rattle.std.specs.List.{AllZip}
 use Rattle.std.proofs.lemmas.List.{map-append, length-map, get_or-map}
 use Rattle.std.proofs.Math.Seq.{take-suc}
-use Rattle.gix_hash_id.specs.Id.{id_of}
-use Rattle.gix_hash_id.specs.declared.object_id.ObjectId.{ObjectId}
+use Rattle.gix_hash.specs.Id.{id_of}
+use Rattle.gix_hash.specs.declared.object_id.ObjectId.{ObjectId}
 use Rattle.gix_object_lines.specs.Actor.{TellsTime}
 use Rattle.gix_object_lines.specs.HexLine.{is_id}
 use Rattle.gix_object_lines.specs.declared.decode.Error.{Error}
 use Rattle.gix_object_lines.specs.declared.decode.Error.TheVariants.{HexDigits, InvalidTime, Memory}
 use Rattle.gix_object_lines.proofs.HexDigits.{spells_none}
-use Rattle.gix_object_commit_lines.specs.Commit.{Parts}
+use Rattle.gix_object_commit.specs.Commit.{Parts}
 use Rattle.gix_object_commit.specs.Owned.{IsOwnId, SpellsNoId, OwningFault}
 
 -- what holds of the borrowed part at a place holds of one of them

@@ -3,22 +3,22 @@ use Rattle.std.proofs.Common.{◌≡◌, ◌∙◌, ap, refl, sym, ℕ, not, Opt
 use Rattle.std.specs.Prelude.{codes}
 use Rattle.std.specs.Option.{option_map}
 use Rattle.std.proofs.lemmas.List.{map-append}
-use Rattle.gix_hash_id.specs.Id.{id_of}
-use Rattle.gix_hash_id.specs.declared.kind.Kind.{Kind}
-use Rattle.gix_hash_id.specs.declared.kind.Kind.TheVariants.{Sha1, Sha256}
+use Rattle.gix_hash.specs.Id.{id_of}
+use Rattle.gix_hash.specs.declared.kind.Kind.{Kind}
+use Rattle.gix_hash.specs.declared.kind.Kind.TheVariants.{Sha1, Sha256}
 use Rattle.gix_object_lines.specs.Writes.{Refusal, cause_of}
 use Rattle.gix_object_lines.specs.declared.lines.actor.Actor.{Actor}
 use Rattle.gix_object_lines.specs.declared.write.Error.TheVariants.{Header}
 use Rattle.gix_object_lines.specs.Bytes.{without_last_feed}
-use Rattle.gix_object_commit_lines.specs.Commit.{Field, Parts, encoding_text}
+use Rattle.gix_object_commit.specs.Commit.{Field, Parts, encoding_text}
 use Rattle.gix_object_commit.specs.OwnedText.{own_digits, own_field, own_parts, own_person_piece, own_author_pieces, own_committer_pieces, own_front_pieces, own_pieces_with, own_refusal, own_refusal_with}
-use Rattle.gix_object_commit_lines.specs.Signature.{signature_name}
+use Rattle.gix_object_commit.specs.Signature.{signature_name}
 use Rattle.gix_object_commit.specs.Signing.{IsSignedBy, IsWithHeaders, signature_header, unsigned, unsigned_fault}
 use Rattle.gix_object_commit.specs.Writing.{field_piece, message_piece, id_pieces, encoding_pieces, header_pieces, message_pieces, encoding_cause, is_encoding_first, refused_unless, unspellable_unless}
 use Rattle.gix_object_lines.specs.Pieces.{Piece, first_refused}
 use Rattle.gix_object_lines.specs.Person.{own_person}
 use Rattle.gix_object_commit.specs.declared.commit.owned.Commit.{Commit}
-use Rattle.gix_object_commit_lines.specs.declared.header.ExtraHeader.{ExtraHeader}
+use Rattle.gix_object_commit.specs.declared.header.ExtraHeader.{ExtraHeader}
 use Rattle.gix_object_commit.proofs.OwnCommits.{pieces_are}
 use Rattle.gix_object_commit.proofs.OwnedLaws.{accepted}
 use Rattle.gix_object_commit.proofs.OwnTexts.{folded_is}

@@ -3,18 +3,18 @@ use Rattle.std.proofs.Common.{◌≡◌, ◌∙◌, ap, refl, sym, ℕ, Bool, tr
 use Rattle.std.specs.Prelude.{codes, flat_map}
 use Rattle.std.proofs.lemmas.Grind.{flat_map-append}
 use Rattle.std.proofs.lemmas.List.{map-append}
-use Rattle.gix_hash_id.specs.Id.{id_of}
-use Rattle.gix_hash_id.specs.declared.kind.Kind.{Kind}
-use Rattle.gix_hash_id.specs.declared.kind.Kind.TheVariants.{Sha1, Sha256}
+use Rattle.gix_hash.specs.Id.{id_of}
+use Rattle.gix_hash.specs.declared.kind.Kind.{Kind}
+use Rattle.gix_hash.specs.declared.kind.Kind.TheVariants.{Sha1, Sha256}
 use Rattle.gix_object_lines.specs.Bytes.{without_last_feed}
 use Rattle.gix_object_lines.specs.HexLine.{hex_line}
 use Rattle.gix_object_lines.specs.Person.{actor_line, own_person}
-use Rattle.gix_object_commit_lines.specs.Commit.{commit_text, field_text, line, encoding_text}
+use Rattle.gix_object_commit.specs.Commit.{commit_text, field_text, line, encoding_text}
 use Rattle.gix_object_commit.specs.OwnedText.{own_digits, own_field, own_parts, own_parts_with}
-use Rattle.gix_object_commit_lines.specs.Signature.{signature_name}
+use Rattle.gix_object_commit.specs.Signature.{signature_name}
 use Rattle.gix_object_commit.specs.Signing.{IsSignedBy, IsWithHeaders, is_signature, unsigned, unsigned_text, signature_header}
 use Rattle.gix_object_commit.specs.declared.commit.owned.Commit.{Commit}
-use Rattle.gix_object_commit_lines.specs.declared.header.ExtraHeader.{ExtraHeader}
+use Rattle.gix_object_commit.specs.declared.header.ExtraHeader.{ExtraHeader}
 use Rattle.gix_object_commit.proofs.UnsignedLines.{unsigned_append}
 
 -- commits that are the same but for their headers have the same texts with the same headers

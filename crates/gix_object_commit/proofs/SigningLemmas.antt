@@ -1,8 +1,8 @@
 -- A commit that is signed, or that stays as it was.
 use Rattle.std.proofs.Common.{◌≡◌, ◌∙◌, ap, refl, ℕ, List, Some, None, Result, Ok, Err, ◌⊎◌, inl, inr}
 use Rattle.std.specs.Prelude.{IfOk, IfErr}
-use Rattle.gix_hash_id.specs.declared.kind.Kind.{Kind}
-use Rattle.gix_hash_id.specs.Id.{id_of}
+use Rattle.gix_hash.specs.declared.kind.Kind.{Kind}
+use Rattle.gix_hash.specs.Id.{id_of}
 use Rattle.gix_object_lines.specs.declared.write.Error as write
 use Rattle.gix_object_signature.specs.Run.{Request}
 use Rattle.gix_object_signature.specs.Signing.{Signs}
@@ -12,10 +12,10 @@ use Rattle.gix_object_signature.specs.declared.sign.Error.{Error}
 use Rattle.gix_object_signature.specs.declared.sign.Error.TheVariants.{Encode, Memory}
 use Rattle.gix_object_signature.specs.declared.sign.Options.{Options}
 use Rattle.gix_object_lines.specs.Bytes.{without_last_feed}
-use Rattle.gix_object_commit_lines.specs.Signature.{signature_name}
+use Rattle.gix_object_commit.specs.Signature.{signature_name}
 use Rattle.gix_object_commit.specs.Signing.{IsAsBefore, SignsCommit, Unwritten, NoMemory, Asked, unsigned_fault, unsigned_text, signature_header}
 use Rattle.gix_object_commit.specs.declared.commit.owned.Commit.{Commit}
-use Rattle.gix_object_commit_lines.specs.declared.header.ExtraHeader.{ExtraHeader}
+use Rattle.gix_object_commit.specs.declared.header.ExtraHeader.{ExtraHeader}
 
 pub stays : (commit : Commit) → IsAsBefore commit commit
 stays commit = record { tree = refl; parents = refl; author = refl; committer = refl; encoding = refl; message = refl; own_headers = refl }

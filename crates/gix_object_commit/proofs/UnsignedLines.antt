@@ -9,7 +9,7 @@ use Rattle.gix_object_commit.specs.OwnedText.{own_field}
 use Rattle.gix_object_commit.specs.Signing.{is_signature, unsigned}
 use Rattle.gix_object_commit.specs.Writing.{field_piece}
 use Rattle.gix_object_lines.specs.Pieces.{Piece, WritesPieces}
-use Rattle.gix_object_commit_lines.specs.declared.header.ExtraHeader.{ExtraHeader}
+use Rattle.gix_object_commit.specs.declared.header.ExtraHeader.{ExtraHeader}
 use Rattle.gix_object_lines.proofs.Pieces.{pieces_then, pieces_stop}
 
 abbrev pub unsigned_lines : List ExtraHeader → List Piece

@@ -13,11 +13,11 @@ use Rattle.gix_object_lines.specs.declared.encode.Error as encode
 use Rattle.gix_object_lines.specs.declared.write.Error as write
 use Rattle.gix_object_lines.specs.declared.write.Error.TheVariants.{Header}
 use Rattle.gix_object_lines.specs.declared.encode.Error.TheVariants.{NewlineInHeaderValue, EmptyValue}
-use Rattle.gix_object_commit_lines.specs.Commit.{Field, Parts, IsFolded, IsPerson, IsField, IsEncodingFirst, commit_text, SpellsCommit}
+use Rattle.gix_object_commit.specs.Commit.{Field, Parts, IsFolded, IsPerson, IsField, IsEncodingFirst, commit_text, SpellsCommit}
 use Rattle.gix_object_commit.specs.Writing.{holds, is_id_like, is_plain, is_person, is_folded, begins_with_space, is_empty, is_word, is_field, is_encoding_first, encoding_cause, unspellable_unless, refused_unless, tree_piece, parent_piece, person_piece, encoding_piece, field_piece, message_piece, commit_refusal}
 use Rattle.gix_object_lines.specs.Pieces.{Piece, first_refused, refused_or}
 use Rattle.gix_object_lines.specs.Person.{Person}
-use Rattle.gix_object_commit_lines.proofs.Folds.{by_feed, plain_folded}
+use Rattle.gix_object_commit.proofs.Folds.{by_feed, plain_folded}
 use Rattle.gix_object_commit.proofs.FoldedTests.{plain_byte}
 use Rattle.std.proofs.lemmas.Bool.{and_parts}
 

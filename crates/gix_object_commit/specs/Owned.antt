@@ -1,16 +1,16 @@
 -- Commits that own their parts.
 use Rattle.std.specs.Prelude.{ℕ, ◌≡◌, ◌⊎◌, List, Any}
 use Rattle.std.specs.List.{AllZip}
-use Rattle.gix_hash_id.specs.Id.{Id, id_of}
-use Rattle.gix_hash_id.specs.Views.{IsHexOfId}
-use Rattle.gix_hash_id.specs.declared.object_id.ObjectId.{ObjectId}
+use Rattle.gix_hash.specs.Id.{Id, id_of}
+use Rattle.gix_hash.specs.Views.{IsHexOfId}
+use Rattle.gix_hash.specs.declared.object_id.ObjectId.{ObjectId}
 use Rattle.gix_object_lines.specs.Actor.{TellsTime}
 use Rattle.gix_object_lines.specs.declared.decode.Error.{Error}
 use Rattle.gix_object_lines.specs.declared.decode.Error.TheVariants.{FieldName, HexDigits, LineEnd, InvalidActor, InvalidTime, Memory}
 use Rattle.gix_object_lines.specs.Person.{IsActorOf}
-use Rattle.gix_object_commit_lines.specs.Commit.{Field, Parts, folded, unfolded}
+use Rattle.gix_object_commit.specs.Commit.{Field, Parts, folded, unfolded}
 use Rattle.gix_object_commit.specs.declared.commit.owned.Commit.{Commit}
-use Rattle.gix_object_commit_lines.specs.declared.header.ExtraHeader.{ExtraHeader}
+use Rattle.gix_object_commit.specs.declared.header.ExtraHeader.{ExtraHeader}
 
 -- the id that the digits spell
 abbrev pub IsOwnId : List ℕ → ObjectId → Type 0

@@ -1,16 +1,16 @@
 -- A commit that owns its parts, as it is written.
 use Rattle.std.specs.Prelude.{ℕ, ℤ, Bool, ◌==◌, ◌&&◌, nat_lt, ◌%◌, List, [], ◌∷◌, ◌++◌, codes, map, Option, None, unsigned_abs}
-use Rattle.gix_hash_id.specs.Id.{id_of}
-use Rattle.gix_hash_id.specs.Spelling.{hex_text}
-use Rattle.gix_hash_id.specs.declared.object_id.ObjectId.{ObjectId}
+use Rattle.gix_hash.specs.Id.{id_of}
+use Rattle.gix_hash.specs.Spelling.{hex_text}
+use Rattle.gix_hash.specs.declared.object_id.ObjectId.{ObjectId}
 use Rattle.gix_object_lines.specs.Writes.{Refusal}
 use Rattle.gix_object_lines.specs.declared.lines.actor.Actor.{Actor}
-use Rattle.gix_object_commit_lines.specs.Commit.{Field, Parts, line, folded}
+use Rattle.gix_object_commit.specs.Commit.{Field, Parts, line, folded}
 use Rattle.gix_object_commit.specs.Writing.{is_plain, refused_unless, encoding_piece, id_pieces, encoding_pieces, header_pieces, message_pieces}
 use Rattle.gix_object_lines.specs.Pieces.{Piece, first_refused}
 use Rattle.gix_object_lines.specs.Person.{own_person, actor_line}
 use Rattle.gix_object_commit.specs.declared.commit.owned.Commit.{Commit}
-use Rattle.gix_object_commit_lines.specs.declared.header.ExtraHeader.{ExtraHeader}
+use Rattle.gix_object_commit.specs.declared.header.ExtraHeader.{ExtraHeader}
 
 -- ---- the parts as they are written
 

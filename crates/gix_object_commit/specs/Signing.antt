@@ -2,8 +2,8 @@
 -- `exclude_gpgsig`).
 use Rattle.std.specs.Prelude.{ℕ, nat_eq, Bool, not, ◌||◌, ◌≡◌, List, [], ◌∷◌, ◌++◌, filter, Option, None, Some, Result, Ok, Err}
 use Rattle.std.specs.Cmp.Lexicographic.{pointwise}
-use Rattle.gix_hash_id.specs.Id.{id_of}
-use Rattle.gix_hash_id.specs.declared.kind.Kind.TheVariants.{Sha1, Sha256}
+use Rattle.gix_hash.specs.Id.{id_of}
+use Rattle.gix_hash.specs.declared.kind.Kind.TheVariants.{Sha1, Sha256}
 use Rattle.gix_object_lines.specs.Bytes.{without_last_feed}
 use Rattle.gix_object_lines.specs.Writes.{cause_of}
 use Rattle.gix_object_lines.specs.declared.decode.Error as decode
@@ -15,12 +15,12 @@ use Rattle.gix_object_signature.specs.declared.run.RunError as run
 use Rattle.gix_object_signature.specs.declared.sign.Error.{Error}
 use Rattle.gix_object_signature.specs.declared.sign.Error.TheVariants.{Encode, Memory}
 use Rattle.gix_object_signature.specs.declared.sign.Options.{Options}
-use Rattle.gix_object_commit_lines.specs.Commit.{Parts, commit_text}
+use Rattle.gix_object_commit.specs.Commit.{Parts, commit_text}
 use Rattle.gix_object_commit.specs.Owned.{IsCommitOf, OwningFault}
 use Rattle.gix_object_commit.specs.OwnedText.{own_parts_with, own_refusal_with}
-use Rattle.gix_object_commit_lines.specs.Signature.{signature_name}
+use Rattle.gix_object_commit.specs.Signature.{signature_name}
 use Rattle.gix_object_commit.specs.declared.commit.owned.Commit.{Commit}
-use Rattle.gix_object_commit_lines.specs.declared.header.ExtraHeader.{ExtraHeader}
+use Rattle.gix_object_commit.specs.declared.header.ExtraHeader.{ExtraHeader}
 
 -- ---- what is signed: the commit as it is written without signatures of either hash function
 

@@ -3,8 +3,8 @@ use Rattle.std.specs.Prelude.{map}
 use Rattle.std.specs.Option.{option_map}
 use Rattle.bstr.specs.BStr.{bstr_bytes}
 use Rattle.gix_object_lines.specs.Person.{person_of}
-use Rattle.gix_object_commit_lines.specs.Commit.{Parts}
-use Rattle.gix_object_commit_lines.specs.Views.{field_of}
+use Rattle.gix_object_commit.specs.Commit.{Parts}
+use Rattle.gix_object_commit.specs.LineViews.{field_of}
 use Rattle.gix_object_commit.specs.declared.commit.CommitRef.{CommitRef}
 
 abbrev pub parts_of : CommitRef → Parts

@@ -3,7 +3,7 @@
 use Rattle.std.specs.Prelude.{◌≢◌, [], Some}
 use Rattle.gix_object_lines.specs.Actor.{IsPlain}
 use Rattle.gix_object_lines.specs.Person.{Person}
-use Rattle.gix_object_commit_lines.specs.Commit.{Parts}
+use Rattle.gix_object_commit.specs.Commit.{Parts}
 
 pub record IsPlainPerson (person : Person) : Type 0 where
   pub name : IsPlain person.name

@@ -12,7 +12,7 @@ use Rattle.gix_object_lines.specs.declared.write.Error.TheVariants.{Header}
 use Rattle.gix_object_lines.specs.declared.encode.Error as encode
 use Rattle.gix_object_lines.specs.declared.encode.Error.TheVariants.{NewlineInHeaderValue, EmptyValue, Unspellable}
 use Rattle.gix_object_lines.specs.Person.{Person, actor_line}
-use Rattle.gix_object_commit_lines.specs.Commit.{Field, Parts, line, encoding_text, field_text}
+use Rattle.gix_object_commit.specs.Commit.{Field, Parts, line, encoding_text, field_text}
 
 -- ---- what is refused
 

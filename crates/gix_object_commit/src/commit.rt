@@ -5,7 +5,7 @@ ghost use Rattle.bstr.specs.BStr.{bstr_bytes};
 ghost use Rattle.gix_object_lines.specs.Time.{SpellsTime};
 ghost use Rattle.gix_object_lines.specs.declared.lines.time.Time.{Time};
 ghost use Rattle.gix_object_lines.specs.declared.decode.Error.TheVariants.{InvalidTime};
-ghost use Rattle.gix_object_commit_lines.specs.HeaderViews.{headers_of};
+ghost use Rattle.gix_object_commit.specs.HeaderViews.{headers_of};
 ghost use Rattle.gix_object_commit.specs.Views.{parts_of};
 
 mod decode;
@@ -20,12 +20,12 @@ mod write_owned;
 
 pub use crate::commit::ids::Parents;
 pub use crate::commit::owned::Commit;
-use bstr::BStr;
-pub use gix_object_commit_lines::extra_headers::{ExtraHeaders, FindAll, MergeTags};
-pub use gix_object_commit_lines::header::{ExtraHeader, HeaderRef};
-pub use gix_object_commit_lines::signature_name::{
+pub use crate::extra_headers::{ExtraHeaders, FindAll, MergeTags};
+pub use crate::header::{ExtraHeader, HeaderRef};
+pub use crate::signature_name::{
     SIGNATURE_FIELD_NAME, SIGNATURE_FIELD_NAME_SHA256, signature_field_name,
 };
+use bstr::BStr;
 use gix_object_lines::decode::Error;
 use gix_object_lines::lines::{ActorRef, Time, read_time};
 use smallvec::SmallVec;

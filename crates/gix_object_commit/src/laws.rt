@@ -2,17 +2,19 @@
 
 ghost use Rattle.std.specs.Prelude.{◌≡◌, None, IsTrue, length};
 ghost use Rattle.std.specs.List.{list_all};
-ghost use Rattle.gix_hash_id.specs.Kind.{hex_len};
+ghost use Rattle.gix_hash.specs.Kind.{hex_len};
 ghost use Rattle.gix_object_lines.specs.HexLine.{is_id};
-ghost use Rattle.gix_object_commit_lines.specs.Commit.{Parts, SpellsCommit, commit_text};
+ghost use Rattle.gix_object_commit.specs.Commit.{Parts, SpellsCommit, commit_text};
 ghost use Rattle.gix_object_commit.specs.Writable.{IsWritable};
 ghost use Rattle.gix_object_commit.specs.Writing.{commit_refusal};
 
+mod lines;
 pub mod owned;
 pub mod signing;
+pub mod tokens;
 
 use gix_hash::Kind;
-pub use gix_object_commit_lines::laws::one_commit;
+pub use lines::one_commit;
 
 /// What is written of parts of which none is refused spells these parts; so it is read back to
 /// them. Nothing is done: the contract is the law.

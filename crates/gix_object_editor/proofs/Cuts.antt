@@ -2,9 +2,9 @@
 use Rattle.std.proofs.Common.{ℕ, suc, zero, ◌≡◌, ◌≢◌, ◌<◌, ◌≤◌, ◌⊎◌, inl, inr, Bool, true, false, List, [], ◌∷◌, Option, Some, None, refl, sym, ap, subst, ◌∙◌, arith, length, drop, if◌then◌else◌}
 use Rattle.std.specs.List.{Contains}
 use Rattle.std.proofs.lemmas.Bool.{cases_lt}
-use Rattle.gix_hash_id.specs.Id.{id_of, null_id}
-use Rattle.gix_hash_id.specs.OrderLaws.{id_equivalence}
-use Rattle.gix_hash_id.specs.declared.kind.Kind.{Kind}
+use Rattle.gix_hash.specs.Id.{id_of, null_id}
+use Rattle.gix_hash.specs.OrderLaws.{id_equivalence}
+use Rattle.gix_hash.specs.declared.kind.Kind.{Kind}
 use Rattle.std.specs.Prelude.{is_some}
 use Rattle.std.specs.Borrow.{Bor}
 use Rattle.gix_object_lookup.specs.Table.{Table}

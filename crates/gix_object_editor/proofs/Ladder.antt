@@ -19,7 +19,7 @@ use Rattle.gix_object_nodes.proofs.Ways.{child_files, child_no_file}
 use Rattle.gix_object_editor.proofs.SlotChange.{lays, way_kept, way_above}
 use Rattle.gix_object_editor.proofs.Standing.{child_entry}
 use Rattle.gix_object_editor.proofs.Entered.{none_met, closed_entry, laid_entries}
-use Rattle.gix_hash_id.specs.Id.{id_of}
+use Rattle.gix_hash.specs.Id.{id_of}
 
 -- nodes after the others change no file
 pub front_files : (trees : Trees) (slots new : Slots) (bound : ℕ) → IsForest slots bound → ((i : ℕ) (m : Bytes) → i < bound → new i m ≡ slots i m)

@@ -1,7 +1,7 @@
 -- A folder that isn't removed as a file.
 use Rattle.std.proofs.Common.{◌≡◌, Bool, true, false, Some, None, [], refl, ap, ◌∙◌, if◌then◌else◌}
 use Rattle.std.specs.Prelude.{Result, Ok, Err, IfErr}
-use Rattle.gix_hash_id.specs.Id.{Id}
+use Rattle.gix_hash.specs.Id.{Id}
 use Rattle.gix_object_tree.specs.Mode.{is_tree_value}
 use Rattle.gix_object_lookup.specs.Table.{Table}
 use Rattle.gix_object_editor.specs.declared.tree.editor.error.Error.{Error}

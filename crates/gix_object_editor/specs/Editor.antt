@@ -1,9 +1,9 @@
 -- An editor as its files.
 use Rattle.std.specs.Prelude.{ℕ, ◌≡◌, ◌≢◌, ◌⊎◌, true, false, List, [], ◌∷◌, ◌++◌, map, Option, Some, None, Result, OnErr, IsTrue, ⊤}
 use Rattle.std.specs.Borrow.{Bor}
-use Rattle.gix_hash_id.specs.Id.{Id, id_of}
-use Rattle.gix_hash_id.specs.declared.kind.Kind.{Kind}
-use Rattle.gix_hash_id.specs.declared.object_id.ObjectId.{ObjectId}
+use Rattle.gix_hash.specs.Id.{Id, id_of}
+use Rattle.gix_hash.specs.declared.kind.Kind.{Kind}
+use Rattle.gix_hash.specs.declared.object_id.ObjectId.{ObjectId}
 use Rattle.gix_object_tree.specs.Mode.{kind_value, is_tree_value}
 use Rattle.gix_object_tree.specs.declared.tree.mode.EntryKind.{EntryKind}
 use Rattle.gix_object_lookup.specs.Table.{Table}

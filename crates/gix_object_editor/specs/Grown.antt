@@ -1,7 +1,7 @@
 -- What more opened trees leave as it was, said of the trees themselves.
 use Rattle.std.specs.Prelude.{ℕ, ◌≡◌, ◌<◌, List, [], Bool, Some, None, false, length, slice_index_or}
 use Rattle.std.specs.Borrow.{Bor}
-use Rattle.gix_hash_id.specs.Id.{id_of}
+use Rattle.gix_hash.specs.Id.{id_of}
 use Rattle.gix_object_tree.specs.Entry.{Item}
 use Rattle.gix_object_lookup.specs.Table.{Table}
 use Rattle.gix_object_editor.specs.declared.tree.editor.error.Error.{Error}

@@ -1,7 +1,7 @@
 -- Entries that are put, in folders that are made for them.
 use Rattle.std.specs.Prelude.{ℕ, suc, ◌≡◌, ◌≢◌, ◌<◌, ◌+◌, length, slice_index_or, [], ◌∷◌, Option, Some, None, is_some, bytes_eq, if◌then◌else◌}
-use Rattle.gix_hash_id.specs.Id.{id_of}
-use Rattle.gix_hash_id.specs.declared.kind.Kind.{Kind}
+use Rattle.gix_hash.specs.Id.{id_of}
+use Rattle.gix_hash.specs.declared.kind.Kind.{Kind}
 use Rattle.gix_object_nodes.specs.declared.node.Slot.{Slot}
 use Rattle.gix_object_nodes.specs.Files.{Bytes, Path, Leaf, Trees, behind, entry_into}
 use Rattle.gix_object_nodes.specs.Nodes.{Slots, leaf_in, child_of}

@@ -1,6 +1,6 @@
 -- Why an edit is refused.
 use Rattle.std.specs.Prelude.{ℕ, ◌≡◌, ⊤, List, ◌∷◌, Some}
-use Rattle.gix_hash_id.specs.Id.{Id, id_of}
+use Rattle.gix_hash.specs.Id.{Id, id_of}
 use Rattle.gix_object_lines.specs.declared.kind.Kind.TheVariants as kinds
 use Rattle.gix_object_tree.specs.Entry.{Item, SpellsTree, TreeFault}
 use Rattle.gix_object_lookup.specs.Table.{Table}

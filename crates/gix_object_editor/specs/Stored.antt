@@ -1,6 +1,6 @@
 -- Stored trees, and what opening some of them leaves as it was.
 use Rattle.std.specs.Prelude.{ℕ, ◌≡◌, ◌<◌, ◌≤◌, ◌⊎◌, List, Option, Some, true}
-use Rattle.gix_hash_id.specs.Id.{Id}
+use Rattle.gix_hash.specs.Id.{Id}
 use Rattle.gix_object_lines.specs.declared.kind.Kind.TheVariants as kinds
 use Rattle.gix_object_lookup.specs.Table.{Table}
 use Rattle.gix_object_lookup.specs.Existing.{Stands}

@@ -1,7 +1,7 @@
 //! Objects that must exist, of any kind and of one.
 
 ghost use Rattle.std.specs.Prelude.{◌≡◌, Some, IfOk, IfErr};
-ghost use Rattle.gix_hash_id.specs.Views.{viewed_id};
+ghost use Rattle.gix_hash.specs.Views.{viewed_id};
 ghost use Rattle.gix_object_lines.specs.declared.kind.Kind.TheVariants as kinds;
 ghost use Rattle.gix_object_any.specs.Readers.{ReadsCommit, ReadsTag, ReadsTree};
 ghost use Rattle.gix_object_find.specs.Values.{object_of, StandsAs, tree_value, commit_value, tag_value, ReadsStanding, ObjectFault};
@@ -11,8 +11,7 @@ ghost use Rattle.gix_object_lookup.specs.Table.{header_at};
 use crate::Find;
 use gix_hash::{ObjectId, oid};
 use gix_object_any::Data;
-use gix_object_commit::CommitRef;
-use gix_object_commit_tokens::CommitRefIter;
+use gix_object_commit::{CommitRef, CommitRefIter};
 use gix_object_hash::BlobRef;
 use gix_object_lines::{Header, Kind};
 use gix_object_lookup::find::{existing, existing_iter, existing_object};

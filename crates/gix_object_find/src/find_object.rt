@@ -1,7 +1,7 @@
 //! The object of an id with its content.
 
 ghost use Rattle.std.specs.Prelude.{◌≡◌, option_map, IfOk, IfSome, IsSome, IsErrOf, Contains};
-ghost use Rattle.gix_hash_id.specs.Views.{viewed_id};
+ghost use Rattle.gix_hash.specs.Views.{viewed_id};
 ghost use Rattle.gix_object_find.specs.Values.{object_of};
 ghost use Rattle.gix_object_lookup.specs.declared.find.Error.TheVariants.{Failed};
 

@@ -1,8 +1,8 @@
 //! The ids of objects.
 
 ghost use Rattle.std.specs.Prelude.{◌≡◌, ◌++◌, length};
-ghost use Rattle.gix_hash_id.specs.Id.{id_of};
-ghost use Rattle.gix_hash_id.specs.Hasher.{id_of_message};
+ghost use Rattle.gix_hash.specs.Id.{id_of};
+ghost use Rattle.gix_hash.specs.Hasher.{id_of_message};
 ghost use Rattle.gix_object_lines.specs.Header.{header_text};
 
 use gix_hash::ObjectId;

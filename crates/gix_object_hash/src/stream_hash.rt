@@ -1,10 +1,10 @@
 //! The ids of objects whose content is read from a stream.
 
 ghost use Rattle.std.specs.Prelude.{◌≡◌, ◌≤◌, ◌*◌, ◌++◌, ℕ, List, [], ◌∷◌, suc, true, false, length, replicate, IfOk, IfErr};
-ghost use Rattle.gix_hash_id.specs.Id.{id_of};
-ghost use Rattle.gix_hash_id.specs.Hasher.{id_of_message};
-ghost use Rattle.gix_hash_hasher.specs.Faults.{IsInterrupted, IsIo};
-ghost use Rattle.gix_hash_hasher.specs.Pieces.{ReadsPieces, StopsAfterPieces, IsPieceCount, HasPiece};
+ghost use Rattle.gix_hash.specs.Id.{id_of};
+ghost use Rattle.gix_hash.specs.Hasher.{id_of_message};
+ghost use Rattle.gix_hash.specs.Faults.{IsInterrupted, IsIo};
+ghost use Rattle.gix_hash.specs.Pieces.{ReadsPieces, StopsAfterPieces, IsPieceCount, HasPiece};
 ghost use Rattle.gix_object_lines.specs.Header.{header_text};
 
 use gix_hash::ObjectId;

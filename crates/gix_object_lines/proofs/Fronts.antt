@@ -4,7 +4,7 @@ use Rattle.std.proofs.Math.Seq.{take-append-add}
 use Rattle.std.proofs.lemmas.List.{take-append-le}
 use Rattle.std.proofs.KnownBytes.{Appends-trans}
 use Rattle.std.specs.Io.KnownBytes.{Appends}
-use Rattle.gix_hash_id.specs.Writes.{AppendsFewer}
+use Rattle.gix_hash.specs.Writes.{AppendsFewer}
 
 -- a beginning of a part is one of the whole
 pub front_of : (a b : Option (List ℕ)) (part rest text : List ℕ) → text ≡ part ++ rest → AppendsFewer a b part → AppendsFewer a b text

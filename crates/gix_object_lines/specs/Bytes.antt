@@ -1,7 +1,7 @@
 -- Byte strings.
 use Rattle.std.specs.Prelude.{ℕ, Bool, nat_eq, bytes_eq, ◌-◌, List, [], ◌∷◌, ◌==◌, IsFalse, length, take, if◌then◌else◌}
 use Rattle.std.specs.List.{list_any, ends_with}
-pub use Rattle.gix_hash_prefix.specs.Beginnings.{IsBeginningOf}
+pub use Rattle.gix_hash.specs.Beginnings.{IsBeginningOf}
 
 -- the text doesn't have the byte
 abbrev pub Lacks : ℕ → List ℕ → Type 0

@@ -3,9 +3,9 @@
 ghost use Rattle.std.specs.Prelude.{◌≡◌, ◌++◌, ◌∷◌, ℕ, List, IsTrue, IfOk, IfErr, IsOkAnd, OnOk, OnErr};
 ghost use Rattle.std.specs.Io.KnownBytes.{Appends};
 ghost use Rattle.bstr.specs.BStr.{bstr_bytes};
-ghost use Rattle.gix_hash_id.specs.Id.{id_of};
-ghost use Rattle.gix_hash_id.specs.Views.{IsHexOfId};
-ghost use Rattle.gix_hash_id.specs.Writes.{AppendsFewer};
+ghost use Rattle.gix_hash.specs.Id.{id_of};
+ghost use Rattle.gix_hash.specs.Views.{IsHexOfId};
+ghost use Rattle.gix_hash.specs.Writes.{AppendsFewer};
 ghost use Rattle.gix_object_lines.specs.HexLine.{hex_line, is_hex, IsHex, HexLineFault};
 ghost use Rattle.gix_object_lines.specs.HexLine as test;
 ghost use Rattle.gix_object_lines.specs.declared.decode.Error.TheVariants.{HexDigits};

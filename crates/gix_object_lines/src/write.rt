@@ -2,12 +2,12 @@
 
 ghost use Rattle.std.specs.Prelude.{◌≡◌, ◌+◌, ◌^◌, ◌≤◌, [], ◌∷◌, OnOk, OnErr, MatchOption, flat_map, length, option_map};
 ghost use Rattle.std.specs.Io.KnownBytes.{Appends};
-ghost use Rattle.gix_hash_id.specs.Writes.{AppendsFewer};
+ghost use Rattle.gix_hash.specs.Writes.{AppendsFewer};
 ghost use Rattle.gix_object_lines.specs.Pieces.{WritesPieces};
 ghost use Rattle.gix_object_lines.specs.declared.write.Error.TheVariants.{Header};
 
 use crate::encode;
-pub use gix_hash_id::write::write_bytes;
+pub use gix_hash::write::write_bytes;
 use std::io;
 
 /// Why a name is no tag's.

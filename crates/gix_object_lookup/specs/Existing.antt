@@ -1,7 +1,7 @@
 -- Objects that must exist, and why they aren't returned: `honest` says whether a store answers by
 -- its table, `may_fail` whether its lookups may fail.
 use Rattle.std.specs.Prelude.{ℕ, ◌≡◌, ◌≢◌, ⊤, List, None, Some}
-use Rattle.gix_hash_id.specs.Id.{Id, id_of}
+use Rattle.gix_hash.specs.Id.{Id, id_of}
 use Rattle.gix_object_lines.specs.declared.kind.Kind.{Kind}
 use Rattle.gix_object_lines.specs.declared.kind.Kind.TheVariants as kinds
 use Rattle.gix_object_tree.specs.Reading.{place_of, start}

@@ -1,6 +1,6 @@
 -- Objects under their ids, as all lookups speak of them.
 use Rattle.std.specs.Prelude.{ℕ, List, [], length, Option, None, Some, option_map}
-use Rattle.gix_hash_id.specs.Id.{Id}
+use Rattle.gix_hash.specs.Id.{Id}
 use Rattle.gix_object_lines.specs.declared.header.Header.{Header}
 use Rattle.gix_object_lines.specs.declared.kind.Kind.{Kind}
 

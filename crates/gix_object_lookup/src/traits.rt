@@ -2,8 +2,8 @@
 
 ghost use Rattle.std.specs.Prelude.{◌≡◌, ◌↔◌, List, is_some, IsTrue, IfOk, OnOk, IsSome, IsErrOf, Contains};
 ghost use Rattle.std.specs.Rc.{rc_value};
-ghost use Rattle.gix_hash_id.specs.Id.{Id};
-ghost use Rattle.gix_hash_id.specs.Views.{viewed_id};
+ghost use Rattle.gix_hash.specs.Id.{Id};
+ghost use Rattle.gix_hash.specs.Views.{viewed_id};
 ghost use Rattle.gix_object_lookup.specs.Table.{Table, kind_at, content_at, header_at};
 ghost use Rattle.gix_object_lookup.specs.declared.find.Error.TheVariants.{Failed};
 

@@ -12,10 +12,10 @@ use Rattle.std.proofs.lemmas.List.{get_or-map}
 use Rattle.std.proofs.lemmas.List.Sorted.{IsPermutation-map, IsPermutation-sym, Contains-permutation, sorted_far, ranks_by}
 use Rattle.std.proofs.lemmas.Map.Keys.{IsDistinct-head, IsDistinct-tail, IsDistinct-cons, IsDistinct-IsPermutation, apart_from_distinct}
 use Rattle.std.proofs.lemmas.Map.Text.{is_eq-slice_cmp}
-use Rattle.gix_hash_id.specs.Id.{Id, id_of, null_id}
-use Rattle.gix_hash_id.specs.declared.object_id.ObjectId.{ObjectId}
-use Rattle.gix_hash_id.specs.Order.{digits_cmp, id_cmp, id_eq}
-use Rattle.gix_hash_id.specs.OrderLaws.{id_equivalence, id_eq-same, id_eq-itself}
+use Rattle.gix_hash.specs.Id.{Id, id_of, null_id}
+use Rattle.gix_hash.specs.declared.object_id.ObjectId.{ObjectId}
+use Rattle.gix_hash.specs.Order.{digits_cmp, id_cmp, id_eq}
+use Rattle.gix_hash.specs.OrderLaws.{id_equivalence, id_eq-same, id_eq-itself}
 use Rattle.gix_object_lines.specs.Bytes.{Lacks}
 use Rattle.gix_object_tree.specs.Entry.{Item, own_item}
 use Rattle.gix_object_tree.specs.Order.{git_key, is_tree, item_key, item_cmp, mode_cmp}

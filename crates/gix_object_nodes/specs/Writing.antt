@@ -1,8 +1,8 @@
 -- Opened trees as they are written: their entries, with the ids of the trees that lie in them.
 use Rattle.std.specs.Prelude.{ℕ, zero, suc, ◌≡◌, false, ◌++◌, List, [], ◌∷◌, Option, Some, None, if◌then◌else◌}
 use Rattle.std.specs.List.{All}
-use Rattle.gix_hash_id.specs.Id.{Id, id_of}
-use Rattle.gix_hash_id.specs.declared.object_id.ObjectId.{ObjectId}
+use Rattle.gix_hash.specs.Id.{Id, id_of}
+use Rattle.gix_hash.specs.declared.object_id.ObjectId.{ObjectId}
 use Rattle.gix_object_tree.specs.Entry.{Item}
 use Rattle.gix_object_tree.specs.Mode.{kind_value}
 use Rattle.gix_object_tree.specs.ModeText.{Mode, mode_of}

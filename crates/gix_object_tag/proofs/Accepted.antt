@@ -2,9 +2,9 @@
 use Rattle.std.proofs.Common.{◌≡◌, refl, ℕ, Bool, true, false, not, ◌||◌, ◌&&◌, List, [], ◌∷◌, length, Option, None, Some}
 use Rattle.std.specs.Prelude.{◌==◌}
 use Rattle.std.proofs.lemmas.Bool.Decides.{Decides-eqb}
-use Rattle.gix_hash_id.specs.Kind.{hex_len}
-use Rattle.gix_hash_id.specs.declared.kind.Kind as hash
-use Rattle.gix_hash_id.specs.declared.kind.Kind.TheVariants.{Sha1, Sha256}
+use Rattle.gix_hash.specs.Kind.{hex_len}
+use Rattle.gix_hash.specs.declared.kind.Kind as hash
+use Rattle.gix_hash.specs.declared.kind.Kind.TheVariants.{Sha1, Sha256}
 use Rattle.gix_object_lines.specs.HexLine.{IsHex, is_id}
 use Rattle.gix_object_lines.specs.Kind.{kind_word}
 use Rattle.gix_object_lines.proofs.TimeTests.{tells_time-Decides}

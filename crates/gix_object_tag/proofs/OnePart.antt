@@ -1,9 +1,9 @@
 -- One part is at a place.
 use Rattle.std.proofs.Common.{◌≡◌, ◌∙◌, refl, sym, ℕ, List, [], Option}
-use Rattle.gix_hash_id.specs.Id.{Id}
-use Rattle.gix_hash_id.specs.Views.{IsHexOfId}
-use Rattle.gix_hash_id.specs.declared.kind.Kind as hash
-use Rattle.gix_hash_id.proofs.LawLemmas.{one_reading}
+use Rattle.gix_hash.specs.Id.{Id}
+use Rattle.gix_hash.specs.Views.{IsHexOfId}
+use Rattle.gix_hash.specs.declared.kind.Kind as hash
+use Rattle.gix_hash.proofs.LawLemmas.{one_reading}
 use Rattle.gix_object_lines.specs.declared.kind.Kind.{Kind}
 use Rattle.gix_object_lines.specs.Person.{Person}
 use Rattle.gix_object_tag.specs.Tag.{SpellsTarget, SpellsKind, SpellsName, SpellsTagger, SpellsRest}

@@ -2,9 +2,9 @@
 use Rattle.std.proofs.Common.{◌≡◌, refl, false, ◌||◌, length, Option, Some, None}
 use Rattle.std.specs.Prelude.{FitsSigned, IfSome}
 use Rattle.std.specs.Int.{w64}
-use Rattle.gix_hash_id.specs.Id.{id_of}
-use Rattle.gix_hash_id.specs.Kind.{hex_len}
-use Rattle.gix_hash_id.specs.Spelling.{hex_text, IsHexOf}
+use Rattle.gix_hash.specs.Id.{id_of}
+use Rattle.gix_hash.specs.Kind.{hex_len}
+use Rattle.gix_hash.specs.Spelling.{hex_text, IsHexOf}
 use Rattle.gix_object_lines.specs.Writes.{cause_of}
 use Rattle.gix_object_lines.specs.declared.lines.actor.Actor.{Actor}
 use Rattle.gix_object_lines.proofs.HexDigits.{digits_are_hex}

@@ -6,7 +6,7 @@ use Rattle.std.proofs.lemmas.Bool.{true≢false, cases_lt, or_parts, not-false, 
 use Rattle.std.proofs.lemmas.Bool.Decides.{Decides-eqb}
 use Rattle.std.proofs.lemmas.List.{append-nil}
 use Rattle.std.proofs.lemmas.List.Folds.{Any-from_list_any, list_any-from_Any}
-use Rattle.gix_hash_id.specs.declared.kind.Kind as hash
+use Rattle.gix_hash.specs.declared.kind.Kind as hash
 use Rattle.gix_object_lines.specs.Bytes.{Lacks}
 use Rattle.gix_object_lines.specs.HexLine.{hex_line, is_hex, is_id, IsHex}
 use Rattle.gix_object_lines.specs.Kind.{kind_word}
@@ -29,7 +29,7 @@ use Rattle.gix_object_tag.specs.Tag.{Parts, IsLine, SpellsTagger, SpellsRest, Bo
 use Rattle.gix_object_tag.specs.TagText.{name_line, tagger_line, body_text, name_refusal, tagger_refusal, is_marked, is_marked_tagger, is_bad_tagger, unspellable_unless, tag_text, tag_refusal, pieces_of, head_piece, name_piece, tagger_piece, body_piece, tagger_text}
 use Rattle.gix_object_lines.proofs.TimeTests.{tells_time-Decides}
 use Rattle.gix_object_lines.specs.TimeTest.{tells_time}
-use Rattle.gix_hash_id.specs.Kind.{hex_len}
+use Rattle.gix_hash.specs.Kind.{hex_len}
 use Rattle.gix_object_tag.specs.BodyTest.{is_whole_body}
 use Rattle.gix_object_tag.proofs.BodyTests.{is_whole_body-Decides}
 use Rattle.gix_object_lines.proofs.NameTests.{is_partial_name-Decides}

@@ -1,7 +1,7 @@
 -- A tag that was read is in the format.
 use Rattle.std.proofs.Common.{◌≡◌, ◌∙◌, ap, refl, sym, subst, ℕ, ◌≤◌, List, [], ◌∷◌, ◌++◌, length, length-append, append_assoc, Option, Some, None, inl, inr, arith}
 use Rattle.std.specs.Prelude.{codes, ◌⊎◌}
-use Rattle.gix_hash_id.specs.declared.kind.Kind as hash
+use Rattle.gix_hash.specs.declared.kind.Kind as hash
 use Rattle.gix_object_lines.specs.Person.{Person}
 use Rattle.gix_object_signature.specs.Armor.{BeginsArmor}
 use Rattle.gix_object_signature.specs.declared.format.Format.{Format}

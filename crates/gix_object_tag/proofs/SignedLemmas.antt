@@ -3,7 +3,7 @@ use Rattle.std.proofs.Common.{◌≡◌, ◌∙◌, ap, refl, sym, subst, ℕ, t
 use Rattle.std.specs.Prelude.{IsOkAnd}
 use Rattle.std.proofs.lemmas.List.{append-nil, append_cancel_right}
 use Rattle.bstr.specs.BStr.{bstr_bytes}
-use Rattle.gix_hash_id.specs.declared.kind.Kind as hash
+use Rattle.gix_hash.specs.declared.kind.Kind as hash
 use Rattle.gix_object_lines.specs.declared.decode.Error.{Error}
 use Rattle.gix_object_signature.specs.declared.format.SignatureRef.{SignatureRef}
 use Rattle.gix_object_signature.specs.declared.signed.SignedData.{SignedData}

@@ -5,8 +5,8 @@ use Rattle.std.proofs.lemmas.List.{append_cancel_left, append_cancel_right}
 use Rattle.gix_object_lines.proofs.Cuts.{cut_once}
 use Rattle.gix_object_tag.specs.Signature.{IsSigned}
 use Rattle.std.specs.Prelude.{codes}
-use Rattle.gix_hash_id.specs.Kind.{hex_len}
-use Rattle.gix_hash_id.specs.declared.kind.Kind as hash
+use Rattle.gix_hash.specs.Kind.{hex_len}
+use Rattle.gix_hash.specs.declared.kind.Kind as hash
 use Rattle.gix_object_lines.specs.HexLine.{hex_line, IsHex}
 use Rattle.gix_object_tag.specs.Tag.{Parts, IsLine, IsMessageOf, SpellsBody, SpellsTarget, SpellsTagger, SpellsRest, Nothing, Body, SpellsTag}
 use Rattle.gix_object_lines.specs.Kind.{kind_word}

@@ -1,7 +1,7 @@
 -- Readings with a name that come to the end are those of tags.
 use Rattle.std.proofs.Common.{◌≡◌, ◌∙◌, ap, refl, sym, subst, ℕ, Bool, true, false, ◌||◌, List, [], ◌∷◌}
 use Rattle.std.specs.List.{list_any}
-use Rattle.gix_hash_id.specs.declared.kind.Kind as hash
+use Rattle.gix_hash.specs.declared.kind.Kind as hash
 use Rattle.gix_object_tag.specs.ReadingOn.{Reads}
 use Rattle.gix_object_tag.specs.Tokens.{Part, Place, IsPartAt, start}
 use Rattle.gix_object_tag.specs.Whole.{IsTag, ReadsWithName, tells_name}

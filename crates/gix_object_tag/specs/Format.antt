@@ -1,7 +1,7 @@
 -- Values that are read back as they are written.
 use Rattle.std.specs.Prelude.{ℕ, List, [], ⊤, Option, None, Some}
-use Rattle.gix_hash_id.specs.Kind.{hex_len}
-use Rattle.gix_hash_id.specs.declared.kind.Kind as hash
+use Rattle.gix_hash.specs.Kind.{hex_len}
+use Rattle.gix_hash.specs.declared.kind.Kind as hash
 use Rattle.gix_object_lines.specs.Actor.{TellsTime}
 use Rattle.gix_object_lines.specs.HexLine.{IsHex}
 use Rattle.gix_object_lines.specs.Person.{Person}

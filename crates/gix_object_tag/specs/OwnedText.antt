@@ -1,7 +1,7 @@
 -- A tag that owns its parts, as it is written.
 use Rattle.std.specs.Prelude.{ℤ, Bool, false, not, ◌||◌, ◌==◌, nat_lt, ◌%◌, Option, None, Some, unsigned_abs}
-use Rattle.gix_hash_id.specs.Id.{id_of}
-use Rattle.gix_hash_id.specs.Spelling.{hex_text}
+use Rattle.gix_hash.specs.Id.{id_of}
+use Rattle.gix_hash.specs.Spelling.{hex_text}
 use Rattle.gix_object_lines.specs.declared.lines.actor.Actor.{Actor}
 use Rattle.gix_object_lines.specs.Person.{own_person, Person}
 use Rattle.gix_object_tag.specs.Tag.{Parts}

@@ -1,8 +1,8 @@
 -- A tag's content (git-mktag: `object <hash>`, `type <type>`, `tag <tag>`, `tagger <tagger>`, an
 -- empty line and the message; gitformat-signature: a signature in armor ends the message).
 use Rattle.std.specs.Prelude.{ℕ, ◌≡◌, ◌≢◌, ◌⊎◌, List, [], ◌∷◌, ◌++◌, codes, Option, None, Some}
-use Rattle.gix_hash_id.specs.Kind.{hex_len}
-use Rattle.gix_hash_id.specs.declared.kind.Kind as hash
+use Rattle.gix_hash.specs.Kind.{hex_len}
+use Rattle.gix_hash.specs.declared.kind.Kind as hash
 use Rattle.gix_object_lines.specs.Actor.{SpellsActor}
 use Rattle.gix_object_lines.specs.Bytes.{IsBeginningOf, Lacks}
 use Rattle.gix_object_lines.specs.HexLine.{hex_line, IsHex}

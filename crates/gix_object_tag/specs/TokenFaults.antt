@@ -1,7 +1,7 @@
 -- Why no part of a tag is next, by what may come next (git-mktag).
 use Rattle.std.specs.Prelude.{ℕ, List, codes}
-use Rattle.gix_hash_id.specs.Kind.{hex_len}
-use Rattle.gix_hash_id.specs.declared.kind.Kind as hash
+use Rattle.gix_hash.specs.Kind.{hex_len}
+use Rattle.gix_hash.specs.declared.kind.Kind as hash
 use Rattle.gix_object_lines.specs.HexLine.{HexLineFault}
 use Rattle.gix_object_lines.specs.declared.decode.Error.{Error}
 use Rattle.gix_object_tag.specs.Faults.{KindFault, NameFault, TaggerFault, RestFault}

@@ -1,9 +1,9 @@
 -- Bytes that are a tag, and the tokens that make one.
 use Rattle.std.specs.Prelude.{ℕ, Bool, true, false, ◌≡◌, List, [], ◌∷◌, Option, None, IsTrue}
 use Rattle.std.specs.List.{list_any}
-use Rattle.gix_hash_id.specs.Id.{Id}
-use Rattle.gix_hash_id.specs.Views.{IsHexOfId}
-use Rattle.gix_hash_id.specs.declared.kind.Kind as hash
+use Rattle.gix_hash.specs.Id.{Id}
+use Rattle.gix_hash.specs.Views.{IsHexOfId}
+use Rattle.gix_hash.specs.declared.kind.Kind as hash
 use Rattle.gix_object_lines.specs.Person.{Person}
 use Rattle.gix_object_tag.specs.Tag.{Parts, SpellsTag}
 use Rattle.gix_object_tag.specs.ReadingOn.{Reads}

@@ -1,7 +1,7 @@
 //! What follows from the grammar, and what ties the two readers.
 
 ghost use Rattle.std.specs.Prelude.{ℕ, List, Option, ◌≡◌, ◌≢◌, ◌↔◌, [], None, IsTrue, length};
-ghost use Rattle.gix_hash_id.specs.Kind.{hex_len};
+ghost use Rattle.gix_hash.specs.Kind.{hex_len};
 ghost use Rattle.gix_object_lines.specs.HexLine.{is_id};
 ghost use Rattle.gix_object_lines.specs.PartialName.{IsPartialName};
 ghost use Rattle.gix_object_lines.specs.Writes.{cause_of};

@@ -2,8 +2,8 @@
 
 ghost use Rattle.std.specs.Prelude.{◌≡◌, IsTrue, IfOk, IfErr, IsOkAnd, MatchOption};
 ghost use Rattle.bstr.specs.BStr.{bstr_bytes};
-ghost use Rattle.gix_hash_id.specs.Id.{id_of};
-ghost use Rattle.gix_hash_id.specs.Views.{IsHexOfId};
+ghost use Rattle.gix_hash.specs.Id.{id_of};
+ghost use Rattle.gix_hash.specs.Views.{IsHexOfId};
 ghost use Rattle.gix_object_lines.specs.HexLine.{is_id};
 ghost use Rattle.gix_object_tag.specs.Tag.{Parts, SpellsTag};
 ghost use Rattle.gix_object_tag.specs.Signature.{IsBare, IsSignatureOf};

@@ -9,7 +9,7 @@ use Rattle.std.specs.List.Sorted.{IsNonDecreasingBy, IsPartitionPoint, IsBinaryS
 use Rattle.std.proofs.lemmas.Bool.{cases_lt}
 use Rattle.std.proofs.lemmas.Cmp.{nat_list_cmp_total, tied_itself}
 use Rattle.std.proofs.lemmas.List.{get_or-map}
-use Rattle.gix_hash_id.specs.Order.{digits_cmp}
+use Rattle.gix_hash.specs.Order.{digits_cmp}
 use Rattle.gix_object_tree.specs.Entry.{Item}
 use Rattle.gix_object_tree.specs.Order.{git_key, item_key}
 use Rattle.gix_object_tree.specs.SameItem.{one_key}

@@ -3,17 +3,17 @@ use Rattle.std.proofs.Common.{◌≡◌, ◌∙◌, ap, refl, sym, subst, ℕ, �
 use Rattle.std.specs.Prelude.{◌==◌, slice_index}
 use Rattle.std.specs.Str.Parse.{AllDigits}
 use Rattle.std.specs.Char.{digit_value}
-use Rattle.gix_hash_id.specs.Id.{Id}
-use Rattle.gix_hash_id.specs.Kind.{byte_len}
-use Rattle.gix_hash_id.specs.Views.{IsBytesOf}
-use Rattle.gix_hash_id.specs.declared.kind.Kind.{Kind}
-use Rattle.gix_hash_id.specs.declared.kind.Kind.TheVariants.{Sha1, Sha256}
+use Rattle.gix_hash.specs.Id.{Id}
+use Rattle.gix_hash.specs.Kind.{byte_len}
+use Rattle.gix_hash.specs.Views.{IsBytesOf}
+use Rattle.gix_hash.specs.declared.kind.Kind.{Kind}
+use Rattle.gix_hash.specs.declared.kind.Kind.TheVariants.{Sha1, Sha256}
 use Rattle.gix_object_lines.specs.Bytes.{Lacks}
 use Rattle.gix_object_lines.proofs.Cuts.{cut_once, lacks_not}
 use Rattle.gix_object_lines.proofs.CutLemmas.{lacks_cons}
 use Rattle.gix_object_tree.specs.ModeText.{Mode, SpellsMode}
 use Rattle.gix_object_tree.specs.Entry.{Item, SpellsEntry, SpellsEntries, SpellsTree, SpellsNoEntry, LacksMode, LacksNameEnd, LacksId}
-use Rattle.gix_hash_id.proofs.KindLemmas.{byte_len-injective}
+use Rattle.gix_hash.proofs.KindLemmas.{byte_len-injective}
 
 -- octal digits are no spaces
 pub lacks_space : (text : List ℕ) → AllDigits 8 text → Lacks 32 text

@@ -6,9 +6,9 @@ use Rattle.std.specs.Fmt.{digits}
 use Rattle.std.specs.List.{All, list_any}
 use Rattle.std.proofs.lemmas.Fmt.{digits_is_IsNumeral}
 use Rattle.std.proofs.lemmas.List.Elements.{All-head, All-tail}
-use Rattle.gix_hash_id.specs.Id.{raw_bytes}
-use Rattle.gix_hash_id.specs.Kind.{byte_len}
-use Rattle.gix_hash_id.specs.declared.kind.Kind.{Kind}
+use Rattle.gix_hash.specs.Id.{raw_bytes}
+use Rattle.gix_hash.specs.Kind.{byte_len}
+use Rattle.gix_hash.specs.declared.kind.Kind.{Kind}
 use Rattle.gix_object_tree.specs.Entry.{Item, item_of, SpellsEntries, SpellsTree}
 use Rattle.gix_object_tree.specs.ModeText.{Mode, SpellsMode, mode_text}
 use Rattle.gix_object_tree.specs.Reading.{Place, Gives, start}
@@ -18,7 +18,7 @@ use Rattle.gix_object_tree.specs.declared.tree.entry.EntryRef.{EntryRef}
 use Rattle.gix_object_tree.proofs.Octals.{padded_text}
 use Rattle.gix_object_tree.proofs.Spelled.{read_first, none_left, append_none}
 use Rattle.gix_object_tree.proofs.Written.{no_refusal, refused, raw_of}
-use Rattle.gix_hash_id.proofs.KindLemmas.{byte_len-injective}
+use Rattle.gix_hash.proofs.KindLemmas.{byte_len-injective}
 
 pub one_tree : (ids : Kind) (content : List ℕ) (one other : List Item) → SpellsTree ids content one → SpellsTree ids content other → one ≡ other
 one_tree ids content one other is also =

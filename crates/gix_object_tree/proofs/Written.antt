@@ -8,11 +8,11 @@ use Rattle.std.proofs.Math.Seq.{split_at}
 use Rattle.std.proofs.lemmas.List.{append-nil, map-append}
 use Rattle.std.proofs.lemmas.List.Sums.{take_while-cons}
 use Rattle.std.proofs.lemmas.Grind.{flat_map-append}
-use Rattle.gix_hash_id.specs.Id.{Id, raw_bytes, bytes_from}
-use Rattle.gix_hash_id.specs.Packed.{bytes_from-digits_of}
-use Rattle.gix_hash_id.specs.Views.{IsBytesOf}
+use Rattle.gix_hash.specs.Id.{Id, raw_bytes, bytes_from}
+use Rattle.gix_hash.specs.Packed.{bytes_from-digits_of}
+use Rattle.gix_hash.specs.Views.{IsBytesOf}
 use Rattle.gix_object_lines.proofs.Fronts.{front_then}
-use Rattle.gix_hash_id.specs.Writes.{AppendsFewer}
+use Rattle.gix_hash.specs.Writes.{AppendsFewer}
 use Rattle.gix_object_lines.specs.Writes.{Writes, writable, cause_of}
 use Rattle.gix_object_lines.specs.declared.write.Error.{Error}
 use Rattle.gix_object_lines.specs.declared.write.Error.TheVariants.{Writer, Header, TagName, Filename}

@@ -3,7 +3,7 @@
 use Rattle.std.specs.Prelude.{◌≡◌, [], ◌∷◌, ◌++◌, IsTrue}
 use Rattle.std.proofs.Common.{ap}
 use Rattle.std.specs.Hash as fed
-use Rattle.gix_hash_id.specs.Id.{raw_bytes}
+use Rattle.gix_hash.specs.Id.{raw_bytes}
 use Rattle.gix_object_tree.specs.Entry.{Item}
 use Rattle.gix_object_tree.specs.OrderLaws.{item_eq}
 use Rattle.gix_object_tree.specs.SameItem.{one_item}

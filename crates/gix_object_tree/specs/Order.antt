@@ -3,7 +3,7 @@
 use Rattle.std.specs.Prelude.{ℕ, Bool, List, [], ◌∷◌, ◌++◌, if◌then◌else◌}
 use Rattle.std.specs.declared.cmp.Ordering.{Ordering}
 use Rattle.std.specs.Ordering.{nat_cmp, bool_cmp, on, then_cmp}
-use Rattle.gix_hash_id.specs.Order.{digits_cmp, id_cmp}
+use Rattle.gix_hash.specs.Order.{digits_cmp, id_cmp}
 use Rattle.gix_object_tree.specs.Entry.{Item}
 use Rattle.gix_object_tree.specs.Mode.{is_tree_value}
 

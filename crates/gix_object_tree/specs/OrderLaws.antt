@@ -3,7 +3,7 @@ use Rattle.std.specs.Prelude.{Bool, Some}
 use Rattle.std.specs.Cmp.{IsTotalOrder, IsEquivalence, IsPartialEquivalence, IsPartialOrder, partial_equiv_from_equiv, partial_order_from_total, eq_by_cmp_equiv, then_total, bool_cmp_total}
 use Rattle.std.specs.Ordering.{eq_by_cmp}
 use Rattle.std.proofs.lemmas.Cmp.{nat_cmp_total, nat_list_cmp_total, on_total}
-use Rattle.gix_hash_id.specs.OrderLaws.{id_total}
+use Rattle.gix_hash.specs.OrderLaws.{id_total}
 use Rattle.gix_object_tree.specs.Entry.{Item}
 use Rattle.gix_object_tree.specs.Order.{item_key, item_cmp}
 

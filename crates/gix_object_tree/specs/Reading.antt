@@ -1,6 +1,6 @@
 -- A tree's entries one after another.
 use Rattle.std.specs.Prelude.{ℕ, ◌≡◌, ◌≢◌, List, [], ◌∷◌, Option, None, Some, Result, Ok, Err}
-use Rattle.gix_hash_id.specs.declared.kind.Kind.{Kind}
+use Rattle.gix_hash.specs.declared.kind.Kind.{Kind}
 use Rattle.gix_object_lines.specs.declared.decode.Error.{Error}
 use Rattle.gix_object_tree.specs.Entry.{item_of, SpellsEntry, SpellsNoEntry, EntryFault}
 use Rattle.gix_object_tree.specs.declared.tree.entry.EntryRef.{EntryRef}

@@ -6,9 +6,9 @@ use Rattle.std.specs.Ordering.{MatchOrdering, nat_cmp, bool_cmp, ordering_then, 
 use Rattle.std.proofs.lemmas.Cmp.{tied_itself, ranked}
 use Rattle.std.proofs.lemmas.Map.Text.{is_eq-slice_cmp}
 use Rattle.std.proofs.lemmas.Slice.Eq.{bytes_eq-Decides}
-use Rattle.gix_hash_id.specs.Id.{Id}
-use Rattle.gix_hash_id.specs.Order.{digits_cmp, id_cmp}
-use Rattle.gix_hash_id.specs.OrderLaws.{id_eq-same, id_tied}
+use Rattle.gix_hash.specs.Id.{Id}
+use Rattle.gix_hash.specs.Order.{digits_cmp, id_cmp}
+use Rattle.gix_hash.specs.OrderLaws.{id_eq-same, id_tied}
 use Rattle.gix_object_tree.specs.Entry.{Item}
 use Rattle.gix_object_tree.specs.Order.{item_key, mode_cmp, item_cmp}
 use Rattle.gix_object_tree.specs.OrderLaws.{item_total, item_eq}

@@ -3,7 +3,7 @@
 use Rattle.std.specs.Prelude.{ℕ, ◌≡◌, ◌≢◌, Bool, List, []}
 use Rattle.std.specs.List.{All, AllPairs}
 use Rattle.std.specs.declared.cmp.Ordering.TheVariants.{Less}
-use Rattle.gix_hash_id.specs.Order.{digits_cmp}
+use Rattle.gix_hash.specs.Order.{digits_cmp}
 use Rattle.gix_object_lines.specs.Bytes.{Lacks}
 use Rattle.gix_object_tree.specs.Entry.{Item}
 use Rattle.gix_object_tree.specs.Order.{is_tree, item_key}

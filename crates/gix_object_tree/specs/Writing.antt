@@ -1,9 +1,9 @@
 -- A tree as it is written: its entries one after another (Pro Git, "Tree Objects").
 use Rattle.std.specs.Prelude.{◌≡◌, ℕ, ◌==◌, Bool, not, List, [], ◌∷◌, ◌++◌, flat_map, Option, None, Some, if◌then◌else◌}
 use Rattle.std.specs.List.{All, list_any, take_while}
-use Rattle.gix_hash_id.specs.Id.{raw_bytes}
-use Rattle.gix_hash_id.specs.Views.{IsBytesOf}
-use Rattle.gix_hash_id.specs.declared.kind.Kind.{Kind}
+use Rattle.gix_hash.specs.Id.{raw_bytes}
+use Rattle.gix_hash.specs.Views.{IsBytesOf}
+use Rattle.gix_hash.specs.declared.kind.Kind.{Kind}
 use Rattle.gix_object_lines.specs.Writes.{Refusal}
 use Rattle.gix_object_lines.specs.declared.write.Error.TheVariants.{Filename}
 use Rattle.gix_object_lines.specs.declared.write.FilenameError.TheVariants.{NullbyteInFilename}

@@ -1,8 +1,8 @@
 -- What a call's result means, from that of the call below it.
 use Rattle.std.proofs.Common.{◌≡◌, refl, subst, sym, ℕ, List, Option, Some, Result, Ok, Err}
 use Rattle.std.specs.Prelude.{IsSome}
-use Rattle.gix_hash_id.specs.Id.{Id}
-use Rattle.gix_hash_id.specs.declared.object_id.ObjectId.{ObjectId}
+use Rattle.gix_hash.specs.Id.{Id}
+use Rattle.gix_hash.specs.declared.object_id.ObjectId.{ObjectId}
 use Rattle.gix_object_lookup.specs.Table.{Object, Table}
 use Rattle.gix_object_lines.specs.Writes.{Refusal, Writes, cause_of}
 use Rattle.gix_object_lines.specs.declared.write.Error as write

@@ -1,7 +1,7 @@
 -- What a store holds after an object was handed to it.
 use Rattle.std.specs.Prelude.{◌≡◌, ◌≢◌, ◌⊎◌, Some, Result, Ok, Err}
-use Rattle.gix_hash_id.specs.Id.{Id, id_of}
-use Rattle.gix_hash_id.specs.declared.object_id.ObjectId.{ObjectId}
+use Rattle.gix_hash.specs.Id.{Id, id_of}
+use Rattle.gix_hash.specs.declared.object_id.ObjectId.{ObjectId}
 use Rattle.gix_object_lookup.specs.Table.{Object, Table}
 use Rattle.gix_object_lines.specs.declared.write.Error as write
 use Rattle.gix_object_lines.specs.declared.write.Error.TheVariants.{Writer, Header, TagName, Filename}

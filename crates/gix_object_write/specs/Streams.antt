@@ -1,9 +1,9 @@
 -- Objects whose content is read from a stream: `left` are its bytes, if they are known.
 use Rattle.std.specs.Prelude.{ℕ, ◌≡◌, ◌≤◌, List, length, Option, Result, Err}
 use Rattle.std.specs.Io.KnownBytes.{Consumes}
-use Rattle.gix_hash_id.specs.Id.{Id}
-use Rattle.gix_hash_hasher.specs.Pieces.{GivesFewer}
-use Rattle.gix_hash_id.specs.declared.object_id.ObjectId.{ObjectId}
+use Rattle.gix_hash.specs.Id.{Id}
+use Rattle.gix_hash.specs.Pieces.{GivesFewer}
+use Rattle.gix_hash.specs.declared.object_id.ObjectId.{ObjectId}
 use Rattle.gix_object_lookup.specs.Table.{Table}
 use Rattle.gix_object_lines.specs.declared.kind.Kind.{Kind}
 use Rattle.gix_object_write.specs.Keeping.{Keeps, IsAsBefore}

@@ -1,10 +1,10 @@
 //! What keeps objects.
 
 ghost use Rattle.std.specs.Prelude.{◌≡◌, ⊤, IsSome};
-ghost use Rattle.gix_hash_id.specs.Id.{id_of};
-ghost use Rattle.gix_hash_id.specs.Hasher.{id_of_message};
-ghost use Rattle.gix_hash_id.specs.declared.kind.Kind.TheVariants as hashes;
-ghost use Rattle.gix_hash_id.specs.declared.kind.Kind as hash;
+ghost use Rattle.gix_hash.specs.Id.{id_of};
+ghost use Rattle.gix_hash.specs.Hasher.{id_of_message};
+ghost use Rattle.gix_hash.specs.declared.kind.Kind.TheVariants as hashes;
+ghost use Rattle.gix_hash.specs.declared.kind.Kind as hash;
 ghost use Rattle.gix_object_lines.specs.Writes.{cause_of};
 ghost use Rattle.gix_object_any.specs.Loose.{loose_text};
 ghost use Rattle.gix_object_write.specs.Keeping.{Keeps, told_as};

@@ -120,7 +120,9 @@ pub mod packed {
 
     /// Writing the file.
     pub mod write {
-        pub use gix_ref_packed::{Edit, edited, packed_text, write_header, write_record, written};
+        pub use gix_ref_format::packed::{
+            Edit, edited, packed_text, write_header, write_record, written,
+        };
     }
 
     /// Transactions of the file.
@@ -171,7 +173,7 @@ pub mod transaction {
 
     /// Committing it.
     pub mod commit {
-        pub use gix_ref_moves::{CommitError as Error, LogError};
+        pub use gix_ref_lock::{CommitError as Error, LogError};
     }
 
     pub use gix_ref_edit::{

@@ -1,10 +1,9 @@
-//! Cases of `gix_ref_packed`.
+//! Cases of `packed-refs` under edits.
 
 use case_words::{Page, read_texts, text_of};
 use gix_hash::{Kind, ObjectId};
-use gix_ref_format::packed::{Buffer, Reference};
+use gix_ref_format::packed::{Buffer, Edit, Reference, edited, packed_text};
 use gix_ref_name::FullNameRef;
-use gix_ref_packed::{Edit, edited, packed_text};
 use std::alloc::Global;
 
 /// Adds what the operation of the line gives.

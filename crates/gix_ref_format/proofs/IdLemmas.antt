@@ -3,12 +3,12 @@ use Rattle.std.proofs.Common.{◌≡◌, ℕ, zero, suc, ◌<◌, Bool, true, fa
 use Rattle.std.specs.Prelude.{Any}
 use Rattle.std.specs.List.{list_all}
 use Rattle.hex.specs.Hex.{hex_digit_value}
-use Rattle.gix_hash_id.specs.declared.kind.Kind.{Kind}
-use Rattle.gix_hash_id.specs.Kind.{hex_len}
-use Rattle.gix_hash_id.specs.Id.{Id}
-use Rattle.gix_hash_id.specs.Spelling.{IsHexOf}
-use Rattle.gix_hash_id.proofs.ReadBack.{all_values}
-use Rattle.gix_hash_id.specs.OrderLaws.{same_id}
+use Rattle.gix_hash.specs.declared.kind.Kind.{Kind}
+use Rattle.gix_hash.specs.Kind.{hex_len}
+use Rattle.gix_hash.specs.Id.{Id}
+use Rattle.gix_hash.specs.Spelling.{IsHexOf}
+use Rattle.gix_hash.proofs.ReadBack.{all_values}
+use Rattle.gix_hash.specs.OrderLaws.{same_id}
 use Rattle.gix_ref_format.specs.Ids.{id_from_hex}
 use Rattle.std.proofs.lemmas.Bool.{and_parts, eqb-true}
 use Rattle.std.proofs.lemmas.Option.{same_Some}

@@ -1,9 +1,11 @@
+pub mod EditLemmas
+pub mod GatherLemmas
 pub mod IdLemmas
 pub mod LineLemmas
-pub mod SpaceLemmas
 pub mod PackedLemmas
-pub mod SortLemmas
 pub mod PrefixLemmas
-pub mod GatherLemmas
+pub mod ReadBack
+pub mod SortLemmas
+pub mod SpaceLemmas
 pub mod WordLemmas
 pub mod WrittenLemmas

@@ -1,8 +1,10 @@
+pub mod Edited
 pub mod Ids
 pub mod Lines
+pub mod Lookup
 pub mod Loose
 pub mod Packed
-pub mod PackedIter
 pub mod PackedBuffer
+pub mod PackedIter
 pub mod PackedKept
-pub mod Lookup
+pub mod Written

@@ -1,10 +1,10 @@
 -- The text of a reference's own file: an object's id in hexadecimal and a line feed, or `ref: `, a
 -- full name and a line feed (gitrepository-layout, "refs" and "HEAD"; git-symbolic-ref).
 use Rattle.std.specs.Prelude.{ℕ, ◌==◌, Bool, true, ◌||◌, List, [], ◌∷◌, ◌++◌, take, drop, codes, if◌then◌else◌, Option, Some, None, option_map, IsTrue, IsFalse, ◌≡◌}
-use Rattle.gix_hash_id.specs.Id.{Id}
-use Rattle.gix_hash_id.specs.Kind.{hex_len}
-use Rattle.gix_hash_id.specs.Spelling.{hex_text}
-use Rattle.gix_hash_id.specs.declared.kind.Kind.{Kind}
+use Rattle.gix_hash.specs.Id.{Id}
+use Rattle.gix_hash.specs.Kind.{hex_len}
+use Rattle.gix_hash.specs.Spelling.{hex_text}
+use Rattle.gix_hash.specs.declared.kind.Kind.{Kind}
 use Rattle.gix_object_lines.specs.NameTest.{begins, is_full_name}
 use Rattle.gix_ref_name.specs.Targets.{Points, ToObject, ToName}
 use Rattle.gix_ref_format.specs.Ids.{id_from_hex}

@@ -4,9 +4,9 @@
 use Rattle.std.specs.Prelude.{ℕ, ◌≡◌, ◌+◌, ◌==◌, min, Bool, true, false, ◌&&◌, is_some, List, [], ◌∷◌, ◌++◌, map, length, take, drop, codes, if◌then◌else◌, Option, Some, None, option_map, option_and_then, Result, Ok, Err, IsTrue, IsFalse}
 use Rattle.std.specs.List.{slice_split, ends_with}
 use Rattle.bstr.specs.BStr.{bstr_bytes}
-use Rattle.gix_hash_id.specs.Id.{Id, id_of}
-use Rattle.gix_hash_id.specs.Kind.{hex_len}
-use Rattle.gix_hash_id.specs.declared.kind.Kind.{Kind}
+use Rattle.gix_hash.specs.Id.{Id, id_of}
+use Rattle.gix_hash.specs.Kind.{hex_len}
+use Rattle.gix_hash.specs.declared.kind.Kind.{Kind}
 use Rattle.gix_object_lines.specs.Bytes.{is_among}
 use Rattle.gix_object_lines.specs.NameTest.{begins, is_full_name}
 use Rattle.gix_ref_name.specs.Names.{name_of}

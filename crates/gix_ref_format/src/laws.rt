@@ -1,14 +1,17 @@
 //! What holds of the formats by their definitions: what is written is read back.
 
 ghost use Rattle.std.specs.Prelude.{◌≡◌, Some};
-ghost use Rattle.gix_hash_id.specs.Id.{id_of};
+ghost use Rattle.gix_hash.specs.Id.{id_of};
 ghost use Rattle.gix_ref_name.specs.Names.{name_of};
 ghost use Rattle.gix_ref_name.specs.Targets.{ToObject, ToName};
 ghost use Rattle.gix_ref_format.specs.Loose.{loose_target, loose_text};
 
+mod written;
+
 use gix_hash::laws::printed_id_reads_back;
 use gix_hash::{Kind, ObjectId};
 use gix_ref_name::FullNameRef;
+pub use written::{records_can_stand, written_records_are_read};
 
 /// The text that is written of an id is read as that id.
 pub fn written_id_is_read(id: &ObjectId)

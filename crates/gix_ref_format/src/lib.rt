@@ -1,4 +1,4 @@
-//! The formats of references: loose texts and `packed-refs`, after the crate `gix-ref` 0.67.
+//! The formats of references: loose texts and `packed-refs`, read, written and edited, after `gix-ref` 0.67.
 #![tactic(auto)]
 
 pub mod ids;

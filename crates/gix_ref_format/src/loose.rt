@@ -2,7 +2,7 @@
 
 ghost use Rattle.std.specs.Prelude.{◌≡◌, ◌++◌, [], ℕ, List, Some, IsTrue, IsFalse, OnOk, MatchResult, drop, codes};
 ghost use Rattle.std.specs.Option.{option_map};
-ghost use Rattle.gix_hash_id.specs.Id.{id_of};
+ghost use Rattle.gix_hash.specs.Id.{id_of};
 ghost use Rattle.gix_ref_name.specs.Targets.{ToName, target_view, target_ref_view, kind_of};
 ghost use Rattle.gix_ref_name.specs.Names.{name_of};
 ghost use Rattle.gix_ref_format.specs.declared.loose.Error.TheVariants.{Memory};

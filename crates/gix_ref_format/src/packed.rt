@@ -5,15 +5,21 @@ ghost use Rattle.gix_ref_format.specs.declared.packed.Peeled.TheVariants.{Unspec
 
 pub mod buffer;
 mod decode;
+mod edit;
 mod find;
 pub mod iter;
+mod merge;
 mod open;
 mod records;
+mod write;
 
 pub use crate::packed::buffer::Buffer;
+pub use crate::packed::edit::Edit;
 pub use crate::packed::find::FindError;
 pub use crate::packed::iter::Iter;
+pub use crate::packed::merge::{edited, written};
 pub use crate::packed::records::Records;
+pub use crate::packed::write::{packed_text, write_header, write_record};
 use gix_hash::ObjectId;
 use gix_ref_name::FullNameRef;
 

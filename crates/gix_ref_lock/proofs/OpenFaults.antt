@@ -1,7 +1,7 @@
 -- Records that are read are opened, but for a failed reading or want of memory.
 use Rattle.std.proofs.Common.{◌≡◌, ◌⊎◌, inl, inr, refl, sym, ◌∙◌, ap, subst, ℕ, true, false, List, [], ◌∷◌, Option, Some, None}
 use Rattle.std.specs.Prelude.{is_some, option_and_then}
-use Rattle.gix_hash_id.specs.declared.kind.Kind.{Kind}
+use Rattle.gix_hash.specs.declared.kind.Kind.{Kind}
 use Rattle.gix_ref_format.specs.Packed.{Item, Good, Bad, BadHeader, all_good, with_item}
 use Rattle.gix_ref_format.specs.PackedBuffer.{FileFault, first_bad}
 use Rattle.gix_ref_format.specs.declared.packed.buffer.Error as buffer

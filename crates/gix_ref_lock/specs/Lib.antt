@@ -1,6 +1,11 @@
+pub mod Committing
+pub mod Contents
 pub mod GivenBacks
 pub mod Locks
-pub mod Records
-pub mod RecordEdits
-pub mod PackedErrors
+pub mod Moments
+pub mod Moves
+pub mod Needs
 pub mod PackedEdits
+pub mod PackedErrors
+pub mod RecordEdits
+pub mod Records

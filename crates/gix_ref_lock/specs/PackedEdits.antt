@@ -1,6 +1,6 @@
 -- What a transaction of `packed-refs` holds.
 use Rattle.std.specs.Prelude.{ℕ, ◌≡◌, ⊤, false, List, Option, Some, None, option_map, IsSome}
-use Rattle.gix_hash_id.specs.declared.kind.Kind.{Kind}
+use Rattle.gix_hash.specs.declared.kind.Kind.{Kind}
 use Rattle.gix_ref_file.specs.Tree.{Tree, node_at, bytes_of}
 use Rattle.gix_ref_format.specs.Packed.{packed_records}
 use Rattle.gix_ref_format.specs.PackedBuffer.{KeepsFile}

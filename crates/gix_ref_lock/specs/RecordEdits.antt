@@ -1,7 +1,7 @@
 -- What an edit of `packed-refs` says of its name.
 use Rattle.std.specs.Prelude.{Some, None, option_map}
-use Rattle.gix_hash_id.specs.Id.{id_of}
-use Rattle.gix_ref_packed.specs.Edited.{Line}
+use Rattle.gix_hash.specs.Id.{id_of}
+use Rattle.gix_ref_format.specs.Edited.{Line}
 use Rattle.gix_ref_lock.specs.declared.packed.RecordEdit.{RecordEdit}
 use Rattle.gix_ref_lock.specs.declared.packed.RecordEdit.TheVariants.{Write, Remove}
 

@@ -1,12 +1,12 @@
 -- The records of `packed-refs` under edits, as a lock holds them.
 use Rattle.std.specs.Prelude.{ℕ, ◌≡◌, List, [], Option, None, Some}
 use Rattle.gix_ref_file.specs.Tree.{Tree, file, node_at}
-use Rattle.gix_hash_id.specs.declared.kind.Kind.{Kind}
+use Rattle.gix_hash.specs.declared.kind.Kind.{Kind}
 use Rattle.gix_ref_format.specs.Packed.{Record, packed_records}
 use Rattle.gix_ref_format.specs.PackedKept.{kept}
 use Rattle.gix_ref_format.specs.declared.packed.buffer.Buffer.{Buffer}
-use Rattle.gix_ref_packed.specs.Edited.{Line, IsEdited}
-use Rattle.gix_ref_packed.specs.Written.{packed_text, AllHaveKind}
+use Rattle.gix_ref_format.specs.Edited.{Line, IsEdited}
+use Rattle.gix_ref_format.specs.Written.{packed_text, AllHaveKind}
 
 -- the records of a file; none if there is no file
 abbrev pub records_in : Option Buffer → List Record

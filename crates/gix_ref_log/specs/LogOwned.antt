@@ -1,14 +1,14 @@
 -- Lines that own their parts: what is written of them, and what they are copies of.
 use Rattle.std.specs.Prelude.{ℕ, ◌≡◌, List, [], ◌∷◌, ◌++◌, Option, None, Some, Result, Ok, Err, IsTrue}
 use Rattle.std.specs.Io.KnownBytes.{Appends, Keeps}
-use Rattle.gix_hash_id.specs.Id.{id_of}
-use Rattle.gix_hash_id.specs.Spelling.{hex_text}
-use Rattle.gix_hash_id.specs.Views.{IsHexOfId}
+use Rattle.gix_hash.specs.Id.{id_of}
+use Rattle.gix_hash.specs.Spelling.{hex_text}
+use Rattle.gix_hash.specs.Views.{IsHexOfId}
 use Rattle.gix_object_lines.specs.Actor.{IsSpellable, TellsTime, actor_text}
 use Rattle.gix_object_lines.specs.Bytes.{Lacks}
 use Rattle.gix_object_lines.specs.HexLine.{is_id}
 use Rattle.gix_object_lines.specs.Time.{SpellsTime, time_text}
-use Rattle.gix_hash_id.specs.Writes.{AppendsFewer}
+use Rattle.gix_hash.specs.Writes.{AppendsFewer}
 use Rattle.gix_object_lines.specs.declared.decode.Error.{Error as DecodeError}
 use Rattle.gix_object_lines.specs.declared.decode.Error.TheVariants as decode
 use Rattle.gix_ref_log.specs.LogLine.{LineParts, SpellsLine, IsNoLine, line_text}

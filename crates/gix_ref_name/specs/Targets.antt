@@ -1,9 +1,9 @@
 -- What references point to.
 use Rattle.std.specs.Prelude.{ℕ, ◌≡◌, List, ◌++◌, codes, encode_utf8_all, Option, Some, None}
 use Rattle.bstr.specs.Utf8.{lossy_chars}
-use Rattle.gix_hash_id.specs.Id.{Id, id_of, null_id}
-use Rattle.gix_hash_id.specs.Views.{viewed_id}
-use Rattle.gix_hash_id.specs.Spelling.{hex_text}
+use Rattle.gix_hash.specs.Id.{Id, id_of, null_id}
+use Rattle.gix_hash.specs.Views.{viewed_id}
+use Rattle.gix_hash.specs.Spelling.{hex_text}
 use Rattle.gix_ref_name.specs.Names.{name_of}
 use Rattle.gix_ref_name.specs.declared.target.Kind.{Kind}
 use Rattle.gix_ref_name.specs.declared.target.Kind.TheVariants as kinds

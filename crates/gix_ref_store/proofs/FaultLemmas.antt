@@ -1,6 +1,6 @@
 -- Texts of files that name no target.
 use Rattle.std.proofs.Common.{◌≡◌, ◌∙◌, ap, ℕ, cond, List, Option, Some, None, option_map}
-use Rattle.gix_hash_id.specs.declared.kind.Kind.{Kind}
+use Rattle.gix_hash.specs.declared.kind.Kind.{Kind}
 use Rattle.gix_object_lines.specs.NameTest.{is_full_name}
 use Rattle.gix_ref_name.specs.Targets.{Points, ToObject, ToName}
 use Rattle.gix_ref_format.specs.Loose.{loose_target, is_symbolic, referent, leading_id, LooseFault}

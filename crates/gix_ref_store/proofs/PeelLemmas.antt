@@ -6,10 +6,10 @@ use Rattle.std.proofs.lemmas.List.Folds.{list_any-append}
 use Rattle.std.proofs.lemmas.Map.Keys.{IsDistinct-push}
 use Rattle.std.proofs.lemmas.Map.Made.{length-le_from_is_member}
 use Rattle.std.proofs.lemmas.Option.{slice_get-get_or}
-use Rattle.gix_hash_id.specs.Id.{Id, id_of}
-use Rattle.gix_hash_id.specs.Order.{id_eq}
-use Rattle.gix_hash_id.specs.OrderLaws.{id_equivalence, id_eq-itself, id_eq-same}
-use Rattle.gix_hash_id.specs.declared.object_id.ObjectId.{ObjectId}
+use Rattle.gix_hash.specs.Id.{Id, id_of}
+use Rattle.gix_hash.specs.Order.{id_eq}
+use Rattle.gix_hash.specs.OrderLaws.{id_equivalence, id_eq-itself, id_eq-same}
+use Rattle.gix_hash.specs.declared.object_id.ObjectId.{ObjectId}
 use Rattle.gix_object_lookup.specs.Table.{Table}
 use Rattle.gix_ref_file.specs.Tree.{Tree}
 use Rattle.gix_ref_store.specs.Places.{Base}

@@ -2,7 +2,7 @@
 -- (gitrepository-layout; git-worktree, "Refs").
 use Rattle.std.specs.Prelude.{ℕ, ◌-◌, ◌||◌, List, length, take, drop, codes, if◌then◌else◌, Option, Some, None}
 use Rattle.gix_ref_file.specs.Tree.{under}
-use Rattle.gix_hash_id.specs.declared.kind.Kind.{Kind}
+use Rattle.gix_hash.specs.declared.kind.Kind.{Kind}
 use Rattle.gix_object_lines.specs.NameTest.{begins, is_capitals}
 use Rattle.gix_ref_format.specs.Lookup.{is_own, behind_slash}
 

@@ -1,8 +1,8 @@
 -- What a full name reads as in a tree of files: its own file wins over a packed record
 -- (gitrepository-layout, "refs" and "packed-refs").
 use Rattle.std.specs.Prelude.{ℕ, ◌≡◌, is_some, List, [], ◌∷◌, if◌then◌else◌, Option, Some, None}
-use Rattle.gix_hash_id.specs.Id.{Id}
-use Rattle.gix_hash_id.specs.declared.kind.Kind.{Kind}
+use Rattle.gix_hash.specs.Id.{Id}
+use Rattle.gix_hash.specs.declared.kind.Kind.{Kind}
 use Rattle.gix_object_lines.specs.NameTest.{is_full_name}
 use Rattle.gix_ref_file.specs.Tree.{Tree, node_at, bytes_of}
 use Rattle.gix_ref_name.specs.Targets.{Points, ToObject}

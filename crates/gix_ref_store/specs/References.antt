@@ -1,6 +1,6 @@
 -- What references are made of, and become.
 use Rattle.std.specs.Prelude.{ℕ, ◌≡◌, List}
-use Rattle.gix_hash_id.specs.Id.{id_of}
+use Rattle.gix_hash.specs.Id.{id_of}
 use Rattle.gix_ref_name.specs.Names.{name_of}
 use Rattle.gix_ref_name.specs.Namespaces.{outside_of}
 use Rattle.gix_ref_name.specs.Targets.{ToObject, target_view}

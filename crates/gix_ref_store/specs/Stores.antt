@@ -2,7 +2,7 @@
 use Rattle.std.specs.Prelude.{◌≡◌, ℕ, false, List, Option, Some, None}
 use Rattle.std.specs.Prelude.{Vec}
 use Rattle.std.specs.declared.alloc.Global.{Global}
-use Rattle.gix_hash_id.specs.declared.kind.Kind.TheVariants.{Sha1}
+use Rattle.gix_hash.specs.declared.kind.Kind.TheVariants.{Sha1}
 use Rattle.gix_ref_store.specs.declared.options.Options.{Options}
 use Rattle.gix_ref_store.specs.declared.options.WriteReflog.TheVariants.{Normal}
 use Rattle.gix_ref_store.specs.declared.store.file.Store.{Store}

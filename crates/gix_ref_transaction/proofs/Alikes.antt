@@ -3,7 +3,7 @@ use Rattle.std.proofs.Common.{◌≡◌, refl, Bool, true, false, cond}
 use Rattle.gix_object_lines.specs.NameTest.{is_full_name}
 use Rattle.gix_ref_file.specs.Tree.{Tree}
 use Rattle.gix_ref_way.specs.Ways.{Bytes}
-use Rattle.gix_ref_moves.specs.Moments.{SameButLocks}
+use Rattle.gix_ref_lock.specs.Moments.{SameButLocks}
 use Rattle.gix_ref_store.specs.Places.{Base, place, log_place, packed_place}
 use Rattle.gix_ref_store.specs.RefStates.{Absent, read_by, told_by, records_of, loose_text_at, packed_text_in}
 use Rattle.gix_ref_transaction.specs.Alike.{ReadsAlike}

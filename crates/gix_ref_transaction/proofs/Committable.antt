@@ -14,11 +14,11 @@ use Rattle.gix_ref_lock.specs.declared.packed.Transaction.{Transaction}
 use Rattle.gix_ref_store.specs.Places.{Base, place, log_place, packed_place}
 use Rattle.gix_ref_way.specs.Ways.{Bytes, file_at, FoldersOnlyOf, HasWay, IsAbove}
 use Rattle.gix_ref_way.proofs.Rooms.{among_first, among_rest, room_stays}
-use Rattle.gix_ref_moves.specs.Committing.{commit_paths}
-use Rattle.gix_ref_moves.specs.Contents.{act_line, place_of, lock_path_of, log_path_of}
-use Rattle.gix_ref_moves.specs.Moves.{IsNone, all_paths, lock_paths}
-use Rattle.gix_ref_moves.specs.Needs.{AreBeside, CanCommit, CanMove, CanNote, CanReplace}
-use Rattle.gix_ref_moves.specs.declared.act.Move.{Move}
+use Rattle.gix_ref_lock.specs.Committing.{commit_paths}
+use Rattle.gix_ref_lock.specs.Contents.{act_line, place_of, lock_path_of, log_path_of}
+use Rattle.gix_ref_lock.specs.Moves.{IsNone, all_paths, lock_paths}
+use Rattle.gix_ref_lock.specs.Needs.{AreBeside, CanCommit, CanMove, CanNote, CanReplace}
+use Rattle.gix_ref_lock.specs.declared.act.Move.{Move}
 use Rattle.gix_ref_transaction.specs.Locking.{AreHeld, HaveRoom, RecordsHeld}
 use Rattle.gix_ref_transaction.specs.Paths.{edit_paths, has_twice, name_paths, places_of}
 use Rattle.gix_ref_transaction.specs.Plans.{AllPlanned, KeepsFiles}

@@ -13,10 +13,10 @@ use Rattle.gix_ref_lock.specs.declared.packed.Error.{Error as LockError}
 use Rattle.gix_ref_lock.specs.declared.packed.Error.TheVariants.{BufferOpen, TransactionLock}
 use Rattle.gix_ref_lock.specs.declared.packed.LockError.TheVariants as locking
 use Rattle.gix_ref_lock.specs.declared.packed.PrepareError.TheVariants as writing
-use Rattle.gix_ref_repacking.specs.Resolving.{IfUnresolved}
-use Rattle.gix_ref_repacking.specs.Rollback.{IsEarly, WantsMemory}
-use Rattle.gix_ref_repacking.specs.declared.error.RepackError.{RepackError}
-use Rattle.gix_ref_repacking.specs.declared.error.RepackError.TheVariants as repack
+use Rattle.gix_ref_transaction.specs.Resolving.{IfUnresolved}
+use Rattle.gix_ref_transaction.specs.RecordsRollback.{IsEarly, WantsMemory}
+use Rattle.gix_ref_transaction.specs.declared.repacking.error.RepackError.{RepackError}
+use Rattle.gix_ref_transaction.specs.declared.repacking.error.RepackError.TheVariants as repack
 use Rattle.gix_ref_file.specs.Tree.{Tree}
 use Rattle.gix_ref_store.specs.Places.{Base}
 use Rattle.gix_ref_store.specs.RefStates.{RefState}

@@ -7,8 +7,8 @@ use Rattle.gix_ref_lock.specs.declared.packed.Error.{Error as LockError}
 use Rattle.gix_ref_lock.specs.declared.packed.Error.TheVariants.{BufferOpen, TransactionLock}
 use Rattle.gix_ref_lock.specs.declared.packed.LockError.TheVariants as locking
 use Rattle.gix_ref_lock.specs.declared.packed.PrepareError.TheVariants as writing
-use Rattle.gix_ref_repacking.specs.declared.error.RepackError.{RepackError}
-use Rattle.gix_ref_repacking.specs.declared.error.RepackError.TheVariants as repack
+use Rattle.gix_ref_transaction.specs.declared.repacking.error.RepackError.{RepackError}
+use Rattle.gix_ref_transaction.specs.declared.repacking.error.RepackError.TheVariants as repack
 use Rattle.gix_ref_store.specs.Places.{Base}
 use Rattle.gix_ref_transaction.specs.Causes.{LockFault, SomeEditFault}
 use Rattle.gix_ref_transaction.specs.Errors.{IsAfter, of_locking, of_repacking}

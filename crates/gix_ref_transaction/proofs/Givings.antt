@@ -8,9 +8,9 @@ use Rattle.gix_ref_lock.specs.declared.lock.GivenBack.{GivenBack}
 use Rattle.gix_ref_lock.specs.declared.lock.GivenBack.TheVariants as given
 use Rattle.gix_ref_lock.specs.declared.packed.CommitError.{CommitError as PackedError}
 use Rattle.gix_ref_lock.specs.declared.packed.CommitError.TheVariants as packed_case
-use Rattle.gix_ref_moves.specs.Needs.{IsOutOfMemory}
-use Rattle.gix_ref_moves.specs.declared.act.CommitError.{CommitError}
-use Rattle.gix_ref_moves.specs.declared.act.CommitError.TheVariants as moving
+use Rattle.gix_ref_lock.specs.Needs.{IsOutOfMemory}
+use Rattle.gix_ref_lock.specs.declared.act.CommitError.{CommitError}
+use Rattle.gix_ref_lock.specs.declared.act.CommitError.TheVariants as moving
 use Rattle.gix_ref_way.proofs.FoldersMade.{risen_later}
 use Rattle.gix_ref_transaction.specs.Rollback.{of_back, of_commit, of_giving}
 use Rattle.gix_ref_transaction.proofs.Counting.{worse_failed, worse_unfailed}

@@ -11,10 +11,10 @@ use Rattle.gix_ref_edit.specs.declared.change.RefEdit.{RefEdit}
 use Rattle.gix_ref_edit.specs.declared.log.RefLog.{RefLog}
 use Rattle.gix_ref_edit.specs.declared.log.RefLog.TheVariants.{AndReference, Only}
 use Rattle.gix_ref_format.specs.Lookup.{packed_key}
-use Rattle.gix_ref_packed.specs.Edited.{Line, line_at}
+use Rattle.gix_ref_format.specs.Edited.{Line, line_at}
 use Rattle.gix_ref_store.specs.Places.{Base, place}
 use Rattle.gix_ref_way.specs.Ways.{Bytes}
-use Rattle.gix_ref_repacking.specs.Repacking.{SaysOfRecord, SaysByKey, SayOfRecords, UpdatesRecord}
+use Rattle.gix_ref_transaction.specs.Repacking.{SaysOfRecord, SaysByKey, SayOfRecords, UpdatesRecord}
 use Rattle.gix_ref_transaction.proofs.PathKeys.{one_place}
 
 inner : {A : Type 0} {r s : A} → Some r ≡ Some s → r ≡ s

@@ -19,3 +19,5 @@ mod Takings
 mod Givings
 mod LockedEdits
 mod Readies
+mod RecordLines
+mod Unresolved

@@ -2,9 +2,9 @@
 use Rattle.std.proofs.Common.{◌≡◌, ◌⊎◌, inl, inr, refl, sym, ◌∙◌, ap, subst, ℕ, Bool, true, false, List, [], Option, Some, None, Vec}
 use Rattle.std.specs.Prelude.{Ok, ◌&&◌, not}
 use Rattle.std.specs.declared.alloc.Global.{Global}
-use Rattle.gix_hash_id.specs.Id.{Id, id_of, null_id}
-use Rattle.gix_hash_id.specs.Order.{id_eq}
-use Rattle.gix_hash_id.specs.declared.kind.Kind.{Kind}
+use Rattle.gix_hash.specs.Id.{Id, id_of, null_id}
+use Rattle.gix_hash.specs.Order.{id_eq}
+use Rattle.gix_hash.specs.declared.kind.Kind.{Kind}
 use Rattle.gix_ref_name.specs.Targets.{Points, ToObject, ToName, target_view}
 use Rattle.gix_ref_name.specs.declared.target.Target.{Target}
 use Rattle.gix_ref_edit.specs.declared.change.Change.{Change}
@@ -12,7 +12,7 @@ use Rattle.gix_ref_edit.specs.declared.change.Change.TheVariants.{Update, Delete
 use Rattle.gix_ref_edit.specs.declared.change.PreviousValue.{PreviousValue}
 use Rattle.gix_ref_edit.specs.declared.log.LogChange.{LogChange}
 use Rattle.gix_ref_edit.specs.declared.log.RefLog.{RefLog}
-use Rattle.gix_ref_moves.specs.declared.act.LogError.{LogError}
+use Rattle.gix_ref_lock.specs.declared.act.LogError.{LogError}
 use Rattle.gix_ref_store.specs.Finds as finds
 use Rattle.gix_ref_store.specs.Finds.{TellsState, state_of}
 use Rattle.gix_ref_store.specs.Follows.{Followed, FollowFault, IsGiven, follow, follow_from, MayTell}

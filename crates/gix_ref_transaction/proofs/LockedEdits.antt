@@ -13,8 +13,8 @@ use Rattle.gix_ref_lock.specs.declared.packed.Transaction.{Transaction}
 use Rattle.gix_ref_store.specs.Places.{Base, place, log_place, packed_place}
 use Rattle.gix_ref_way.specs.Ways.{Bytes}
 use Rattle.gix_ref_way.proofs.Rooms.{among_first, among_rest, way_stays}
-use Rattle.gix_ref_moves.specs.Moves.{IsNone}
-use Rattle.gix_ref_moves.specs.Needs.{AreBeside}
+use Rattle.gix_ref_lock.specs.Moves.{IsNone}
+use Rattle.gix_ref_lock.specs.Needs.{AreBeside}
 use Rattle.gix_ref_transaction.specs.Locking.{AreLockable, IsLockable, RecordsHeld}
 use Rattle.gix_ref_transaction.specs.Paths.{edit_paths, has_twice, name_paths}
 use Rattle.gix_ref_transaction.specs.Plans.{KeepsFiles}

@@ -11,10 +11,10 @@ use Rattle.gix_ref_lock.specs.Locks.{lock_of}
 use Rattle.gix_ref_store.specs.Places.{Base, place, log_place}
 use Rattle.gix_ref_way.specs.Ways.{Bytes, file_at, FoldersOnlyOf, IsAbove}
 use Rattle.gix_ref_way.proofs.Rooms.{among_first, among_rest, room_stays}
-use Rattle.gix_ref_moves.specs.Contents.{place_of, lock_path_of}
-use Rattle.gix_ref_moves.specs.Moves.{IsNone, Once, all_paths, lock_paths}
-use Rattle.gix_ref_moves.specs.Needs.{AreBeside}
-use Rattle.gix_ref_moves.specs.declared.act.Move.{Move}
+use Rattle.gix_ref_lock.specs.Contents.{place_of, lock_path_of}
+use Rattle.gix_ref_lock.specs.Moves.{IsNone, Once, all_paths, lock_paths}
+use Rattle.gix_ref_lock.specs.Needs.{AreBeside}
+use Rattle.gix_ref_lock.specs.declared.act.Move.{Move}
 use Rattle.gix_ref_transaction.specs.Locking.{ArePaths, IsLockable}
 use Rattle.gix_ref_transaction.specs.Paths.{name_paths, places_of}
 use Rattle.gix_ref_transaction.specs.Plans.{AllPlanned, KeepsFiles}

@@ -8,8 +8,8 @@ use Rattle.gix_object_lines.specs.NameTest.{begins, ends, holds, is_barred, has_
 use Rattle.gix_ref_file.specs.Tree.{under}
 use Rattle.gix_ref_way.specs.Ways.{Bytes}
 use Rattle.gix_ref_format.specs.Lookup.{is_own, behind_slash}
-use Rattle.gix_ref_moves.specs.Moments.{is_lock}
-use Rattle.gix_ref_moves.proofs.LockPaths.{lock_is_lock}
+use Rattle.gix_ref_lock.specs.Moments.{is_lock}
+use Rattle.gix_ref_lock.proofs.LockPaths.{lock_is_lock}
 use Rattle.gix_ref_store.specs.Places.{Base, Home, place, log_place, packed_place, home, main_home, linked_home, front_of}
 
 clash : {A : Type 0} → true ≡ false → A

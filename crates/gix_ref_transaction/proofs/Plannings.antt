@@ -5,7 +5,7 @@ use Rattle.std.proofs.lemmas.List.Elements.{Contains-append_right}
 use Rattle.std.specs.Borrow.{Bor}
 use Rattle.std.specs.declared.alloc.Global.{Global}
 use Rattle.std.specs.List.{AllByRecursion, AllZip}
-use Rattle.gix_hash_id.specs.declared.kind.Kind.{Kind}
+use Rattle.gix_hash.specs.declared.kind.Kind.{Kind}
 use Rattle.gix_object_lines.specs.NameTest.{is_full_name}
 use Rattle.gix_object_lines.specs.declared.lines.actor.ActorRef.{ActorRef}
 use Rattle.gix_ref_file.specs.Tree.{Tree, bytes_of}
@@ -27,10 +27,10 @@ use Rattle.gix_ref_lock.specs.Locks.{lock_of, OthersStay}
 use Rattle.gix_ref_lock.specs.declared.lock.Lock.{Lock}
 use Rattle.gix_ref_transaction.specs.declared.error.PrepareError.{PrepareError}
 use Rattle.gix_ref_way.specs.Ways.{Bytes, file_at, SameFiles}
-use Rattle.gix_ref_moves.specs.Contents.{lock_path_of}
-use Rattle.gix_ref_moves.specs.Moments.{SameButLocks}
-use Rattle.gix_ref_moves.specs.declared.act.Act.{Act}
-use Rattle.gix_ref_moves.specs.declared.act.Move.{Move}
+use Rattle.gix_ref_lock.specs.Contents.{lock_path_of}
+use Rattle.gix_ref_lock.specs.Moments.{SameButLocks}
+use Rattle.gix_ref_lock.specs.declared.act.Act.{Act}
+use Rattle.gix_ref_lock.specs.declared.act.Move.{Move}
 use Rattle.gix_ref_transaction.specs.Plans.{IsTested, HoldsText, KeepsFiles, AllTested, AllPlanned, AllHold, AreSplit}
 use Rattle.gix_ref_transaction.specs.LogLines.{Logging, AllLined, IsLineOf, has_log, line_in, logging}
 use Rattle.gix_ref_transaction.specs.Causes.{EditFault, SomeEditFault}

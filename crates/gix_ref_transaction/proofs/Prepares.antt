@@ -4,20 +4,20 @@ use Rattle.std.specs.Prelude.{IsSome}
 use Rattle.gix_object_lookup.specs.Table.{Table}
 use Rattle.gix_ref_file.specs.Tree.{Tree}
 use Rattle.gix_ref_edit.specs.declared.change.RefEdit.{RefEdit}
-use Rattle.gix_ref_packed.specs.Edited.{Line}
+use Rattle.gix_ref_format.specs.Edited.{Line}
 use Rattle.gix_ref_store.specs.Places.{Base, packed_place}
 use Rattle.gix_ref_lock.specs.declared.packed.Transaction.{Transaction}
-use Rattle.gix_ref_moves.specs.Moments.{SameButLocks}
-use Rattle.gix_ref_moves.specs.Moves.{IsNone, all_paths}
-use Rattle.gix_ref_moves.specs.declared.act.Move.{Move}
+use Rattle.gix_ref_lock.specs.Moments.{SameButLocks}
+use Rattle.gix_ref_lock.specs.Moves.{IsNone, all_paths}
+use Rattle.gix_ref_lock.specs.declared.act.Move.{Move}
 use Rattle.gix_ref_way.specs.Ways.{file_at}
-use Rattle.gix_ref_repacking.specs.Modes.{objects_in, removes}
+use Rattle.gix_ref_transaction.specs.Modes.{objects_in, removes}
 use Rattle.gix_ref_transaction.specs.Paths.{edit_paths, has_twice}
 use Rattle.gix_ref_transaction.specs.Plans.{AllHold, AllPlanned}
 use Rattle.gix_ref_transaction.specs.Reads.{AllGiveKind, AllReadBack, AreReadBack, IsAsPrepared, Prepared}
-use Rattle.gix_ref_repacking.specs.Repacking.{AreRepacked, HoldsIf, SayOfRecords}
-use Rattle.gix_ref_repacking.specs.declared.packed_refs.PackedRefs.{PackedRefs}
-use Rattle.gix_ref_repacking.specs.declared.packed_refs.PackedRefs.TheVariants.{DeletionsOnly, DeletionsAndNonSymbolicUpdates, DeletionsAndNonSymbolicUpdatesRemoveLooseSourceReference}
+use Rattle.gix_ref_transaction.specs.Repacking.{AreRepacked, HoldsIf, SayOfRecords}
+use Rattle.gix_ref_transaction.specs.declared.repacking.packed_refs.PackedRefs.{PackedRefs}
+use Rattle.gix_ref_transaction.specs.declared.repacking.packed_refs.PackedRefs.TheVariants.{DeletionsOnly, DeletionsAndNonSymbolicUpdates, DeletionsAndNonSymbolicUpdatesRemoveLooseSourceReference}
 use Rattle.gix_ref_transaction.proofs.RecordKinds.{edited_kinds, kept_kinds, said_kinds}
 use Rattle.gix_ref_transaction.proofs.Committable.{plans_paths}
 use Rattle.gix_ref_transaction.proofs.Twice.{once_of}

@@ -1,7 +1,7 @@
 -- Why edits aren't made ready, or their packed records aren't opened.
 use Rattle.std.proofs.Common.{◌≡◌, ◌∙◌, true, false, refl, sym, subst, ℕ, Bool, List}
 use Rattle.std.specs.List.{list_all}
-use Rattle.gix_hash_id.specs.Id.{Id}
+use Rattle.gix_hash.specs.Id.{Id}
 use Rattle.gix_ref_file.specs.Tree.{Tree, is_path}
 use Rattle.gix_ref_edit.specs.declared.change.RefEdit.{RefEdit}
 use Rattle.gix_ref_edit.specs.declared.ext.PreProcessError.{PreProcessError}
@@ -12,7 +12,7 @@ use Rattle.gix_ref_edit.specs.Ready.{PreFault}
 use Rattle.gix_ref_format.specs.PackedBuffer.{FileFault}
 use Rattle.gix_ref_format.specs.declared.packed.buffer.Error.{Error as OpenError}
 use Rattle.gix_ref_format.specs.declared.packed.buffer.Error.TheVariants as opening
-use Rattle.gix_ref_repacking.specs.Resolving.{SomeChangeFault}
+use Rattle.gix_ref_transaction.specs.Resolving.{SomeChangeFault}
 use Rattle.gix_ref_store.specs.Places.{Base}
 use Rattle.gix_ref_store.specs.RefStates.{RefState, packed_text_in}
 use Rattle.gix_ref_store.specs.declared.store.file.peel.Error.{Error as PeelError}

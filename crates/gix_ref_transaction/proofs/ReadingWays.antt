@@ -7,22 +7,22 @@ use Rattle.gix_object_lines.specs.NameTest.{is_full_name}
 use Rattle.gix_ref_file.specs.Tree.{Tree}
 use Rattle.gix_ref_edit.specs.declared.change.RefEdit.{RefEdit}
 use Rattle.gix_ref_format.specs.Lookup.{packed_key}
-use Rattle.gix_ref_packed.specs.Edited.{Line}
+use Rattle.gix_ref_format.specs.Edited.{Line}
 use Rattle.gix_ref_store.specs.Places.{Base, place, packed_place}
 use Rattle.gix_ref_store.specs.RefStates.{RefState, Absent, ref_state, read_by, told_by, records_of, packed_text_in}
 use Rattle.gix_ref_lock.specs.PackedEdits.{place_of as packed_place_of, lock_path_of as packed_lock_of}
 use Rattle.gix_ref_lock.specs.declared.packed.Transaction.{Transaction as Packed}
 use Rattle.gix_ref_way.specs.Ways.{Bytes, file_at}
-use Rattle.gix_ref_moves.specs.Contents.{contents, place_of, lock_path_of, moved, IsBetween}
-use Rattle.gix_ref_moves.specs.Committing.{commit_paths, packed_end, PackedStays, PackedIsNew, Shows, StaysYet, FileStays, EachOf, OnTheWay, IsCommitted}
-use Rattle.gix_ref_moves.specs.Moments.{SameButLocks}
-use Rattle.gix_ref_moves.specs.Moves.{IsNone, Once, all_paths}
-use Rattle.gix_ref_moves.specs.declared.act.Move.{Move}
-use Rattle.gix_ref_moves.proofs.OnWays.{once_moves}
-use Rattle.gix_ref_moves.proofs.PathLists.{all_weaker, all_both}
+use Rattle.gix_ref_lock.specs.Contents.{contents, place_of, lock_path_of, moved, IsBetween}
+use Rattle.gix_ref_lock.specs.Committing.{commit_paths, packed_end, PackedStays, PackedIsNew, Shows, StaysYet, FileStays, EachOf, OnTheWay, IsCommitted}
+use Rattle.gix_ref_lock.specs.Moments.{SameButLocks}
+use Rattle.gix_ref_lock.specs.Moves.{IsNone, Once, all_paths}
+use Rattle.gix_ref_lock.specs.declared.act.Move.{Move}
+use Rattle.gix_ref_lock.proofs.OnWays.{once_moves}
+use Rattle.gix_ref_lock.proofs.PathLists.{all_weaker, all_both}
 use Rattle.gix_ref_transaction.specs.Plans.{AllHold, AllPlanned, HoldsText, IsPlanOf}
 use Rattle.gix_ref_transaction.specs.Reads.{Prepared, IsReadBack, AreReadBack, IsAsPrepared, IsOther, ReadsChanged, ReadsEdited, ReadsOnWay}
-use Rattle.gix_ref_repacking.specs.Repacking.{HoldsIf, SaysOfRecord}
+use Rattle.gix_ref_transaction.specs.Repacking.{HoldsIf, SaysOfRecord}
 use Rattle.gix_ref_transaction.proofs.KeyLines.{IsSaid, PlacesApart, SaidOf, all_said_of, no_line}
 use Rattle.gix_ref_transaction.proofs.PathEnds.{place_free, packed_place_free}
 use Rattle.gix_ref_transaction.proofs.Readings.{NewTold, OneEdit, told, same, new_told, none_told, reads_end, reads_on_way, no_key}

@@ -5,8 +5,8 @@ use Rattle.std.specs.List.{list_any}
 use Rattle.std.specs.declared.alloc.Global.{Global}
 use Rattle.std.proofs.lemmas.Bool.{and_parts, or_parts}
 use Rattle.std.proofs.lemmas.Slice.Eq.{bytes_eq-Decides}
-use Rattle.gix_hash_id.specs.Id.{Id}
-use Rattle.gix_hash_id.specs.declared.kind.Kind.{Kind}
+use Rattle.gix_hash.specs.Id.{Id}
+use Rattle.gix_hash.specs.declared.kind.Kind.{Kind}
 use Rattle.gix_object_lookup.specs.Table.{Table}
 use Rattle.gix_object_lines.specs.NameTest.{is_full_name}
 use Rattle.gix_ref_file.specs.Tree.{Tree}
@@ -25,20 +25,20 @@ use Rattle.gix_ref_format.specs.Packed.{Record, packed_records}
 use Rattle.gix_ref_format.specs.PackedBuffer.{hit, KeepsFile}
 use Rattle.gix_ref_format.specs.PackedKept.{kept}
 use Rattle.gix_ref_format.specs.declared.packed.buffer.Buffer.{Buffer}
-use Rattle.gix_ref_packed.specs.Edited.{Line, line_at, under}
+use Rattle.gix_ref_format.specs.Edited.{Line, line_at, under}
 use Rattle.gix_ref_store.specs.Places.{Base, place, packed_place}
 use Rattle.gix_ref_store.specs.RefStates.{RefState, Stands, Absent, Faulty, InRecords, ref_state, read_by, told_by, records_of, packed_state, loose_state, packed_text_in}
 use Rattle.gix_ref_lock.specs.Records.{records_in}
 use Rattle.gix_ref_lock.specs.declared.packed.Transaction.{Transaction}
 use Rattle.gix_ref_way.specs.Ways.{Bytes, file_at}
-use Rattle.gix_ref_moves.specs.Contents.{contents, lock_path_of, updated, moved, IsBetween}
-use Rattle.gix_ref_moves.specs.Committing.{Shows, StaysYet, FileStays}
-use Rattle.gix_ref_moves.specs.declared.act.Act.{Act}
-use Rattle.gix_ref_moves.specs.declared.act.Move.{Move}
-use Rattle.gix_ref_moves.specs.declared.act.Act.TheVariants.{Put, Note, Pack, Remove, Forget}
+use Rattle.gix_ref_lock.specs.Contents.{contents, lock_path_of, updated, moved, IsBetween}
+use Rattle.gix_ref_lock.specs.Committing.{Shows, StaysYet, FileStays}
+use Rattle.gix_ref_lock.specs.declared.act.Act.{Act}
+use Rattle.gix_ref_lock.specs.declared.act.Move.{Move}
+use Rattle.gix_ref_lock.specs.declared.act.Act.TheVariants.{Put, Note, Pack, Remove, Forget}
 use Rattle.gix_ref_transaction.specs.Plans.{HoldsText, IsActOf, IsPlanOf, IsUpdateBy, IsDeletionBy, IsPut, is_packed_alone}
 use Rattle.gix_ref_transaction.specs.Reads.{ReadsChanged, ReadsUpdated, ReadsDeleted, IsPeeledOf, IsReadBack}
-use Rattle.gix_ref_repacking.specs.Repacking.{SaysOfRecord, SaysByKey, ChangesRecord, UpdatesRecord, HoldsRecords, changes_record, changes_records, changes_tree, removal_line}
+use Rattle.gix_ref_transaction.specs.Repacking.{SaysOfRecord, SaysByKey, ChangesRecord, UpdatesRecord, HoldsRecords, changes_record, changes_records, changes_tree, removal_line}
 use Rattle.gix_ref_transaction.proofs.KeyLines.{IsSaid}
 use Rattle.gix_ref_transaction.proofs.PathKeys.{key_again}
 

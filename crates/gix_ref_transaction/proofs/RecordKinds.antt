@@ -9,10 +9,10 @@ use Rattle.std.specs.Cmp.Lexicographic.{slice_cmp}
 use Rattle.std.specs.declared.cmp.Ordering.TheVariants.{Less}
 use Rattle.std.proofs.lemmas.Map.Text.{is_eq-slice_cmp}
 use Rattle.std.proofs.lemmas.Slice.Eq.{bytes_eq-Decides}
-use Rattle.gix_hash_id.specs.Id.{Id}
-use Rattle.gix_hash_id.specs.Kind.{hex_len}
-use Rattle.gix_hash_id.specs.declared.kind.Kind.{Kind}
-use Rattle.gix_hash_id.specs.declared.kind.Kind.TheVariants as kinds
+use Rattle.gix_hash.specs.Id.{Id}
+use Rattle.gix_hash.specs.Kind.{hex_len}
+use Rattle.gix_hash.specs.declared.kind.Kind.{Kind}
+use Rattle.gix_hash.specs.declared.kind.Kind.TheVariants as kinds
 use Rattle.gix_object_lines.specs.NameTest.{begins, is_full_name}
 use Rattle.gix_object_lookup.specs.Table.{Table}
 use Rattle.gix_ref_name.specs.Targets.{Points, ToObject, ToName, target_view}
@@ -30,13 +30,13 @@ use Rattle.gix_ref_format.specs.PackedKept.{kept}
 use Rattle.gix_ref_format.specs.declared.packed.Header.{Header}
 use Rattle.gix_ref_format.specs.declared.packed.buffer.Buffer.{Buffer}
 use Rattle.gix_ref_format.proofs.IdLemmas.{id_from_hex-tells}
-use Rattle.gix_ref_packed.specs.Edited.{Line, line_at, under, Ascend, ComesBefore, IsEdited}
-use Rattle.gix_ref_packed.specs.Written.{AllHaveKind, HasKind}
+use Rattle.gix_ref_format.specs.Edited.{Line, line_at, under, Ascend, ComesBefore, IsEdited}
+use Rattle.gix_ref_format.specs.Written.{AllHaveKind, HasKind}
 use Rattle.gix_ref_store.specs.Peels.{TagNames, LeadsOver, PeelsTo}
 use Rattle.gix_ref_lock.specs.Records.{records_in}
 use Rattle.gix_ref_way.specs.Ways.{Bytes}
 use Rattle.gix_ref_transaction.specs.Reads.{AllGiveKind, GivesKind, IsOfKind}
-use Rattle.gix_ref_repacking.specs.Repacking.{SaysOfRecord, SaysByKey, SayOfRecords, UpdatesRecord, TellsPeeled, removal_line}
+use Rattle.gix_ref_transaction.specs.Repacking.{SaysOfRecord, SaysByKey, SayOfRecords, UpdatesRecord, TellsPeeled, removal_line}
 
 inner : {A : Type 0} {r s : A} → Some r ≡ Some s → r ≡ s
 inner e = cc

@@ -9,9 +9,9 @@ use Rattle.gix_ref_store.specs.Places.{Base, packed_place}
 use Rattle.gix_ref_lock.specs.Locks.{lock_of, OthersStay}
 use Rattle.gix_ref_lock.specs.PackedEdits.{lock_path_of}
 use Rattle.gix_ref_lock.specs.declared.packed.Transaction.{Transaction}
-use Rattle.gix_ref_moves.specs.Moments.{SameButLocks}
-use Rattle.gix_ref_moves.proofs.LockPaths.{one_lock}
-use Rattle.gix_ref_repacking.specs.Repacking.{AreRepacked}
+use Rattle.gix_ref_lock.specs.Moments.{SameButLocks}
+use Rattle.gix_ref_lock.proofs.LockPaths.{one_lock}
+use Rattle.gix_ref_transaction.specs.Repacking.{AreRepacked}
 use Rattle.gix_ref_transaction.specs.Plans.{KeepsFiles}
 
 pub repacked_on : (b : Base) (packs : Option Table) (old mid new : Tree) (edits : List RefEdit) (t : Option Transaction) → KeepsFiles mid new → AreRepacked b packs old mid edits t → AreRepacked b packs old new edits t

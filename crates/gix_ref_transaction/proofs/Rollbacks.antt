@@ -14,15 +14,15 @@ use Rattle.gix_ref_lock.specs.declared.packed.PrepareError.TheVariants as writin
 use Rattle.gix_ref_lock.specs.declared.packed.Transaction.{Transaction}
 use Rattle.gix_ref_way.specs.Ways.{Bytes, SameFiles, file_at}
 use Rattle.gix_ref_way.proofs.FoldersMade.{risen_later}
-use Rattle.gix_ref_moves.specs.Contents.{lock_path_of}
-use Rattle.gix_ref_moves.specs.Moments.{NoFileMore}
-use Rattle.gix_ref_moves.specs.Moves.{IsNone, LocksHeld, Once, all_paths, lock_paths}
-use Rattle.gix_ref_moves.specs.declared.act.Move.{Move}
-use Rattle.gix_ref_moves.specs.Committing.{AreUnlocked, commit_paths}
-use Rattle.gix_ref_moves.proofs.Unlockings.{none_more, still_gone}
-use Rattle.gix_ref_repacking.specs.Rollback as repacking
-use Rattle.gix_ref_repacking.specs.declared.error.RepackError.{RepackError}
-use Rattle.gix_ref_repacking.specs.declared.error.RepackError.TheVariants as repack
+use Rattle.gix_ref_lock.specs.Contents.{lock_path_of}
+use Rattle.gix_ref_lock.specs.Moments.{NoFileMore}
+use Rattle.gix_ref_lock.specs.Moves.{IsNone, LocksHeld, Once, all_paths, lock_paths}
+use Rattle.gix_ref_lock.specs.declared.act.Move.{Move}
+use Rattle.gix_ref_lock.specs.Committing.{AreUnlocked, commit_paths}
+use Rattle.gix_ref_lock.proofs.Unlockings.{none_more, still_gone}
+use Rattle.gix_ref_transaction.specs.RecordsRollback as repacking
+use Rattle.gix_ref_transaction.specs.declared.repacking.error.RepackError.{RepackError}
+use Rattle.gix_ref_transaction.specs.declared.repacking.error.RepackError.TheVariants as repack
 use Rattle.gix_ref_lock.specs.PackedEdits.{lock_path_of as lock_path_of_records}
 use Rattle.gix_ref_transaction.specs.Errors.{Counts, IsAfter, MayBeLeft, MayStay, of_file, of_repacking}
 use Rattle.gix_ref_transaction.specs.Locking.{RecordsHeld}

@@ -8,7 +8,7 @@ use Rattle.std.proofs.lemmas.Bool.{not-false, not-true, or_parts}
 use Rattle.std.proofs.lemmas.Map.Text.{is_eq-slice_cmp}
 use Rattle.std.proofs.lemmas.Slice.Eq.{bytes_eq-Decides}
 use Rattle.gix_ref_way.specs.Ways.{Bytes}
-use Rattle.gix_ref_moves.specs.Moves.{IsNone, Once}
+use Rattle.gix_ref_lock.specs.Moves.{IsNone, Once}
 use Rattle.gix_ref_transaction.specs.Paths.{has_twice}
 
 abbrev pub names_in : List (Bor (List ℕ)) → List Bytes

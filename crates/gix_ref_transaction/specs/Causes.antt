@@ -2,7 +2,7 @@
 use Rattle.std.specs.Prelude.{ℕ, ◌≡◌, ◌⊎◌, Bool, true, false, List, Option, Some, None, option_map, Ok, Err, Contains, IsTrue}
 use Rattle.std.specs.List.{list_all}
 use Rattle.bstr.specs.BStr.{bstr_bytes}
-use Rattle.gix_hash_id.specs.Id.{Id}
+use Rattle.gix_hash.specs.Id.{Id}
 use Rattle.gix_object_lines.specs.Actor.{IsSpellable, TellsTime}
 use Rattle.gix_object_lines.specs.Bytes.{Lacks}
 use Rattle.gix_object_lines.specs.NameTest.{is_full_name}
@@ -26,8 +26,8 @@ use Rattle.gix_ref_format.specs.PackedBuffer.{FileFault}
 use Rattle.gix_ref_lock.specs.PackedErrors.{IsShort, IsUnprepared}
 use Rattle.gix_ref_log.specs.declared.line.Line.{Line}
 use Rattle.gix_ref_format.specs.declared.packed.buffer.Error.TheVariants as opening
-use Rattle.gix_ref_moves.specs.declared.act.LogError.{LogError}
-use Rattle.gix_ref_moves.specs.declared.act.LogError.TheVariants.{CreateLeadingDirectories, Append, MessageWithNewlines, MissingCommitter, Unspellable}
+use Rattle.gix_ref_lock.specs.declared.act.LogError.{LogError}
+use Rattle.gix_ref_lock.specs.declared.act.LogError.TheVariants.{CreateLeadingDirectories, Append, MessageWithNewlines, MissingCommitter, Unspellable}
 use Rattle.gix_ref_store.specs.Finds.{TellsState}
 use Rattle.gix_ref_store.specs.Places.{Base}
 use Rattle.gix_ref_store.specs.RefStates.{RefState, Faulty, InFile, packed_text_in}
@@ -37,7 +37,7 @@ use Rattle.gix_ref_store.specs.declared.store.file.find.Error.TheVariants as fin
 use Rattle.gix_ref_store.specs.declared.store.file.find.ExistingError.TheVariants as existing
 use Rattle.gix_ref_store.specs.declared.store.file.follow.Error.{Error as FollowError}
 use Rattle.gix_ref_store.specs.declared.store.file.follow.Error.TheVariants as follow
-use Rattle.gix_ref_repacking.specs.Resolving.{SomeChangeFault}
+use Rattle.gix_ref_transaction.specs.Resolving.{SomeChangeFault}
 use Rattle.gix_ref_store.specs.declared.store.file.peel.Error.{Error as PeelError}
 use Rattle.gix_ref_way.specs.Ways.{Bytes}
 use Rattle.gix_ref_transaction.specs.Asked.{MeetsOf, points_of}

@@ -11,9 +11,9 @@ use Rattle.gix_ref_lock.specs.Locks.{lock_of, HasLockPlace}
 use Rattle.gix_ref_lock.specs.PackedEdits as packed
 use Rattle.gix_ref_lock.specs.PackedEdits.{IsReadAt}
 use Rattle.gix_ref_lock.specs.declared.packed.Transaction.{Transaction}
-use Rattle.gix_ref_moves.specs.Contents.{lock_path_of}
-use Rattle.gix_ref_moves.specs.Needs.{AreBeside}
-use Rattle.gix_ref_moves.specs.declared.act.Move.{Move}
+use Rattle.gix_ref_lock.specs.Contents.{lock_path_of}
+use Rattle.gix_ref_lock.specs.Needs.{AreBeside}
+use Rattle.gix_ref_lock.specs.declared.act.Move.{Move}
 use Rattle.gix_ref_store.specs.Known.{is_known}
 use Rattle.gix_ref_store.specs.Places.{Base, place, log_place, packed_place}
 use Rattle.gix_ref_way.specs.Ways.{Bytes, HasWay}

@@ -19,10 +19,10 @@ use Rattle.gix_ref_store.specs.Places.{Base, place, log_place}
 use Rattle.gix_ref_store.specs.RefStates.{RefState}
 use Rattle.gix_ref_store.specs.declared.reference.Reference.{Reference}
 use Rattle.gix_ref_way.specs.Ways.{Bytes, FoldersOnlyOf, file_at}
-use Rattle.gix_ref_moves.specs.Contents.{place_of, log_path_of, lock_path_of}
-use Rattle.gix_ref_moves.specs.declared.act.Act.{Act}
-use Rattle.gix_ref_moves.specs.declared.act.Act.TheVariants as acts
-use Rattle.gix_ref_moves.specs.declared.act.Move.{Move}
+use Rattle.gix_ref_lock.specs.Contents.{place_of, log_path_of, lock_path_of}
+use Rattle.gix_ref_lock.specs.declared.act.Act.{Act}
+use Rattle.gix_ref_lock.specs.declared.act.Act.TheVariants as acts
+use Rattle.gix_ref_lock.specs.declared.act.Move.{Move}
 use Rattle.gix_ref_transaction.specs.Asked.{MeetsOf, points_of}
 use Rattle.gix_ref_transaction.specs.Found.{points_at}
 use Rattle.gix_ref_transaction.specs.Paths.{places_of}

@@ -1,8 +1,8 @@
 -- What names read as while a transaction is committed, and afterwards.
 use Rattle.std.specs.Prelude.{ℕ, ◌≡◌, ◌≢◌, ◌⊎◌, Bool, true, false, List, Option, Some, None, IsSome}
 use Rattle.std.specs.List.{AllByRecursion}
-use Rattle.gix_hash_id.specs.Id.{Id}
-use Rattle.gix_hash_id.specs.declared.kind.Kind.{Kind}
+use Rattle.gix_hash.specs.Id.{Id}
+use Rattle.gix_hash.specs.declared.kind.Kind.{Kind}
 use Rattle.gix_object_lookup.specs.Table.{Table}
 use Rattle.gix_ref_file.specs.Tree.{Tree}
 use Rattle.gix_ref_name.specs.Targets.{Points, ToObject, ToName, target_view}
@@ -14,16 +14,16 @@ use Rattle.gix_ref_edit.specs.declared.log.RefLog.TheVariants.{AndReference, Onl
 use Rattle.gix_ref_format.specs.Lookup.{packed_key}
 use Rattle.gix_ref_format.specs.Loose.{loose_target, loose_text}
 use Rattle.gix_ref_format.specs.Packed.{packed_records}
-use Rattle.gix_ref_packed.specs.Edited.{Line}
+use Rattle.gix_ref_format.specs.Edited.{Line}
 use Rattle.gix_ref_lock.specs.declared.packed.Transaction.{Transaction as Packed}
-use Rattle.gix_ref_moves.specs.Committing.{commit_paths}
-use Rattle.gix_ref_moves.specs.Moments.{SameButLocks}
-use Rattle.gix_ref_moves.specs.Moves.{IsNone, all_paths}
+use Rattle.gix_ref_lock.specs.Committing.{commit_paths}
+use Rattle.gix_ref_lock.specs.Moments.{SameButLocks}
+use Rattle.gix_ref_lock.specs.Moves.{IsNone, all_paths}
 use Rattle.gix_ref_store.specs.Places.{Base, place, packed_place}
 use Rattle.gix_ref_store.specs.RefStates.{RefState, Stands, Absent, ref_state}
 use Rattle.gix_ref_transaction.specs.Plans.{AllHold, AllPlanned, is_packed_alone}
-use Rattle.gix_ref_repacking.specs.Repacking.{HoldsIf, SayOfRecords, TellsPeeled}
-use Rattle.gix_ref_moves.specs.declared.act.Move.{Move}
+use Rattle.gix_ref_transaction.specs.Repacking.{HoldsIf, SayOfRecords, TellsPeeled}
+use Rattle.gix_ref_lock.specs.declared.act.Move.{Move}
 
 -- ---- one name
 

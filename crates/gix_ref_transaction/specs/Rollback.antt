@@ -11,13 +11,13 @@ use Rattle.gix_ref_lock.specs.declared.packed.CommitError.{CommitError as Packed
 use Rattle.gix_ref_lock.specs.declared.packed.CommitError.TheVariants as packed_case
 use Rattle.gix_ref_lock.specs.PackedEdits as packed
 use Rattle.gix_ref_lock.specs.declared.packed.Transaction.{Transaction}
-use Rattle.gix_ref_moves.specs.Contents.{lock_path_of}
-use Rattle.gix_ref_moves.specs.Moments.{NoFileMore}
-use Rattle.gix_ref_moves.specs.Moves.{IsNone, lock_paths}
-use Rattle.gix_ref_moves.specs.Needs.{IsOutOfMemory}
-use Rattle.gix_ref_moves.specs.declared.act.CommitError.{CommitError}
-use Rattle.gix_ref_moves.specs.declared.act.CommitError.TheVariants as moving
-use Rattle.gix_ref_moves.specs.declared.act.Move.{Move}
+use Rattle.gix_ref_lock.specs.Contents.{lock_path_of}
+use Rattle.gix_ref_lock.specs.Moments.{NoFileMore}
+use Rattle.gix_ref_lock.specs.Moves.{IsNone, lock_paths}
+use Rattle.gix_ref_lock.specs.Needs.{IsOutOfMemory}
+use Rattle.gix_ref_lock.specs.declared.act.CommitError.{CommitError}
+use Rattle.gix_ref_lock.specs.declared.act.CommitError.TheVariants as moving
+use Rattle.gix_ref_lock.specs.declared.act.Move.{Move}
 use Rattle.gix_ref_way.specs.Ways.{Bytes, file_at}
 use Rattle.gix_ref_transaction.specs.declared.error.PrepareError.{PrepareError}
 use Rattle.gix_ref_transaction.specs.Errors.{MayStay}

@@ -2,7 +2,7 @@
 
 ghost use Rattle.std.specs.Prelude.{◌≡◌, ◌≢◌, ◌⊎◌, None, Some, IfErr, MatchResult, option_map};
 ghost use Rattle.std.specs.Bool.{Decides};
-ghost use Rattle.gix_hash_id.specs.Id.{id_of};
+ghost use Rattle.gix_hash.specs.Id.{id_of};
 ghost use Rattle.gix_ref_name.specs.Targets.{target_view};
 ghost use Rattle.gix_ref_transaction.specs.Asked.{Meets, MeetsOf, points_of};
 ghost use Rattle.gix_ref_transaction.specs.Causes.{refused, refused_deletion, refused_update};

@@ -4,13 +4,12 @@ ghost use Rattle.std.specs.Prelude.{◌≡◌};
 ghost use Rattle.gix_ref_transaction.specs.Errors.{of_file, of_finding, of_splitting, of_opening, of_locking, of_repacking};
 ghost use Rattle.gix_ref_transaction.specs.declared.error.PrepareError.TheVariants as fault;
 
+use crate::RepackError;
 use crate::asked::Refusal;
 use gix_ref_edit::{PreProcessError, SplitError, TwiceError};
 use gix_ref_file::FileError;
 use gix_ref_format::packed::buffer;
-use gix_ref_lock::packed;
-use gix_ref_moves::LogError;
-use gix_ref_repacking::RepackError;
+use gix_ref_lock::{LogError, packed};
 use gix_ref_store::store::file::{find, peel};
 use std::alloc::{AllocError, AllocFailed};
 use thiserror::Error;

@@ -9,9 +9,10 @@ mod known;
 mod lines;
 mod once;
 mod plan;
+mod repacking;
 mod targets;
 pub mod transaction;
 
 pub use crate::asked::Refusal;
 pub use crate::error::PrepareError;
-pub use gix_ref_repacking::PackedRefs;
+pub use crate::repacking::{PackedRefs, RepackError};

@@ -2,10 +2,10 @@
 
 ghost use Rattle.std.specs.Prelude.{◌≡◌, ◌++◌, ◌∷◌, [], None, Ok, Some, IfOk, IfErr, MatchResult};
 ghost use Rattle.bstr.specs.BStr.{bstr_bytes};
-ghost use Rattle.gix_hash_id.specs.Id.{id_of};
+ghost use Rattle.gix_hash.specs.Id.{id_of};
 ghost use Rattle.gix_object_lines.specs.Actor.{TellsTime};
 ghost use Rattle.gix_ref_log.specs.LogOwned.{written_text};
-ghost use Rattle.gix_ref_moves.specs.declared.act.LogError.TheVariants.{Unspellable};
+ghost use Rattle.gix_ref_lock.specs.declared.act.LogError.TheVariants.{Unspellable};
 ghost use Rattle.gix_ref_name.specs.Names.{name_of};
 ghost use Rattle.gix_ref_store.specs.Finds.{TellsState};
 ghost use Rattle.gix_ref_store.specs.Lookups.{reads_with};
@@ -21,8 +21,8 @@ use gix_object_lines::{ByteString, decode};
 use gix_ref_edit::{Change, LogChange, RefEdit};
 use gix_ref_file::Files;
 use gix_ref_format::packed::Buffer;
+use gix_ref_lock::LogError;
 use gix_ref_log::{Line, write};
-use gix_ref_moves::LogError;
 use gix_ref_name::{FullNameRef, Target};
 use gix_ref_store::store::file::find::ExistingError;
 use gix_ref_store::store::file::{ReferenceExt, Store, find, follow, log};

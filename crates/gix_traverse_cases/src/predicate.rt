@@ -2,9 +2,9 @@
 
 ghost use Rattle.std.specs.Prelude.{◌≡◌, not};
 ghost use Rattle.std.specs.List.{list_any};
-ghost use Rattle.gix_hash_id.specs.Id.{id_of};
-ghost use Rattle.gix_hash_id.specs.Order.{id_eq};
-ghost use Rattle.gix_hash_id.specs.Views.{viewed_id};
+ghost use Rattle.gix_hash.specs.Id.{id_of};
+ghost use Rattle.gix_hash.specs.Order.{id_eq};
+ghost use Rattle.gix_hash.specs.Views.{viewed_id};
 
 use gix_hash::{ObjectId, oid};
 use gix_traverse_commit::Accept;

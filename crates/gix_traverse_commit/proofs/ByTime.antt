@@ -1,8 +1,8 @@
 -- The state of a walk by time over rows and objects.
 use Rattle.std.proofs.Common.{◌≡◌, ℕ, ◌<◌, ◌+◌, ◌∙◌, inl, inr, sym, ap, subst, arith, List, [], ◌∷◌, ◌++◌, length, length-append, Bool, true, Some, None, Option}
 use Rattle.std.specs.Prelude.{Contains, IsTrue, not, ◌&&◌, ◌↔◌}
-use Rattle.gix_hash_id.specs.Id.{Id, id_of}
-use Rattle.gix_hash_id.specs.declared.object_id.ObjectId.{ObjectId}
+use Rattle.gix_hash.specs.Id.{Id, id_of}
+use Rattle.gix_hash.specs.declared.object_id.ObjectId.{ObjectId}
 use Rattle.gix_traverse_graph.specs.Commits.{Commits, asked_parents, Reached, tip, parent, Passes, Listed}
 use Rattle.gix_traverse_graph.specs.Order.{At, IsChosen, IsOpen}
 use Rattle.gix_traverse_commit_known.specs.Painting.{ReachedFrom}
@@ -11,7 +11,7 @@ use Rattle.gix_traverse_commit_known.specs.Asked.{Answers, Asked, IsKnown, IsSur
 use Rattle.gix_traverse_commit.specs.Simply.{IsAtTurn, IsUnderWay}
 use Rattle.gix_traverse_graph.specs.Sorting.{ComesFirst, InOrder, InTimeOrder, IsNextIn, in_time, timing_of}
 use Rattle.gix_traverse_commit_known.specs.Told.{rows_of}
-use Rattle.gix_hash_id.specs.declared.kind.Kind.{Kind}
+use Rattle.gix_hash.specs.declared.kind.Kind.{Kind}
 use Rattle.gix_traverse_commit_known.specs.declared.fetch.Source.{Source}
 use Rattle.gix_traverse_graph.specs.declared.parents.Parents.{Parents}
 use Rattle.gix_traverse_commit.specs.declared.simple.Simple.{Simple}

@@ -1,7 +1,7 @@
 -- A walk is over where its test says so.
 use Rattle.std.proofs.Common.{◌≡◌, ◌∙◌, ap, List, Bool, true}
 use Rattle.std.specs.Prelude.{◌&&◌}
-use Rattle.gix_hash_id.specs.declared.object_id.ObjectId.{ObjectId}
+use Rattle.gix_hash.specs.declared.object_id.ObjectId.{ObjectId}
 use Rattle.gix_traverse_commit_known.specs.Ending.{is_empty}
 use Rattle.gix_traverse_commit_known.specs.Known.{turns_of}
 use Rattle.gix_traverse_commit.specs.Simply.{IsOver, is_over}

@@ -2,8 +2,8 @@
 use Rattle.std.proofs.Common.{◌≡◌, ◌∙◌, sym, refl, subst, inl, inr, List, [], ◌++◌, length, Bool, true, false}
 use Rattle.std.specs.Prelude.{Contains, IsTrue, not, ◌&&◌}
 use Rattle.std.proofs.lemmas.List.Elements.{Contains-append_cases, Contains-append_right}
-use Rattle.gix_hash_id.specs.Id.{Id, id_of}
-use Rattle.gix_hash_id.specs.declared.object_id.ObjectId.{ObjectId}
+use Rattle.gix_hash.specs.Id.{Id, id_of}
+use Rattle.gix_hash.specs.declared.object_id.ObjectId.{ObjectId}
 use Rattle.gix_traverse_graph.specs.Commits.{Commits, Reached, tip, parent}
 use Rattle.gix_traverse_commit_known.specs.Keeping.{KeptAll}
 use Rattle.gix_traverse_commit_known.specs.Nodes.{is_met}

@@ -1,7 +1,7 @@
 //! Painting the commits that hidden commits reach.
 
 ghost use Rattle.std.specs.Prelude.{◌≡◌, ◌↔◌, ℕ, List, true, false, ◌∷◌, ◌++◌, [], length, if◌then◌else◌, Contains, IfErr, OnOk};
-ghost use Rattle.gix_hash_id.specs.declared.object_id.ObjectId.{ObjectId};
+ghost use Rattle.gix_hash.specs.declared.object_id.ObjectId.{ObjectId};
 ghost use Rattle.gix_traverse_graph.specs.Commits.{Reached};
 ghost use Rattle.gix_traverse_commit_known.specs.Keeping.{Kept, KeptAll};
 ghost use Rattle.gix_traverse_commit_known.specs.Known.{turns_of};

@@ -2,9 +2,9 @@
 
 ghost use Rattle.std.specs.Prelude.{◌≡◌, ◌≤◌, ◌+◌, List, Contains, [], length, IfOk, IfErr, IsOk, OnOk, None, true, false};
 ghost use Rattle.std.specs.Iterator.{at_most};
-ghost use Rattle.gix_hash_id.specs.Id.{Id};
-ghost use Rattle.gix_hash_id.specs.declared.object_id.ObjectId.{ObjectId};
-ghost use Rattle.gix_object_commit_tokens.specs.Tokens.{place_of, start};
+ghost use Rattle.gix_hash.specs.Id.{Id};
+ghost use Rattle.gix_hash.specs.declared.object_id.ObjectId.{ObjectId};
+ghost use Rattle.gix_object_commit.specs.Tokens.{place_of, start};
 ghost use Rattle.gix_traverse_graph.specs.Commits.{Commits};
 ghost use Rattle.gix_traverse_commit_known.specs.Fetching.{TimeIsTold};
 ghost use Rattle.gix_traverse_commit_known.specs.Meeting.{AsksOnce, CountsTimes, accepted};
@@ -35,7 +35,7 @@ pub mod waiting {
 }
 
 use gix_hash::{Kind, ObjectId};
-use gix_object_commit_tokens::CommitRefIter;
+use gix_object_commit::CommitRefIter;
 use gix_object_lookup::FindInto;
 pub use gix_traverse_commit_known::faults::{Error, HiddenGraphError};
 use gix_traverse_commit_known::fetch::Source;

@@ -2,7 +2,7 @@
 use Rattle.std.proofs.Common.{◌≡◌, ℕ, suc, ◌+◌, ◌<◌, ◌≤◌, List, [], ◌∷◌, ◌++◌, length, refl, sym, ◌∙◌, ap, subst, arith, Bool, true, false, cond, add-one, length-append, append_assoc, append-nil, inl, inr}
 use Rattle.std.specs.Prelude.{Contains, IsTrue, not, ◌&&◌}
 use Rattle.std.proofs.lemmas.Option.{slice_get_within}
-use Rattle.gix_hash_id.specs.declared.object_id.ObjectId.{ObjectId}
+use Rattle.gix_hash.specs.declared.object_id.ObjectId.{ObjectId}
 use Rattle.gix_traverse_graph.specs.Order.{At, IsBreadthFirst, Named}
 use Rattle.gix_traverse_graph.specs.Commits.{Reached}
 use Rattle.gix_traverse_commit_known.specs.Keeping.{IsMetBy, Kept, KeptAll}

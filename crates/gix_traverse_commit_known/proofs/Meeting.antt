@@ -2,8 +2,8 @@
 use Rattle.std.proofs.Common.{◌≡◌, ◌∙◌, ◌↔◌, ℕ, ◌+◌, ◌⊎◌, inl, inr, List, [], ◌∷◌, ◌++◌, suc, ap, take, append-nil, refl, sym, subst, Bool, true, false, cond}
 use Rattle.std.specs.Prelude.{Contains, filter, not}
 use Rattle.std.proofs.lemmas.List.Elements.{Contains-append_left, Contains-push, filter-append}
-use Rattle.gix_hash_id.specs.Id.{Id, id_of}
-use Rattle.gix_hash_id.specs.declared.object_id.ObjectId.{ObjectId}
+use Rattle.gix_hash.specs.Id.{Id, id_of}
+use Rattle.gix_hash.specs.declared.object_id.ObjectId.{ObjectId}
 use Rattle.gix_traverse_commit_known.specs.Meeting.{Asks, CountsAll, CountsOne, MarksAll, accepted, unmet}
 use Rattle.gix_traverse_commit_known.specs.Nodes.{Node, is_met}
 use Rattle.gix_traverse_graph.specs.Numbered.{same_id}

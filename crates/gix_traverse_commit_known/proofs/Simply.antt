@@ -1,8 +1,8 @@
 -- The state of a walk over rows and objects.
 use Rattle.std.proofs.Common.{◌≡◌, ℕ, suc, ◌+◌, ◌<◌, ◌∙◌, ◌⊎◌, zero, sym, ap, refl, subst, arith, inl, inr, List, [], ◌∷◌, ◌++◌, length, length-append, take, Bool, true, false, cond, add-one, None, Option}
 use Rattle.std.specs.Prelude.{Contains, IsTrue, not, ◌&&◌, ◌↔◌}
-use Rattle.gix_hash_id.specs.Id.{Id, id_of}
-use Rattle.gix_hash_id.specs.declared.object_id.ObjectId.{ObjectId}
+use Rattle.gix_hash.specs.Id.{Id, id_of}
+use Rattle.gix_hash.specs.declared.object_id.ObjectId.{ObjectId}
 use Rattle.gix_traverse_graph.specs.Commits.{Commits, asked_parents, Reached, tip, parent, Passes, Listed}
 use Rattle.gix_traverse_commit_known.specs.Keeping.{Kept, KeptAll}
 use Rattle.gix_traverse_commit_known.specs.Nodes.{is_asked, is_hidden, is_met, marks_of, Node}

@@ -3,7 +3,7 @@ use Rattle.std.proofs.Common.{◌≡◌, ℕ, zero, suc, ◌+◌, ◌⊎◌, inl
 use lib.Signed.{≤ℤ_refl}
 use Rattle.std.specs.Prelude.{Contains, ◌↔◌, ◌&&◌, not, ◌≤ℤ◌}
 use Rattle.std.proofs.lemmas.List.Elements.{Contains-append_left, Contains-push}
-use Rattle.gix_hash_id.specs.declared.object_id.ObjectId.{ObjectId}
+use Rattle.gix_hash.specs.declared.object_id.ObjectId.{ObjectId}
 use Rattle.gix_traverse_graph.specs.Commits.{Commits}
 use Rattle.gix_traverse_graph.specs.Numbered.{same_id}
 use Rattle.gix_traverse_graph.specs.Order.{At}

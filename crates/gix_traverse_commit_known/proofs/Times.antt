@@ -2,10 +2,10 @@
 use Rattle.std.proofs.Common.{◌≡◌, ℕ, inl, inr, List, refl, sym, ap, ◌∙◌, subst, Option, Some, None, Result, Ok, Err, ℤ, pos, take, Bool, true, false}
 use Rattle.std.specs.Prelude.{unwrap_or, ◌≢◌, Contains}
 use Rattle.std.specs.Result.{result_ok}
-use Rattle.gix_hash_id.specs.Id.{Id, id_of}
-use Rattle.gix_hash_id.specs.declared.object_id.ObjectId.{ObjectId}
-use Rattle.gix_object_commit_tokens.specs.ReadingOn.{TellsNone, committer_told}
-use Rattle.gix_object_commit_tokens.specs.Tokens.{Place, start}
+use Rattle.gix_hash.specs.Id.{Id, id_of}
+use Rattle.gix_hash.specs.declared.object_id.ObjectId.{ObjectId}
+use Rattle.gix_object_commit.specs.ReadingOn.{TellsNone, committer_told}
+use Rattle.gix_object_commit.specs.Tokens.{Place, start}
 use Rattle.gix_object_lookup.specs.Existing.{Stands, KindFault}
 use Rattle.gix_object_lookup.specs.Table.{Table, kind_at}
 use Rattle.gix_object_lookup.specs.declared.find.Error.TheVariants as lookup

@@ -4,17 +4,17 @@ use Rattle.std.specs.Prelude.{filter_map, Contains, IfOk, unwrap_or}
 use Rattle.std.specs.Result.{result_ok}
 use Rattle.std.proofs.lemmas.List.{map-append}
 use Rattle.std.proofs.lemmas.List.Elements.{filter_map-append}
-use Rattle.gix_hash_id.specs.Id.{Id, id_of}
-use Rattle.gix_hash_id.specs.Packed.{object_id_of, object_id_of-id_of}
-use Rattle.gix_hash_id.specs.declared.kind.Kind as hash
-use Rattle.gix_hash_id.specs.declared.object_id.ObjectId.{ObjectId}
+use Rattle.gix_hash.specs.Id.{Id, id_of}
+use Rattle.gix_hash.specs.Packed.{object_id_of, object_id_of-id_of}
+use Rattle.gix_hash.specs.declared.kind.Kind as hash
+use Rattle.gix_hash.specs.declared.object_id.ObjectId.{ObjectId}
 use Rattle.gix_object_lines.specs.Actor.{TellsTime}
 use Rattle.gix_object_lines.specs.declared.decode.Error as decode
-use Rattle.gix_object_commit_lines.specs.Commit.{IsPerson}
-use Rattle.gix_object_commit_tokens.specs.ReadingOn.{Reads, TellsFirst, committer_told, parent_told}
-use Rattle.gix_object_commit_tokens.specs.Tokens.{Part, Tree, Parent, Author, Committer, Encoding, Header, Message, Place, IsNext, GivesToken, part_of, start}
-use Rattle.gix_object_commit_tokens.specs.declared.ref_iter.Token.{Token}
-use Rattle.gix_object_commit_tokens.specs.declared.ref_iter.Token.TheVariants as token
+use Rattle.gix_object_commit.specs.Commit.{IsPerson}
+use Rattle.gix_object_commit.specs.ReadingOn.{Reads, TellsFirst, committer_told, parent_told}
+use Rattle.gix_object_commit.specs.Tokens.{Part, Tree, Parent, Author, Committer, Encoding, Header, Message, Place, IsNext, GivesToken, part_of, start}
+use Rattle.gix_object_commit.specs.declared.ref_iter.Token.{Token}
+use Rattle.gix_object_commit.specs.declared.ref_iter.Token.TheVariants as token
 use Rattle.gix_object_lookup.specs.Existing.{Stands, KindFault}
 use Rattle.gix_object_lookup.specs.Table.{Table}
 use Rattle.gix_object_lookup.specs.declared.find.Error.TheVariants as lookup

@@ -1,7 +1,7 @@
 -- What a walk is to list, and for which commits the predicate was called.
 use Rattle.std.specs.Prelude.{◌≡◌, ◌⊎◌, Bool, true, false, List, Option, None, Contains, not, ◌&&◌}
-use Rattle.gix_hash_id.specs.Id.{Id, id_of}
-use Rattle.gix_hash_id.specs.declared.object_id.ObjectId.{ObjectId}
+use Rattle.gix_hash.specs.Id.{Id, id_of}
+use Rattle.gix_hash.specs.declared.object_id.ObjectId.{ObjectId}
 use Rattle.gix_traverse_graph.specs.Commits.{Commits, WalkRequest}
 use Rattle.gix_traverse_commit_known.specs.Meeting.{accepted}
 use Rattle.gix_traverse_commit_known.specs.Nodes.{is_met, Node, is_asked}

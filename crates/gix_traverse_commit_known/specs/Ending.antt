@@ -1,9 +1,9 @@
 -- How often commits may still come.
 use Rattle.std.specs.Prelude.{[], ◌∷◌, true, false, ℕ, ◌+◌, ◌≤◌, List, Bool, find, if◌then◌else◌, ◌++◌, map}
 use Rattle.std.specs.List.{count_by}
-use Rattle.gix_hash_id.specs.Id.{Id, id_of}
-use Rattle.gix_hash_id.specs.Order.{id_eq}
-use Rattle.gix_hash_id.specs.declared.object_id.ObjectId.{ObjectId}
+use Rattle.gix_hash.specs.Id.{Id, id_of}
+use Rattle.gix_hash.specs.Order.{id_eq}
+use Rattle.gix_hash.specs.declared.object_id.ObjectId.{ObjectId}
 use Rattle.gix_traverse_commit_known.specs.Nodes.{Node, marks_in}
 use Rattle.gix_traverse_commit_known.specs.declared.waiting.Turn.{Turn}
 use Rattle.gix_traverse_graph.specs.declared.rows.Row.{Row}

@@ -1,6 +1,6 @@
 -- Why a walk ends early.
 use Rattle.std.specs.Prelude.{ℕ, List, Contains, take, ⊤}
-use Rattle.gix_hash_id.specs.declared.object_id.ObjectId.{ObjectId}
+use Rattle.gix_hash.specs.declared.object_id.ObjectId.{ObjectId}
 use Rattle.gix_object_lookup.specs.Table.{Table}
 use Rattle.gix_traverse_commit_known.specs.Fetching.{ReadFault, TimeFault, TimeIsTold}
 use Rattle.gix_traverse_commit_known.specs.Painting.{StopsPainting}

@@ -1,9 +1,9 @@
 -- What is read of a commit, and why it isn't.
 use Rattle.std.specs.Prelude.{ℕ, ℤ, ◌≡◌, ◌⊎◌, ◌+◌, ◌-◌, ◌^◌, min, List, [], ◌∷◌, Contains, Option, Some, None, Err, ⊤}
-use Rattle.gix_hash_id.specs.Id.{Id, id_of}
-use Rattle.gix_hash_id.specs.declared.object_id.ObjectId.{ObjectId}
-use Rattle.gix_object_commit_tokens.specs.ReadingOn.{TellsFirst, TellsNone, committer_told, parent_told}
-use Rattle.gix_object_commit_tokens.specs.Tokens.{Place, GivesToken, start}
+use Rattle.gix_hash.specs.Id.{Id, id_of}
+use Rattle.gix_hash.specs.declared.object_id.ObjectId.{ObjectId}
+use Rattle.gix_object_commit.specs.ReadingOn.{TellsFirst, TellsNone, committer_told, parent_told}
+use Rattle.gix_object_commit.specs.Tokens.{Place, GivesToken, start}
 use Rattle.gix_object_lookup.specs.Existing.{Stands, KindFault}
 use Rattle.gix_object_lookup.specs.Table.{Table}
 use Rattle.gix_object_lookup.specs.declared.find.Error.TheVariants as lookup

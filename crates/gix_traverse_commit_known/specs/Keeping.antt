@@ -1,6 +1,6 @@
 -- How far a walk has come that keeps some commits, and has met some.
 use Rattle.std.specs.Prelude.{◌≡◌, ℕ, ◌<◌, Bool, true, List, Contains, IsTrue}
-use Rattle.gix_hash_id.specs.declared.object_id.ObjectId.{ObjectId}
+use Rattle.gix_hash.specs.declared.object_id.ObjectId.{ObjectId}
 use Rattle.gix_traverse_graph.specs.Order.{Named}
 use Rattle.gix_traverse_graph.specs.Reading.{Read}
 

@@ -1,7 +1,7 @@
 -- The commits that a walk knows, and what is queued and waits of them.
 use Rattle.std.specs.Prelude.{List, [], Contains, map, slice_get, unwrap_or}
-use Rattle.gix_hash_id.specs.declared.object_id.ObjectId.{ObjectId}
-use Rattle.gix_hash_id.specs.declared.object_id.ObjectId.TheVariants.{Sha1}
+use Rattle.gix_hash.specs.declared.object_id.ObjectId.{ObjectId}
+use Rattle.gix_hash.specs.declared.object_id.ObjectId.TheVariants.{Sha1}
 use Rattle.gix_traverse_commit_known.specs.Nodes.{Node, ids_of}
 use Rattle.gix_traverse_graph.specs.Order.{At}
 use Rattle.gix_traverse_commit_known.specs.Waiting.{numbers_of, still_among}

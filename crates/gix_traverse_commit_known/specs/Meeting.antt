@@ -1,7 +1,7 @@
 -- Which commits a walk meets, and for which it calls the predicate.
 use Rattle.std.specs.Prelude.{◌≡◌, ◌⊎◌, ◌↔◌, ℕ, Bool, true, false, not, List, [], ◌∷◌, Option, None, Some, IsSome, Contains, filter, if◌then◌else◌}
-use Rattle.gix_hash_id.specs.Id.{Id, id_of}
-use Rattle.gix_hash_id.specs.declared.object_id.ObjectId.{ObjectId}
+use Rattle.gix_hash.specs.Id.{Id, id_of}
+use Rattle.gix_hash.specs.declared.object_id.ObjectId.{ObjectId}
 use Rattle.gix_object_lines.specs.Counts.{one_more}
 use Rattle.gix_traverse_commit_known.specs.Nodes.{is_hidden, is_met, Node}
 use Rattle.gix_traverse_graph.specs.Order.{IsListOf}

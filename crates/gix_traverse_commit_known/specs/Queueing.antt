@@ -1,6 +1,6 @@
 -- In which order commits begin to wait.
 use Rattle.std.specs.Prelude.{◌≡◌, ◌⊎◌, ℕ, List, [], ◌∷◌, ◌++◌, Contains, ⊤}
-use Rattle.gix_hash_id.specs.declared.object_id.ObjectId.{ObjectId}
+use Rattle.gix_hash.specs.declared.object_id.ObjectId.{ObjectId}
 use Rattle.gix_traverse_commit_known.specs.Known.{KnownCommits}
 use Rattle.gix_traverse_commit_known.specs.Nodes.{Node, ids_of}
 use Rattle.gix_traverse_graph.specs.Order.{At}

@@ -1,7 +1,7 @@
 -- The state of a walk by time.
 use Rattle.std.specs.Prelude.{◌≡◌, ◌≢◌, ◌≤ℤ◌, ◌⊎◌, ◌↔◌, ℕ, ℤ, pos, Bool, true, not, ◌&&◌, List, ◌∷◌, [], ◌++◌, Option, None, Some, take, Contains, IsTrue}
-use Rattle.gix_hash_id.specs.Id.{Id, id_of}
-use Rattle.gix_hash_id.specs.declared.object_id.ObjectId.{ObjectId}
+use Rattle.gix_hash.specs.Id.{Id, id_of}
+use Rattle.gix_hash.specs.declared.object_id.ObjectId.{ObjectId}
 use Rattle.gix_traverse_graph.specs.Commits.{Commits, Reached}
 use Rattle.gix_traverse_graph.specs.Order.{At, IsOpen}
 use Rattle.gix_traverse_graph.specs.Rows.{Holds}

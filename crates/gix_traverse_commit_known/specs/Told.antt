@@ -1,16 +1,16 @@
 -- What rows and objects say of commits: a row all, if a commit has one; otherwise its object, by
 -- the lines that begin it.
 use Rattle.std.specs.Prelude.{ℕ, ◌≡◌, ◌⊎◌, ℤ, pos, List, [], ◌∷◌, Contains, Option, Some, None, Result, Ok, map, take, filter_map}
-use Rattle.gix_hash_id.specs.Id.{Id, id_of}
-use Rattle.gix_hash_id.specs.declared.kind.Kind as hash
-use Rattle.gix_hash_id.specs.declared.object_id.ObjectId.{ObjectId}
+use Rattle.gix_hash.specs.Id.{Id, id_of}
+use Rattle.gix_hash.specs.declared.kind.Kind as hash
+use Rattle.gix_hash.specs.declared.object_id.ObjectId.{ObjectId}
 use Rattle.gix_object_lines.specs.Time.{SpellsTime}
 use Rattle.gix_object_lines.specs.declared.decode.Error as decode
 use Rattle.gix_object_lines.specs.declared.kind.Kind.TheVariants as kinds
 use Rattle.gix_object_lines.specs.declared.lines.time.Time.{Time}
 use Rattle.gix_object_lines.specs.Person.{Person}
-use Rattle.gix_object_commit_tokens.specs.ReadingOn.{Reads, TellsFirst, TellsNone, TakesTree, parent_told, committer_told}
-use Rattle.gix_object_commit_tokens.specs.Tokens.{Part, Tree, Parent, Place, IsNext, place_of, start}
+use Rattle.gix_object_commit.specs.ReadingOn.{Reads, TellsFirst, TellsNone, TakesTree, parent_told, committer_told}
+use Rattle.gix_object_commit.specs.Tokens.{Part, Tree, Parent, Place, IsNext, place_of, start}
 use Rattle.gix_object_lookup.specs.Existing.{Stands}
 use Rattle.gix_object_lookup.specs.Table.{Table}
 use Rattle.gix_traverse_graph.specs.Commits.{Commit, Commits}

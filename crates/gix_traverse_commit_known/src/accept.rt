@@ -1,8 +1,8 @@
 //! Which commits a walk accepts.
 
 ghost use Rattle.std.specs.Prelude.{◌≡◌, Bool, true};
-ghost use Rattle.gix_hash_id.specs.Id.{Id};
-ghost use Rattle.gix_hash_id.specs.Views.{viewed_id};
+ghost use Rattle.gix_hash.specs.Id.{Id};
+ghost use Rattle.gix_hash.specs.Views.{viewed_id};
 
 use gix_hash::oid;
 

@@ -1,7 +1,7 @@
 //! Beginning anew from what is queued.
 
 ghost use Rattle.std.specs.Prelude.{◌≡◌, ◌⊎◌, true, false, [], ◌++◌, Contains, OnOk};
-ghost use Rattle.gix_hash_id.specs.declared.object_id.ObjectId.{ObjectId};
+ghost use Rattle.gix_hash.specs.declared.object_id.ObjectId.{ObjectId};
 ghost use Rattle.gix_traverse_commit_known.specs.Known.{turns_of};
 ghost use Rattle.gix_traverse_commit_known.specs.Nodes.{is_hidden, is_met};
 ghost use Rattle.gix_traverse_commit_known.specs.Painting.{IsUnpainted};

@@ -2,16 +2,16 @@
 
 ghost use Rattle.std.specs.Prelude.{◌≡◌, Ok, ℤ, IfOk, IfErr, IfSome, IfNone, Contains};
 ghost use Rattle.std.specs.Option.{option_copied};
-ghost use Rattle.gix_hash_id.specs.Id.{id_of};
-ghost use Rattle.gix_object_commit_tokens.specs.ReadingOn.{TellsNone, committer_told};
-ghost use Rattle.gix_object_commit_tokens.specs.Tokens.{place_of};
+ghost use Rattle.gix_hash.specs.Id.{id_of};
+ghost use Rattle.gix_object_commit.specs.ReadingOn.{TellsNone, committer_told};
+ghost use Rattle.gix_object_commit.specs.Tokens.{place_of};
 ghost use Rattle.gix_object_lookup.specs.Existing.{KindFault};
 ghost use Rattle.gix_object_lines.specs.declared.kind.Kind.TheVariants as kinds;
 ghost use Rattle.gix_traverse_graph.specs.Rows.{Holds, AreRows};
 ghost use Rattle.gix_traverse_commit_known.specs.Told.{IsFound, TakesTreeOf, TellsTime, TellsSeconds, LacksTime, rows_of};
 
 use gix_hash::ObjectId;
-use gix_object_commit_tokens::CommitRefIter;
+use gix_object_commit::CommitRefIter;
 use gix_object_lines::lines::read_time;
 use gix_object_lines::{Kind, decode};
 use gix_object_lookup::find::existing_iter;

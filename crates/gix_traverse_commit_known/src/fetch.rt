@@ -1,9 +1,9 @@
 //! Reading the commits that a walk comes to.
 
 ghost use Rattle.std.specs.Prelude.{◌≡◌, ◌≢◌, ◌⊎◌, ◌≤◌, ◌+◌, [], Contains, IfOk, IfErr, IsOk, OnOk, map, unwrap_or, pos};
-ghost use Rattle.gix_hash_id.specs.Id.{id_of};
-ghost use Rattle.gix_hash_id.specs.declared.object_id.ObjectId.{ObjectId};
-ghost use Rattle.gix_object_commit_tokens.specs.Tokens.{place_of};
+ghost use Rattle.gix_hash.specs.Id.{id_of};
+ghost use Rattle.gix_hash.specs.declared.object_id.ObjectId.{ObjectId};
+ghost use Rattle.gix_object_commit.specs.Tokens.{place_of};
 ghost use Rattle.gix_object_lookup.specs.Existing.{KindFault, Stands};
 ghost use Rattle.gix_object_lines.specs.declared.kind.Kind.TheVariants as kinds;
 ghost use Rattle.gix_traverse_graph.specs.Commits.{asked_parents, asked};
@@ -16,8 +16,8 @@ ghost use Rattle.gix_traverse_commit_known.specs.declared.fetch.FetchError.TheVa
 
 use crate::either::{row_in, seconds};
 use gix_hash::ObjectId;
-use gix_object_commit_tokens::CommitRefIter;
-use gix_object_commit_tokens::ref_iter::Token;
+use gix_object_commit::CommitRefIter;
+use gix_object_commit::ref_iter::Token;
 use gix_object_lines::{Kind, decode};
 use gix_object_lookup::FindInto;
 use gix_object_lookup::find::{self as lookup, existing_iter};

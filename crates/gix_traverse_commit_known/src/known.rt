@@ -1,8 +1,8 @@
 //! The commits that a walk knows, and those that are queued or wait, by their numbers.
 
 ghost use Rattle.std.specs.Prelude.{◌≡◌, ◌↔◌, ◌≤◌, ◌+◌, ◌++◌, ◌∷◌, [], if◌then◌else◌, IfOk, IfSome, IfNone, OnOk, true};
-ghost use Rattle.gix_hash_id.specs.Id.{Id};
-ghost use Rattle.gix_hash_id.specs.declared.object_id.ObjectId.{ObjectId};
+ghost use Rattle.gix_hash.specs.Id.{Id};
+ghost use Rattle.gix_hash.specs.declared.object_id.ObjectId.{ObjectId};
 ghost use Rattle.gix_traverse_commit_known.specs.Ending.{times_in, times_waiting};
 ghost use Rattle.gix_traverse_commit_known.specs.Known.{turns_of, waited_of};
 ghost use Rattle.gix_traverse_commit_known.specs.Nodes.{ids_of, marks_of};

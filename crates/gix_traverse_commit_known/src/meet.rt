@@ -1,8 +1,8 @@
 //! Meeting commits: tips and parents, each once.
 
 ghost use Rattle.std.specs.Prelude.{◌≡◌, List, Bool, true, false, not, ◌&&◌, [], ◌∷◌, ◌++◌, length, if◌then◌else◌, Contains, OnOk};
-ghost use Rattle.gix_hash_id.specs.Id.{id_of};
-ghost use Rattle.gix_hash_id.specs.declared.object_id.ObjectId.{ObjectId};
+ghost use Rattle.gix_hash.specs.Id.{id_of};
+ghost use Rattle.gix_hash.specs.declared.object_id.ObjectId.{ObjectId};
 ghost use Rattle.gix_traverse_commit_known.specs.Ending.{NoneGains, times_in};
 ghost use Rattle.gix_traverse_commit_known.specs.Keeping.{Kept, KeptAll};
 ghost use Rattle.gix_traverse_commit_known.specs.Meeting.{Asks, AsksOnce, IsFresh, MarksAll, MarksMet, fresh};

@@ -2,7 +2,7 @@
 
 ghost use Rattle.std.specs.Prelude.{◌≡◌, ◌++◌, ◌∷◌, ℕ, [], if◌then◌else◌, IfOk, IfSome, IfNone, OnErr, OnOk, slice_get, true};
 ghost use Rattle.std.specs.List.{list_any};
-ghost use Rattle.gix_hash_id.specs.declared.object_id.ObjectId.{ObjectId};
+ghost use Rattle.gix_hash.specs.declared.object_id.ObjectId.{ObjectId};
 ghost use Rattle.gix_traverse_graph.specs.Numbered.{same_id};
 ghost use Rattle.gix_traverse_commit_known.specs.Nodes.{ids_of, marks_of};
 ghost use Rattle.gix_traverse_graph.specs.Order.{At};

@@ -1,9 +1,9 @@
 -- The test of ids distinguishes different ones.
 use Rattle.std.proofs.Common.{◌≡◌, sym, ◌∙◌, ap, true}
-use Rattle.gix_hash_id.specs.declared.object_id.ObjectId.{ObjectId}
-use Rattle.gix_hash_id.specs.Id.{id_of}
-use Rattle.gix_hash_id.specs.Packed.{object_id_of, object_id_of-id_of}
-use Rattle.gix_hash_id.specs.OrderLaws.{id_eq-same, id_eq-itself}
+use Rattle.gix_hash.specs.declared.object_id.ObjectId.{ObjectId}
+use Rattle.gix_hash.specs.Id.{id_of}
+use Rattle.gix_hash.specs.Packed.{object_id_of, object_id_of-id_of}
+use Rattle.gix_hash.specs.OrderLaws.{id_eq-same, id_eq-itself}
 use Rattle.gix_traverse_graph.specs.Numbered.{same_id}
 use Rattle.gix_traverse_graph.proofs.Slow.{TellsApart}
 

@@ -6,9 +6,9 @@ use Rattle.std.proofs.lemmas.List.Folds.{list_any-append}
 use Rattle.std.proofs.lemmas.Map.Made.{length-le_from_is_member}
 use Rattle.std.proofs.lemmas.Map.Keys.{IsDistinct-from_apart}
 use Rattle.std.proofs.lemmas.Option.{slice_get_within, slice_get-get_or}
-use Rattle.gix_hash_id.specs.declared.object_id.ObjectId.{ObjectId}
-use Rattle.gix_hash_id.specs.Id.{id_of}
-use Rattle.gix_hash_id.specs.OrderLaws.{equivalence}
+use Rattle.gix_hash.specs.declared.object_id.ObjectId.{ObjectId}
+use Rattle.gix_hash.specs.Id.{id_of}
+use Rattle.gix_hash.specs.OrderLaws.{equivalence}
 use Rattle.gix_traverse_graph.specs.Order.{At, IsBreadthFirst, Named}
 use Rattle.gix_traverse_graph.specs.Commits.{asked_parents, Reached, tip, parent, Passes, Listed}
 use Rattle.gix_traverse_graph.specs.Numbered.{same_id}

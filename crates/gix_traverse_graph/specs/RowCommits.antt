@@ -1,6 +1,6 @@
 -- The commits of rows.
 use Rattle.std.specs.Prelude.{List, [], Option, Some, None, pos, find}
-use Rattle.gix_hash_id.specs.declared.object_id.ObjectId.{ObjectId}
+use Rattle.gix_hash.specs.declared.object_id.ObjectId.{ObjectId}
 use Rattle.gix_traverse_graph.specs.Commits.{Commit, Commits}
 use Rattle.gix_traverse_graph.specs.Numbered.{same_id}
 use Rattle.gix_traverse_graph.specs.declared.rows.Row.{Row}

@@ -12,7 +12,7 @@ use Rattle.gix_traverse_graph.specs.declared.sorting.CommitTimeOrder.TheVariants
 use Rattle.gix_traverse_graph.specs.declared.sorting.Sorting.{Sorting}
 use Rattle.gix_traverse_graph.specs.declared.sorting.Sorting.TheVariants.{BreadthFirst, ByCommitTime, ByCommitTimeCutoff}
 use Rattle.gix_traverse_graph.specs.declared.sorting.Timing.{Timing}
-use Rattle.gix_hash_id.specs.declared.object_id.ObjectId.{ObjectId}
+use Rattle.gix_hash.specs.declared.object_id.ObjectId.{ObjectId}
 
 -- the order by time, if there is one; along first parents a walk goes in breadth order
 abbrev pub timing_of : Parents → Sorting → Option Timing

@@ -1,7 +1,7 @@
 -- The state of a walk over rows in breadth order.
 use Rattle.std.specs.Prelude.{◌≡◌, ℕ, suc, ◌<◌, ◌↔◌, ◌⊎◌, Bool, true, ◌||◌, List, ◌++◌, length, Contains, None, ⊤}
 use Rattle.std.specs.List.{list_any}
-use Rattle.gix_hash_id.specs.declared.object_id.ObjectId.{ObjectId}
+use Rattle.gix_hash.specs.declared.object_id.ObjectId.{ObjectId}
 use Rattle.gix_traverse_graph.specs.Order.{At, Named}
 use Rattle.gix_traverse_graph.specs.Commits.{WalkRequest, asked_parents, Reached, Listed, Hides}
 use Rattle.gix_traverse_graph.specs.Numbered.{same_id}

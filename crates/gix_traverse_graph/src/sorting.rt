@@ -1,7 +1,7 @@
 //! The orders of a walk.
 
 ghost use Rattle.std.specs.Prelude.{◌≡◌, unwrap_or, pos};
-ghost use Rattle.gix_hash_id.specs.declared.object_id.ObjectId.{ObjectId};
+ghost use Rattle.gix_hash.specs.declared.object_id.ObjectId.{ObjectId};
 ghost use Rattle.gix_traverse_graph.specs.Commits.{Commit};
 ghost use Rattle.gix_traverse_graph.specs.Sorting.{IsTime, timing_of, in_time};
 ghost use Rattle.gix_traverse_graph.specs.declared.sorting.CommitTimeOrder.TheVariants.{NewestFirst};

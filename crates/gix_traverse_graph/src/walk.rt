@@ -2,7 +2,7 @@
 
 ghost use Rattle.std.specs.Prelude.{◌≡◌, List, [], ◌∷◌, ◌++◌, length, IfOk, IfErr, OnOk, OnErr, IfSome, IfNone, IsNone, IsSome, if◌then◌else◌, true};
 ghost use Rattle.std.specs.HashSet.{contains};
-ghost use Rattle.gix_hash_id.specs.declared.object_id.ObjectId.{ObjectId};
+ghost use Rattle.gix_hash.specs.declared.object_id.ObjectId.{ObjectId};
 ghost use Rattle.gix_traverse_graph.specs.Numbered.{same_id};
 ghost use Rattle.gix_traverse_graph.specs.Order.{IsBreadthFirst};
 ghost use Rattle.gix_traverse_graph.specs.RowCommits.{commits_of};

@@ -1,7 +1,7 @@
 -- Which faults were found, and commits as far as they were read.
 use Rattle.std.proofs.Common.{◌≡◌, ℕ, zero, suc, List, [], ◌∷◌, refl, sym, ◌∙◌, ap, subst, arith, Some, None, Option, Bool, true, false, cond}
 use Rattle.std.specs.Prelude.{Contains, IfSome, IsSome, pos}
-use Rattle.gix_hash_id.specs.declared.object_id.ObjectId.{ObjectId}
+use Rattle.gix_hash.specs.declared.object_id.ObjectId.{ObjectId}
 use Rattle.gix_object_lookup.specs.Table.{Table}
 use Rattle.gix_traverse_graph.specs.Commits.{Commit, Commits, tip, parent}
 use Rattle.gix_traverse_graph.specs.Numbered.{same_id}

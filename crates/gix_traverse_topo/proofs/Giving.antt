@@ -2,8 +2,8 @@
 use Rattle.std.proofs.Common.{refl, cond, arith, ℕ, ◌+◌, true, false, ◌≡◌, ◌⊎◌, List, [], ◌∷◌, ◌++◌, sym, subst, Some, None, Option, Bool, ◌<◌}
 use Rattle.std.specs.Prelude.{Result, Ok, Err, IfOk, IfErr, OnErr, IfSome, IfNone, IsNone, OnOk, ⊤}
 use Rattle.std.specs.Iterator.{MakesProgress, at_most}
-use Rattle.gix_hash_id.specs.Id.{Id, id_of}
-use Rattle.gix_hash_id.specs.declared.object_id.ObjectId.{ObjectId}
+use Rattle.gix_hash.specs.Id.{Id, id_of}
+use Rattle.gix_hash.specs.declared.object_id.ObjectId.{ObjectId}
 use Rattle.gix_traverse_graph.specs.Commits.{Commits}
 use Rattle.gix_traverse_commit_known.specs.Ending.{is_empty}
 use Rattle.gix_traverse_graph.specs.declared.info.Info.{Info}

@@ -1,7 +1,7 @@
 -- What one call of a walk gives.
 use Rattle.std.specs.Prelude.{◌≡◌, ◌⊎◌, ℕ, ◌<◌, List, [], ◌∷◌, ◌++◌, ◌+◌, Bool, if◌then◌else◌, Option, Some, Result, IfOk, IfErr, OnErr, OnOk, IfSome, IfNone, IsNone}
-use Rattle.gix_hash_id.specs.Id.{Id, id_of}
-use Rattle.gix_hash_id.specs.declared.object_id.ObjectId.{ObjectId}
+use Rattle.gix_hash.specs.Id.{Id, id_of}
+use Rattle.gix_hash.specs.declared.object_id.ObjectId.{ObjectId}
 use Rattle.gix_traverse_graph.specs.Commits.{Commits}
 use Rattle.gix_traverse_commit_known.specs.Ending.{is_empty}
 use Rattle.gix_traverse_commit_known.specs.Meeting.{Asks}

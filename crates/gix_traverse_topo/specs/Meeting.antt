@@ -1,6 +1,6 @@
 -- How far a walk has numbered the commits that it comes to.
 use Rattle.std.specs.Prelude.{◌≡◌, ℕ, zero, suc, ◌<◌, List, ◌++◌}
-use Rattle.gix_hash_id.specs.declared.object_id.ObjectId.{ObjectId}
+use Rattle.gix_hash.specs.declared.object_id.ObjectId.{ObjectId}
 use Rattle.gix_traverse_graph.specs.Commits.{Reached}
 use Rattle.gix_traverse_graph.specs.Order.{At, Named, IsBreadthFirst}
 use Rattle.gix_traverse_graph.specs.Reading.{Read}

@@ -1,8 +1,8 @@
 -- The state of a walk, and what it gives.
 use Rattle.std.specs.Prelude.{◌≡◌, ◌↔◌, ◌⊎◌, ℕ, ◌+◌, ◌<◌, ◌≤◌, Bool, ℤ, pos, List, [], ◌∷◌, ◌++◌, length, drop, map, filter, Contains, Option, None, Some, IfSome, ⊤, true, slice_set, slice_index_or}
 use Rattle.std.specs.BinaryHeap.{heap_items, IsHeap}
-use Rattle.gix_hash_id.specs.declared.object_id.ObjectId.{ObjectId}
-use Rattle.gix_hash_id.specs.declared.object_id.ObjectId.TheVariants.{Sha1}
+use Rattle.gix_hash.specs.declared.object_id.ObjectId.{ObjectId}
+use Rattle.gix_hash.specs.declared.object_id.ObjectId.TheVariants.{Sha1}
 use Rattle.gix_traverse_graph.specs.Commits.{Commit, Commits, WalkRequest, asked, asked_parents, Reached, Hides, Listed}
 use Rattle.gix_traverse_commit_known.specs.Fetching.{HasRowsGeneration}
 use Rattle.gix_traverse_graph.specs.Numbered.{same_id}

@@ -1,6 +1,6 @@
 -- How far a walk has read the commits that it numbered.
 use Rattle.std.specs.Prelude.{◌≡◌, ℕ, ◌+◌, ◌<◌, ◌≤◌, List, ◌++◌, length, take}
-use Rattle.gix_hash_id.specs.declared.object_id.ObjectId.{ObjectId}
+use Rattle.gix_hash.specs.declared.object_id.ObjectId.{ObjectId}
 use Rattle.gix_object_lookup.specs.Table.{Table}
 use Rattle.gix_traverse_graph.specs.Commits.{Commits, asked, asked_parents}
 use Rattle.gix_traverse_graph.specs.Numbered.{same_id}

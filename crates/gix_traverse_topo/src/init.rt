@@ -1,7 +1,7 @@
 //! The builder of a walk.
 
 ghost use Rattle.std.specs.Prelude.{◌≡◌, ◌+◌, ◌≤◌, ◌++◌, [], length, IfOk, IfErr, IfSome, IfNone, IsOk, None};
-ghost use Rattle.gix_hash_id.specs.declared.object_id.ObjectId.{ObjectId};
+ghost use Rattle.gix_hash.specs.declared.object_id.ObjectId.{ObjectId};
 ghost use Rattle.gix_traverse_commit_known.specs.Meeting.{CountsAll};
 ghost use Rattle.gix_traverse_graph.specs.Rows.{AllHeld, Holds};
 ghost use Rattle.gix_traverse_commit_known.specs.Told.{rows_of};

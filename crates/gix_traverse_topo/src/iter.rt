@@ -2,7 +2,7 @@
 
 ghost use Rattle.std.specs.Prelude.{true, false, ◌≡◌, ◌+◌, ◌<◌, ◌≤◌, ◌++◌, ◌∷◌, [], ℕ, List, OnOk, IfOk, IfErr, OnErr, IfSome, IfNone, IsNone, Option, Some, ◌⊎◌, length};
 ghost use Rattle.std.specs.Iterator.{at_most};
-ghost use Rattle.gix_hash_id.specs.declared.object_id.ObjectId.{ObjectId};
+ghost use Rattle.gix_hash.specs.declared.object_id.ObjectId.{ObjectId};
 ghost use Rattle.gix_traverse_graph.specs.Commits.{Commits, asked};
 ghost use Rattle.gix_traverse_graph.specs.Order.{At};
 ghost use Rattle.gix_traverse_graph.specs.declared.rows.Row.{Row};
@@ -12,7 +12,7 @@ ghost use Rattle.gix_traverse_topo.specs.Asking.{lookups_of};
 ghost use Rattle.gix_traverse_topo.specs.Giving.{AsksEach, AsksFault, AsksRest, GivesNext, HasGiven, accepted_by, answers_left};
 ghost use Rattle.gix_traverse_topo.specs.Standing.{Answers, CountsOff, Gives, GoesOff, IsInfo, IsTurn, IsTurnOf, NoneReachesItself, NotCounted, RowOff, Standing, Stands, Steps, all_accepted, topo_request, weight};
 ghost use Rattle.gix_traverse_topo.specs.Waiting.{waiting};
-ghost use Rattle.gix_hash_id.specs.Id.{id_of};
+ghost use Rattle.gix_hash.specs.Id.{id_of};
 ghost use Rattle.gix_traverse_topo.specs.declared.known.Facts.{Facts};
 ghost use Rattle.gix_traverse_topo.specs.declared.error.Error.{Error};
 ghost use Rattle.gix_traverse_topo.specs.declared.error.Error.TheVariants.{Memory};

@@ -2,7 +2,7 @@
 
 ghost use Rattle.std.specs.Prelude.{◌≡◌, ◌+◌, ◌^◌, ◌<◌, ◌≤◌, ◌==◌, ◌⊎◌, ℕ, List, [], ◌++◌, length, OnOk, IfOk, IfErr, IfSome, IfNone, Some, None, slice_get, slice_set};
 ghost use Rattle.indexmap.specs.IndexSet.{insert_key};
-ghost use Rattle.gix_hash_id.specs.declared.object_id.ObjectId.{ObjectId};
+ghost use Rattle.gix_hash.specs.declared.object_id.ObjectId.{ObjectId};
 ghost use Rattle.gix_traverse_graph.specs.Commits.{asked};
 ghost use Rattle.gix_object_lines.specs.Counts.{one_more};
 ghost use Rattle.gix_traverse_commit_known.specs.Meeting.{CountsAll};

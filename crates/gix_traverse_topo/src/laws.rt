@@ -1,7 +1,7 @@
 //! Laws over the definitions alone.
 
 ghost use Rattle.std.specs.Prelude.{◌↔◌, List, Contains, IsTrue};
-ghost use Rattle.gix_hash_id.specs.declared.object_id.ObjectId.{ObjectId};
+ghost use Rattle.gix_hash.specs.declared.object_id.ObjectId.{ObjectId};
 ghost use Rattle.gix_traverse_graph.specs.Commits.{Commits, WalkRequest};
 ghost use Rattle.gix_traverse_graph.specs.Walks.{InSomeOrder};
 ghost use Rattle.gix_traverse_topo.specs.Standing.{Answers};

@@ -1,6 +1,6 @@
 -- What is returned for several paths, after their trees are read.
 use Rattle.std.proofs.Common.{◌≡◌, ◌∙◌, refl, sym, subst, ℕ, zero, suc, ◌<◌, List, [], ◌∷◌, length, map, get_or, Option, Some, None, arith}
-use Rattle.gix_hash_id.specs.Id.{Id}
+use Rattle.gix_hash.specs.Id.{Id}
 use Rattle.gix_object_lines.specs.declared.kind.Kind.TheVariants as kinds
 use Rattle.gix_object_tree.specs.Entry.{Item}
 use Rattle.gix_object_lookup.specs.Existing.{KindFault}

@@ -1,7 +1,7 @@
 -- How far the trees of a level are read, and how far the levels.
 use Rattle.std.proofs.Common.{◌≡◌, ◌∙◌, sym, ap, subst, ℕ, suc, ◌+◌, ◌<◌, ◌≤◌, true, List, [], ◌∷◌, ◌++◌, length, Some, map, refl, append_assoc, arith, length-append}
 use Rattle.std.proofs.lemmas.List.{length-map, append-nil}
-use Rattle.gix_hash_id.specs.Id.{Id, id_of}
+use Rattle.gix_hash.specs.Id.{Id, id_of}
 use Rattle.gix_object_lookup.specs.Table.{Table}
 use Rattle.gix_traverse_tree.specs.Breadth as breadth
 use Rattle.gix_traverse_tree.specs.Breadth.{Tree, under, under_root, Listing, Level, Levels, InBreadth}

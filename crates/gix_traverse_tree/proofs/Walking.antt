@@ -1,6 +1,6 @@
 -- How far a walk in depth order has come.
 use Rattle.std.proofs.Common.{◌≡◌, ◌∙◌, sym, ap, subst, ℕ, suc, ◌<◌, arith, Bool, true, false, inl, inr, List, [], ◌∷◌, ◌++◌, refl, append_assoc}
-use Rattle.gix_hash_id.specs.Id.{Id, id_of}
+use Rattle.gix_hash.specs.Id.{Id, id_of}
 use Rattle.gix_object_lookup.specs.Table.{Table}
 use Rattle.gix_traverse_tree.specs.Calls.{Call, Runs, pop_back}
 use Rattle.gix_traverse_tree.specs.Depth as depth

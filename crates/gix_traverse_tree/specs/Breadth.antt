@@ -2,8 +2,8 @@
 -- those that lie in these.
 use Rattle.std.specs.Prelude.{ℕ, ◌≢◌, Bool, List, [], ◌∷◌, ◌++◌, map, if◌then◌else◌}
 use Rattle.std.specs.declared.ops.ControlFlow.TheVariants.{Continue, Break}
-use Rattle.gix_hash_id.specs.Id.{Id}
-use Rattle.gix_hash_id.specs.declared.kind.Kind.{Kind}
+use Rattle.gix_hash.specs.Id.{Id}
+use Rattle.gix_hash.specs.declared.kind.Kind.{Kind}
 use Rattle.gix_object_lines.specs.declared.decode.Error as decode
 use Rattle.gix_object_tree.specs.Entry.{Item, SpellsEntry, SpellsNoEntry, EntryFault}
 use Rattle.gix_object_lookup.specs.Table.{Table}

@@ -1,7 +1,7 @@
 -- What is known of the numbers of paths, while trees are read. H says whether the store returns
 -- what the table has, M whether its lookups may fail.
 use Rattle.std.specs.Prelude.{ℕ, zero, suc, ◌≡◌, ◌<◌, ◌≤◌, ◌⊎◌, true, List, [], ◌∷◌, Option, None, Some, length, slice_index_or, option_map, bytes_eq, if◌then◌else◌}
-use Rattle.gix_hash_id.specs.Id.{id_of}
+use Rattle.gix_hash.specs.Id.{id_of}
 use Rattle.gix_object_lines.specs.declared.kind.Kind.TheVariants as kinds
 use Rattle.gix_object_tree.specs.Entry.{Item}
 use Rattle.gix_object_tree.specs.ModeText.{mode_of}

@@ -2,7 +2,7 @@
 use Rattle.std.specs.Prelude.{ℕ, ◌≡◌, ◌-◌, ⊤, true, List, [], ◌∷◌, ◌++◌, ◌==◌, Option, Some, None, length, map, take, drop, slice_index_or, if◌then◌else◌}
 use Rattle.std.specs.List.{list_any}
 use Rattle.std.specs.declared.ops.ControlFlow.TheVariants.{Continue}
-use Rattle.gix_hash_id.specs.Id.{Id, id_of}
+use Rattle.gix_hash.specs.Id.{Id, id_of}
 use Rattle.gix_object_tree.specs.Entry.{Item}
 use Rattle.gix_object_tree.specs.ModeText.{Mode, mode_of}
 use Rattle.gix_traverse_tree.specs.Calls.{Call, pop_back, pop_front, push_back, push, pop, at_tree, at_nontree}

@@ -2,7 +2,7 @@
 
 ghost use Rattle.std.specs.Prelude.{◌≡◌, ◌<◌, ◌≤◌, ℕ, List, [], length, map, IfOk, IfErr, OnOk, Some, None};
 ghost use Rattle.std.specs.List.{All};
-ghost use Rattle.gix_hash_id.specs.Id.{id_of};
+ghost use Rattle.gix_hash.specs.Id.{id_of};
 ghost use Rattle.gix_object_tree.specs.Entry.{item_of};
 ghost use Rattle.gix_object_tree.specs.Reading.{place_of};
 ghost use Rattle.gix_object_lookup.specs.Path.{FindsFirst};

@@ -2,7 +2,7 @@
 
 ghost use Rattle.std.specs.Prelude.{◌≡◌, ◌↔◌, ◌<◌, ◌≤◌, ◌++◌, ◌∷◌, [], ℕ, List, Option, Some, IfOk, IfErr, IfSome, IsOk, OnOk, length, true, map};
 ghost use Rattle.std.specs.declared.ops.ControlFlow.TheVariants.{Continue, Break};
-ghost use Rattle.gix_hash_id.specs.Id.{Id, id_of};
+ghost use Rattle.gix_hash.specs.Id.{Id, id_of};
 ghost use Rattle.gix_object_tree.specs.Entry.{item_of};
 ghost use Rattle.gix_object_tree.specs.Reading.{place_of};
 ghost use Rattle.gix_traverse_tree.specs.declared.error.Error.TheVariants.{Cancelled};

@@ -2,8 +2,8 @@
 
 ghost use Rattle.std.specs.Prelude.{◌≡◌, ◌<◌, ◌++◌, ◌∷◌, [], IfOk, IfErr, IsOk, OnOk, reverse, length};
 ghost use Rattle.std.specs.List.{list_any};
-ghost use Rattle.gix_hash_id.specs.Id.{id_of};
-ghost use Rattle.gix_hash_id.specs.Order.{id_eq};
+ghost use Rattle.gix_hash.specs.Id.{id_of};
+ghost use Rattle.gix_hash.specs.Order.{id_eq};
 ghost use Rattle.gix_object_tree.specs.Entry.{item_of};
 ghost use Rattle.gix_traverse_tree.specs.Calls.{Runs};
 ghost use Rattle.gix_traverse_tree.specs.Trees.{failed, TreeFault};

@@ -1,8 +1,8 @@
 //! Laws over the definitions, for each store.
 
 ghost use Rattle.std.specs.Prelude.{◌≡◌, [], ◌++◌, List, ℕ};
-ghost use Rattle.gix_hash_id.specs.Id.{Id};
-ghost use Rattle.gix_hash_id.specs.declared.kind.Kind.{Kind};
+ghost use Rattle.gix_hash.specs.Id.{Id};
+ghost use Rattle.gix_hash.specs.declared.kind.Kind.{Kind};
 ghost use Rattle.gix_traverse_tree.specs.Breadth.{InBreadth};
 ghost use Rattle.gix_traverse_tree.specs.Calls.{Call, Runs};
 ghost use Rattle.gix_traverse_tree.specs.Depth.{InDepth, before};

@@ -1,7 +1,7 @@
 //! Looking a tree up.
 
 ghost use Rattle.std.specs.Prelude.{OnOk, IfErr, Contains};
-ghost use Rattle.gix_hash_id.specs.Id.{id_of};
+ghost use Rattle.gix_hash.specs.Id.{id_of};
 ghost use Rattle.gix_object_lines.specs.declared.kind.Kind.TheVariants as kinds;
 ghost use Rattle.gix_object_lookup.specs.Existing.{Stands, KindFault};
 

@@ -10,7 +10,7 @@ use Rattle.history_model.specs.Wholeness.{IsSound}
 use Rattle.history_model.proofs.WholeStores.{all_keep}
 use Rattle.history_layout.specs.TreeHalves.{HoldsValues}
 use Rattle.history_layout.proofs.TreePuts.{halves_stand}
-use Rattle.history_objects.specs.Face.{ids_of_objects}
+use Rattle.history_store.specs.ObjectsFace.{ids_of_objects}
 use Rattle.history_repository.specs.Face.{KeepsAllButNames, rows_in}
 use Rattle.history_repository.specs.KeptRows.{AgreeRows}
 use Rattle.history_repository.specs.Stands.{Stands, pair_of}

@@ -11,8 +11,8 @@ use Rattle.history_model.specs.Runs.{Runs}
 use Rattle.history_model.specs.Rows.{Gives}
 use Rattle.history_model.proofs.RunsAgree.{runs_give}
 use Rattle.history_model.proofs.RunsTold.{runs_told}
-use Rattle.gix_hash_id.specs.declared.kind.Kind.{Kind}
-use Rattle.gix_hash_id.specs.declared.kind.Kind.TheVariants.{Sha1}
+use Rattle.gix_hash.specs.declared.kind.Kind.{Kind}
+use Rattle.gix_hash.specs.declared.kind.Kind.TheVariants.{Sha1}
 use Rattle.history_model.specs.declared.End.{End}
 use Rattle.history_model.specs.declared.End.TheVariants.{Input}
 use Rattle.history.specs.Answered.{IsAnswered, Answers, IsMeant, AreOrTellFault}

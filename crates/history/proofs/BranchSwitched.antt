@@ -19,9 +19,9 @@ use Rattle.history_layout.specs.SwitchSteps.{HeadOnTheWay, NamesBranch}
 use Rattle.history_layout.specs.TreeHalves.{HoldsNames, HoldsValues}
 use Rattle.history_layout.proofs.HeadSwitched.{switches_pass, switches_stand}
 use Rattle.history_layout.proofs.TreePuts.{halves_stand}
-use Rattle.history_objects.specs.Face.{ids_of_objects}
-use Rattle.history_names.specs.Changing.{MaySwitch}
-use Rattle.history_names.specs.Packing.{KeepsRecords}
+use Rattle.history_store.specs.ObjectsFace.{ids_of_objects}
+use Rattle.history_store.specs.Changing.{MaySwitch}
+use Rattle.history_store.specs.Packing.{KeepsRecords}
 use Rattle.gix_traverse_commit_known.specs.Told.{rows_of}
 use Rattle.gix_traverse_graph.specs.declared.rows.Row.{Row}
 use Rattle.history_repository.specs.Face.{names_part, rows_in}

@@ -7,8 +7,8 @@ use Rattle.history_model.specs.Causes.{first_cause}
 use Rattle.history_model.specs.Commands.{Command, Move, MoveCommand, Pack, Rename}
 use Rattle.history_model.specs.declared.Cause.{Cause}
 use Rattle.history_model.specs.declared.Fault.TheVariants.{Memory, File, IdTaken}
-use Rattle.history_names.specs.declared.changing.MovedName.{MovedName}
-use Rattle.history_names.specs.declared.packs.PackedName.{PackedName}
+use Rattle.history_store.specs.declared.changing.MovedName.{MovedName}
+use Rattle.history_store.specs.declared.packs.PackedName.{PackedName}
 use Rattle.history_repository.specs.Reads.{GivesMeant}
 use Rattle.history_repository.specs.declared.stopped.Stopped.{Stopped}
 use Rattle.history_repository.specs.declared.stopped.Stopped.TheVariants.{Refused, Fault}

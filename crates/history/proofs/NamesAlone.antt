@@ -11,8 +11,8 @@ use Rattle.history_model.specs.Stops.{is_changing}
 use Rattle.history_model.specs.StandsFor.{StandsFor}
 use Rattle.history_model.specs.Wholeness.{IsSound}
 use Rattle.history_model.proofs.WholeSteps.{steps_keep_sound}
-use Rattle.history_objects.specs.Face.{ids_of_objects}
-use Rattle.history_names.specs.Packing.{KeepsRecords}
+use Rattle.history_store.specs.ObjectsFace.{ids_of_objects}
+use Rattle.history_store.specs.Packing.{KeepsRecords}
 use Rattle.gix_traverse_commit_known.specs.Told.{rows_of}
 use Rattle.gix_traverse_graph.specs.declared.rows.Row.{Row}
 use Rattle.history_repository.specs.Face.{names_part, rows_in, KeepsAllButNames}

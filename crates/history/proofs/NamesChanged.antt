@@ -28,10 +28,10 @@ use Rattle.history_layout.proofs.EditsAllowed.{commits_can_be_edited, deletes_ca
 use Rattle.history_layout.proofs.EditsPassed.{edits_pass}
 use Rattle.history_layout.proofs.EditsStood.{edits_stand}
 use Rattle.history_layout.proofs.PassedStates.{names_pass}
-use Rattle.history_names.specs.Changing.{HaveOneActor, HoldNamesOf, MayChange}
-use Rattle.history_names.specs.Packing.{KeepsRecords}
-use Rattle.history_names.specs.declared.changing.MovedName.{MovedName}
-use Rattle.history_names.specs.declared.names.Names.{Names}
+use Rattle.history_store.specs.Changing.{HaveOneActor, HoldNamesOf, MayChange}
+use Rattle.history_store.specs.Packing.{KeepsRecords}
+use Rattle.history_store.specs.declared.changing.MovedName.{MovedName}
+use Rattle.history_store.specs.declared.names.Names.{Names}
 use Rattle.history_repository.specs.Face.{names_part}
 use Rattle.history_repository.specs.Stands.{pair_of}
 use Rattle.history_repository.specs.declared.repository.Repository.{Repository}

@@ -13,10 +13,10 @@ use Rattle.history_model.specs.declared.Fault.{Fault}
 use Rattle.history_layout.specs.EditSteps.{EditsMade}
 use Rattle.history_layout.specs.PackSteps.{PacksNames, PacksOnTheWay}
 use Rattle.history_layout.specs.Passing.{HoldsBetween}
-use Rattle.history_names.specs.Packed.{records_of}
-use Rattle.history_names.specs.Packing.{KeepsRecords}
-use Rattle.history_names.specs.declared.changing.MovedName.{MovedName}
-use Rattle.history_names.specs.declared.packs.PackedName.{PackedName}
+use Rattle.history_store.specs.Packed.{records_of}
+use Rattle.history_store.specs.Packing.{KeepsRecords}
+use Rattle.history_store.specs.declared.changing.MovedName.{MovedName}
+use Rattle.history_store.specs.declared.packs.PackedName.{PackedName}
 use Rattle.history_repository.specs.Face.{KeepsAllButNames, names_part}
 use Rattle.history_repository.specs.Stands.{Stands}
 use Rattle.history_repository.specs.declared.repository.Repository.{Repository}

@@ -1,13 +1,13 @@
 -- The names that a command moves, as steps have them.
 use Rattle.std.proofs.Common.{◌≡◌, List, [], ◌∷◌, map, ap, refl, ◌∙◌}
 use Rattle.std.specs.List.{AllZip}
-use Rattle.gix_hash_id.specs.Id.{id_of}
+use Rattle.gix_hash.specs.Id.{id_of}
 use Rattle.history_model.specs.Bytes.{Bytes}
 use Rattle.history_model.specs.Commands.{MoveCommand, To}
 use Rattle.history_layout.specs.CommandEdits.{moved_by, moved_on}
 use Rattle.history_layout.specs.EditSteps.{renamed}
 use Rattle.history_layout.specs.OneNameSteps.{NameMove}
-use Rattle.history_names.specs.declared.changing.MovedName.{MovedName}
+use Rattle.history_store.specs.declared.changing.MovedName.{MovedName}
 use Rattle.history_plans.specs.Moving.{IsLineMove}
 use Rattle.history_plans.specs.Plans.{IsMove}
 use Rattle.history_plans.specs.Renaming.{MakesName}

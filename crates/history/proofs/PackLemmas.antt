@@ -15,8 +15,8 @@ use Rattle.history_layout.specs.Passing.{HoldsBetween}
 use Rattle.history_layout.specs.TreeHalves.{HoldsNames}
 use Rattle.history_layout.proofs.Packs.{packs_pass, packs_stand}
 use Rattle.history_layout.proofs.TreePuts.{halves_stand}
-use Rattle.history_names.specs.Packing.{HasPackedRoom}
-use Rattle.history_names.specs.References.{lock_place}
+use Rattle.history_store.specs.Packing.{HasPackedRoom}
+use Rattle.history_store.specs.References.{lock_place}
 use Rattle.history_repository.specs.Face.{KeepsAllButNames, names_part}
 use Rattle.history_plans.specs.Halves.{names_tree}
 use Rattle.history_repository.specs.Stands.{Stands, pair_of}

@@ -12,7 +12,7 @@ use Rattle.history_model.specs.Wholeness.{IsSound}
 use Rattle.history_model.specs.declared.Fault.TheVariants.{Memory, File, IdTaken}
 use Rattle.history_layout.specs.Passing.{HoldsFirst}
 use Rattle.history_layout.proofs.PassedStops.{first_are_some, tags_store_whole}
-use Rattle.history_objects.specs.Stores.{IsObjectOf}
+use Rattle.history_store.specs.Stores.{IsObjectOf}
 use Rattle.history_repository.specs.Face.{objects_part}
 use Rattle.history_plans.specs.Halves.{KnowsIds, ObjectsStand, StoresValues}
 use Rattle.history.specs.Moments.{ObjectsPass}

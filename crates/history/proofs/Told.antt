@@ -1,15 +1,15 @@
 -- Which fault is reported: whose it is if an error is passed on, and that only `fault File` reports
 -- a failed call.
 use Rattle.std.proofs.Common.{◌≡◌, ◌≢◌, refl, sym, Result, Err}
-use Rattle.gix_hash_id.specs.declared.object_id.ObjectId.{ObjectId}
+use Rattle.gix_hash.specs.declared.object_id.ObjectId.{ObjectId}
 use Rattle.gix_ref_file.specs.declared.files.FileError.{FileError}
-use Rattle.history_objects.specs.declared.objects.PutMadeError.{PutMadeError}
+use Rattle.history_store.specs.declared.objects.PutMadeError.{PutMadeError}
 use Rattle.history_model.specs.declared.Fault.{Fault}
 use Rattle.history_model.specs.declared.Fault.TheVariants.{Memory, File, IdTaken}
 use Rattle.history_repository.specs.Faults.{fault_of_put, file_fault}
 use Rattle.history_repository.specs.declared.stopped.Stopped.{Stopped}
 use Rattle.gix_ref_file.specs.declared.files.FileError.TheVariants as files
-use Rattle.history_objects.specs.declared.objects.PutMadeError.TheVariants as put
+use Rattle.history_store.specs.declared.objects.PutMadeError.TheVariants as put
 use Rattle.history_repository.specs.declared.stopped.Stopped.TheVariants as stopped
 use Rattle.history.specs.declared.reply.Reply as own
 use Rattle.history.specs.declared.reply.Reply.TheVariants as reply

@@ -11,8 +11,8 @@ use Rattle.history_model.specs.declared.Fault.{Fault}
 use Rattle.history_model.specs.declared.Fault.TheVariants.{Memory, File, IdTaken}
 use Rattle.history_layout.specs.EditFits.{CanBeEdited}
 use Rattle.history_layout.specs.EditSteps.{AreEditsOf}
-use Rattle.history_names.specs.Changing.{HaveOneActor, moved_in}
-use Rattle.history_names.specs.declared.changing.MovedName.{MovedName}
+use Rattle.history_store.specs.Changing.{HaveOneActor, moved_in}
+use Rattle.history_store.specs.declared.changing.MovedName.{MovedName}
 use Rattle.history_repository.specs.declared.repository.Repository.{Repository}
 use Rattle.history.specs.Storing.{HasStored}
 use Rattle.history_layout.specs.EditSteps as edits

@@ -1,7 +1,7 @@
 -- What storing a command's objects leaves, and what is then to be done to names.
 use Rattle.std.specs.Prelude.{◌≡◌, ⊤, ℕ, Bool, true, false, List, [], ◌∷◌, Vec, Option, Some, None, Result, Ok, Err, IsTrue, IsFalse, map, option_map}
 use Rattle.std.specs.declared.alloc.Global.{Global}
-use Rattle.gix_hash_id.specs.Id.{id_of}
+use Rattle.gix_hash.specs.Id.{id_of}
 use Rattle.gix_ref_file.specs.History.{History}
 use Rattle.history_model.specs.Bytes.{Bytes}
 use Rattle.history_model.specs.Causes.{first_cause}
@@ -13,7 +13,7 @@ use Rattle.history_layout.specs.CommandEdits.{moved_by, moved_on}
 use Rattle.history_layout.specs.EditSteps.{renamed}
 use Rattle.history_layout.specs.OneNameSteps.{commit_move, tag_move}
 use Rattle.history_layout.specs.TreeHalves.{HoldsValues}
-use Rattle.history_objects.specs.Face.{kind_of_objects}
+use Rattle.history_store.specs.ObjectsFace.{kind_of_objects}
 use Rattle.history_word.specs.Commands.{IsCommandOf}
 use Rattle.history_word.specs.declared.command.Command.{Command}
 use Rattle.history_repository.specs.Face.{KeepsAllButObjects, objects_part}
@@ -24,8 +24,8 @@ use Rattle.history_repository.specs.declared.stopped.Stopped.{Stopped}
 use Rattle.history_repository.specs.declared.stopped.Stopped.TheVariants.{Refused, Fault}
 use Rattle.history_plans.specs.Halves.{KnowsIds, objects_tree}
 use Rattle.history_plans.specs.Packing.{AreAllNames}
-use Rattle.history_names.specs.Changing.{moved_in}
-use Rattle.history_names.specs.declared.changing.MovedName.{MovedName}
+use Rattle.history_store.specs.Changing.{moved_in}
+use Rattle.history_store.specs.declared.changing.MovedName.{MovedName}
 use Rattle.history.specs.declared.moves.Done.{Done}
 use Rattle.history.specs.declared.moves.Done.TheVariants as done
 use Rattle.history.specs.declared.moves.Moves.{Moves}

@@ -3,8 +3,8 @@
 ghost use Rattle.std.specs.Prelude.{◌≡◌, OnOk, IsErrOf};
 ghost use Rattle.gix_ref_file.specs.History.{Adds};
 ghost use Rattle.history_layout.specs.PackSteps.{PacksNames, PacksOnTheWay};
-ghost use Rattle.history_names.specs.Face.{kind_of_names};
-ghost use Rattle.history_names.specs.Packing.{KeepsRecords};
+ghost use Rattle.history_store.specs.NamesFace.{kind_of_names};
+ghost use Rattle.history_store.specs.Packing.{KeepsRecords};
 ghost use Rattle.history.specs.Acts.{CountsFailure, CountsRise, KeepsCounts, OnlyFileCounts};
 ghost use Rattle.history.specs.Moving.{LeavesMoved};
 ghost use Rattle.history.specs.Storing.{GivesMoves};

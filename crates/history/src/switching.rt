@@ -5,7 +5,7 @@ ghost use Rattle.gix_ref_file.specs.History.{Adds};
 ghost use Rattle.history_model.specs.Causes.{first_cause};
 ghost use Rattle.history_model.specs.Meaning.{after};
 ghost use Rattle.history_layout.specs.Passing.{HoldsBetween};
-ghost use Rattle.history_names.specs.Face.{kind_of_names};
+ghost use Rattle.history_store.specs.NamesFace.{kind_of_names};
 ghost use Rattle.history.specs.Acts.{CountsFailure, CountsRise, KeepsCounts, OnlyFileCounts};
 ghost use Rattle.history.specs.Moving.{LeavesMoved, MovesNamesAlone};
 ghost use Rattle.history.specs.NameFiles.{ChangesHeadAlone};

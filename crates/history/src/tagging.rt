@@ -2,7 +2,7 @@
 
 ghost use Rattle.std.specs.Prelude.{◌≡◌, IfErr, OnOk, IsErrOf};
 ghost use Rattle.history_word.specs.Commands.{IsTag};
-ghost use Rattle.history_objects.specs.Face.{kind_of_objects};
+ghost use Rattle.history_store.specs.ObjectsFace.{kind_of_objects};
 ghost use Rattle.history.specs.Acts.{CountsFailure, CountsRise, KeepsCounts, OnlyFileCounts};
 ghost use Rattle.history_repository.specs.Face.{KeepsAllButObjects, objects_part};
 ghost use Rattle.history_repository.specs.Faults.{IsRefusal};

@@ -1,6 +1,6 @@
 -- Why a folder isn't a repository's, by what a look at its parts finds.
 use Rattle.std.proofs.Common.{inl, inr}
-use Rattle.gix_hash_id.specs.declared.kind.Kind.{Kind}
+use Rattle.gix_hash.specs.declared.kind.Kind.{Kind}
 use Rattle.gix_ref_file.specs.Tree.{Tree}
 use Rattle.history_texts.specs.declared.parts.Part.TheVariants.{Objects, Names}
 use Rattle.history_model.specs.Bytes.{Bytes}

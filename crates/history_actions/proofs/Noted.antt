@@ -1,7 +1,7 @@
 -- What is noted after the line of a failure: only of a stray file.
 use Rattle.std.proofs.Common.{◌≡◌, ℕ, [], Vec, refl}
 use Rattle.std.specs.declared.alloc.Global.{Global}
-use Rattle.gix_hash_id.specs.declared.kind.Kind.{Kind}
+use Rattle.gix_hash.specs.declared.kind.Kind.{Kind}
 use Rattle.history_texts.specs.declared.open_error.OpenError.{OpenError}
 use Rattle.history_texts.specs.declared.open_error.OpenError.TheVariants.{Stray}
 use Rattle.history_actions.specs.Told.{cause_note, failure_note}

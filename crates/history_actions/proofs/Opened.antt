@@ -1,6 +1,6 @@
 -- What was opened, by its two parts.
 use Rattle.std.proofs.Common.{◌≡◌, Bool, Option, Result, ap₂, subst, sym}
-use Rattle.gix_hash_id.specs.declared.kind.Kind.{Kind}
+use Rattle.gix_hash.specs.declared.kind.Kind.{Kind}
 use Rattle.gix_ref_file.specs.History.{History}
 use Rattle.history_model.specs.Bytes.{Bytes}
 use Rattle.history_model.specs.Repository as plain

@@ -1,7 +1,7 @@
 -- What making a repository leaves of a folder's two parts.
 use Rattle.std.specs.Prelude.{◌≡◌, ◌⊎◌, ⊤, ℕ, Vec, Result, OnErr, IfErr, IsErrOf}
 use Rattle.std.specs.declared.alloc.Global.{Global}
-use Rattle.gix_hash_id.specs.declared.kind.Kind.{Kind}
+use Rattle.gix_hash.specs.declared.kind.Kind.{Kind}
 use Rattle.gix_ref_file.specs.Calls.{HasFault}
 use Rattle.gix_ref_file.specs.History.{History}
 use Rattle.history_model.specs.Places.{unfinished_place}
@@ -9,7 +9,7 @@ use Rattle.history_model.specs.Repository.{fresh}
 use Rattle.history_model.specs.StandsFor.{StandsFor}
 use Rattle.history_repository.specs.Opened.{trees_of}
 use Rattle.history_store.specs.Creation.{IsNew, SameHead}
-use Rattle.history_names.specs.References.{head_lock}
+use Rattle.history_store.specs.References.{head_lock}
 use Rattle.history_texts.specs.Parts.{IsStrayAt}
 use Rattle.history_texts.specs.declared.parts.Part.TheVariants.{Objects, Names}
 use Rattle.history_actions.specs.Failures.{IsDone}

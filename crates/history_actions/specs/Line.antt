@@ -6,8 +6,8 @@ use Rattle.clap.specs.Simple.{on_top}
 use Rattle.clap.specs.declared.error.ErrorKind.{ErrorKind}
 use Rattle.clap.specs.declared.error.ErrorKind.TheVariants.{DisplayHelp, DisplayVersion}
 use Rattle.clap.specs.declared.builder.ArgAction.TheVariants.{Set, SetTrue}
-use Rattle.gix_hash_id.specs.declared.kind.Kind.{Kind}
-use Rattle.gix_hash_id.specs.declared.kind.Kind.TheVariants.{Sha1, Sha256}
+use Rattle.gix_hash.specs.declared.kind.Kind.{Kind}
+use Rattle.gix_hash.specs.declared.kind.Kind.TheVariants.{Sha1, Sha256}
 use Rattle.history_actions.specs.declared.command_line.asked.Action.{Action}
 use Rattle.history_actions.specs.declared.command_line.asked.Action.TheVariants.{Create, Run, Check, Recover}
 use Rattle.history_actions.specs.declared.command_line.asked.AskError.{AskError}

@@ -1,6 +1,6 @@
 -- What each action does.
 use Rattle.std.specs.Prelude.{◌≡◌, ℕ, Bool, [], Option}
-use Rattle.gix_hash_id.specs.declared.kind.Kind.{Kind}
+use Rattle.gix_hash.specs.declared.kind.Kind.{Kind}
 use Rattle.gix_ref_file.specs.History.{History}
 use Rattle.history_actions.specs.declared.command_line.asked.Action.{Action}
 use Rattle.history_actions.specs.declared.command_line.asked.Action.TheVariants.{Create, Run, Check, Recover}

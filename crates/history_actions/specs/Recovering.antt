@@ -1,6 +1,6 @@
 -- What a recovery leaves of a folder's two parts: only those of a repository are changed.
 use Rattle.std.specs.Prelude.{◌≡◌, ◌⊎◌, ⊤, ℕ, Result, Err, IfErr, IsErrOf}
-use Rattle.gix_hash_id.specs.declared.kind.Kind.{Kind}
+use Rattle.gix_hash.specs.declared.kind.Kind.{Kind}
 use Rattle.gix_ref_file.specs.Calls.{HasFault}
 use Rattle.gix_ref_file.specs.History.{History}
 use Rattle.history_model.specs.Recovery.{recovered}

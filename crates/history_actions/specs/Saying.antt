@@ -1,7 +1,7 @@
 -- What an action writes if it is done.
 use Rattle.std.specs.Prelude.{◌≡◌, Bool, true, Option, Result, Ok, Err, codes}
 use Rattle.std.specs.Io.KnownBytes.{Appends}
-use Rattle.gix_hash_id.specs.Writes.{AppendsFewer}
+use Rattle.gix_hash.specs.Writes.{AppendsFewer}
 use Rattle.history_model.specs.Bytes.{Bytes, line}
 use Rattle.history_actions.specs.declared.failure.Failure.{Failure}
 use Rattle.history_actions.specs.declared.failure.Failure.TheVariants.{NotEmpty, Unopened, File, Memory, Read, Write, Ended}

@@ -1,6 +1,6 @@
 //! Writes values after a word, each after a space.
 ghost use Rattle.std.specs.Prelude.{◌∷◌, [], decimal};
-ghost use Rattle.gix_hash_id.specs.Id.{id_of};
+ghost use Rattle.gix_hash.specs.Id.{id_of};
 ghost use Rattle.history_model.specs.Objects.{hex};
 ghost use Rattle.history_actions.specs.Told.{Writes, cause_values, namer_text, values_text};
 

@@ -8,7 +8,7 @@ use Rattle.history_model.specs.Bytes.{Bytes}
 use Rattle.history_model.specs.Forms.{is_branch}
 use Rattle.history_model.specs.Places.{file_at, head_place}
 use Rattle.history_model.specs.StandsFor.{head_text}
-use Rattle.history_names.specs.References.{HeadNames, SpellsBranch}
+use Rattle.history_store.specs.References.{HeadNames, SpellsBranch}
 use Rattle.history_check_names.specs.Causes.{HasBadHead}
 use Rattle.history_check_names.specs.Parts.{NamesBranch}
 

@@ -1,8 +1,8 @@
 -- The two parts of a repository are joined.
 use Rattle.std.proofs.Common.{refl}
 use Rattle.std.specs.FinMap.{FinMap}
-use Rattle.gix_hash_id.specs.Id.{Id}
-use Rattle.gix_hash_id.specs.declared.kind.Kind.{Kind}
+use Rattle.gix_hash.specs.Id.{Id}
+use Rattle.gix_hash.specs.declared.kind.Kind.{Kind}
 use Rattle.history_model.specs.Bytes.{Bytes, by_bytes}
 use Rattle.history_model.specs.Objects.{Value, StoredCommit, StoredTag, StoredBytes, StoredFolder}
 use Rattle.history_model.specs.Repository.{Reference, Repository, Values, NamesAreStored, Reaches, named, by_way_of, IsWholeStore}

@@ -1,7 +1,7 @@
 -- What the texts of names' files read as.
 use Rattle.std.proofs.Common.{◌≡◌, ◌≢◌, Bool, true, false, cond, ◌-◌, ◌&&◌, [], ◌∷◌, ◌++◌, length, take, drop, Some, None, option_map, unwrap_or, refl, sym, ◌∙◌, ap, codes}
-use Rattle.gix_hash_id.specs.Id.{Id}
-use Rattle.gix_hash_id.specs.declared.kind.Kind.{Kind}
+use Rattle.gix_hash.specs.Id.{Id}
+use Rattle.gix_hash.specs.declared.kind.Kind.{Kind}
 use Rattle.history_model.specs.Bytes.{Bytes, begins, ends, line}
 use Rattle.history_model.specs.Forms.{is_name}
 use Rattle.history_model.specs.NameStates.{NameState, Holds, Symbolic, Faulty, loose_state, loose_line}

@@ -3,12 +3,12 @@ use Rattle.std.proofs.Common.{◌≡◌, ℕ, drop, zero, suc, ◌+◌, ◌≤�
 use Rattle.std.specs.Prelude.{option_and_then}
 use Rattle.std.specs.List.{AllByRecursion, onto_first}
 use Rattle.std.proofs.lemmas.Option.{same_Some}
-use Rattle.gix_hash_id.specs.Id.{Id}
-use Rattle.gix_hash_id.specs.Kind.{hex_len}
+use Rattle.gix_hash.specs.Id.{Id}
+use Rattle.gix_hash.specs.Kind.{hex_len}
 use Rattle.history_model.specs.Forms.{is_id}
 use Rattle.history_model.specs.PackedNames.{id_from_hex}
 use Rattle.history_model.proofs.IdLemmas.{id_from_hex-is_id}
-use Rattle.gix_hash_id.specs.declared.kind.Kind.{Kind}
+use Rattle.gix_hash.specs.declared.kind.Kind.{Kind}
 use Rattle.gix_ref_format.specs.Lines.{cut_line, lines}
 use Rattle.gix_ref_format.specs.Packed.{Record, Item, Good, Bad, items, item_of, next_number, record_line, peel_line, peel_behind, all_good, record_text, with_item, without_peel}
 use Rattle.history_check_names.specs.Packed.{first_lines}

@@ -3,7 +3,7 @@ use Rattle.std.proofs.Common.{◌≡◌, ◌≢◌, ℕ, zero, suc, ◌+◌, ◌
 use Rattle.std.specs.Prelude.{◌==◌, option_and_then}
 use Rattle.std.specs.List.{AllByRecursion, onto_first}
 use Rattle.std.proofs.lemmas.Bool.{and_from, and_parts, or_from, or_parts}
-use Rattle.gix_hash_id.specs.declared.kind.Kind.{Kind}
+use Rattle.gix_hash.specs.declared.kind.Kind.{Kind}
 use Rattle.gix_ref_format.specs.Lines.{lines}
 use Rattle.gix_ref_format.specs.Packed.{Record, Item, Good, Bad, items, item_of, record_line, peel_behind, all_good, header_line, is_headed, items_behind_header, packed_items, packed_records}
 use Rattle.gix_ref_format.specs.declared.packed.Header.{Header}

@@ -4,10 +4,10 @@ use Rattle.std.proofs.lemmas.Bool.{and_parts}
 use Rattle.std.proofs.lemmas.Bool.Decides.{Decides-eqb}
 use borrow.Author.Tests.{leb-true}
 use Rattle.std.specs.Str.{is_utf8}
-use Rattle.gix_hash_id.specs.Id.{Id}
-use Rattle.gix_hash_id.specs.Kind.{hex_len}
-use Rattle.gix_hash_id.specs.declared.kind.Kind.{Kind}
-use Rattle.gix_hash_id.specs.declared.kind.Kind.TheVariants.{Sha1, Sha256}
+use Rattle.gix_hash.specs.Id.{Id}
+use Rattle.gix_hash.specs.Kind.{hex_len}
+use Rattle.gix_hash.specs.declared.kind.Kind.{Kind}
+use Rattle.gix_hash.specs.declared.kind.Kind.TheVariants.{Sha1, Sha256}
 use Rattle.gix_object_lines.specs.NameTest.{is_partial_name}
 use Rattle.gix_ref_file.specs.Tree.{Tree, Node, bytes_at, bytes_of, file, folder, node_at, place_of}
 use Rattle.gix_ref_file.specs.declared.files.Place.TheVariants as places

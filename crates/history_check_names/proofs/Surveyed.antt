@@ -1,7 +1,7 @@
 -- What a survey of the whole part comes to.
 use Rattle.std.proofs.Common.{◌≡◌, [], true, subst, sym}
 use Rattle.std.specs.Prelude.{OnOk, Result, Ok, Err}
-use Rattle.gix_hash_id.specs.declared.kind.Kind.{Kind}
+use Rattle.gix_hash.specs.declared.kind.Kind.{Kind}
 use Rattle.gix_ref_file.specs.Tree.{Tree, IsRooted, bytes_at}
 use Rattle.history_model.specs.Bytes.{Bytes}
 use Rattle.history_model.specs.Places.{packed_place}

@@ -1,8 +1,8 @@
 -- Which texts are logs, and what is wrong with others ("Logging updates" in git-update-ref(1)).
 use Rattle.std.specs.Prelude.{◌≡◌, ◌≢◌, ◌<◌, ◌≤◌, ◌+◌, ℕ, ⊤, Bool, true, false, List, [], ◌∷◌, ◌++◌, length, take, Option, Some, None, IsTrue, IsFalse}
 use Rattle.std.specs.List.{flat_map, list_all}
-use Rattle.gix_hash_id.specs.declared.kind.Kind.{Kind}
-use Rattle.gix_hash_id.specs.Id.{Id}
+use Rattle.gix_hash.specs.declared.kind.Kind.{Kind}
+use Rattle.gix_hash.specs.Id.{Id}
 use Rattle.history_model.specs.Bytes.{Bytes, line, has_byte}
 use Rattle.history_model.specs.Forms.{is_id, is_log_entry}
 use Rattle.history_model.specs.Logs.{log_line, log_text}

@@ -1,7 +1,7 @@
 -- Which names parts are a repository's.
 use Rattle.std.specs.Prelude.{◌≡◌, ◌&&◌, not, Some, IsTrue}
 use Rattle.std.specs.FinMap.{FinMap, get}
-use Rattle.gix_hash_id.specs.declared.kind.Kind.{Kind}
+use Rattle.gix_hash.specs.declared.kind.Kind.{Kind}
 use Rattle.gix_ref_file.specs.Tree.{Tree}
 use Rattle.history_model.specs.Bytes.{Bytes, by_bytes}
 use Rattle.history_model.specs.Forms.{is_branch, is_name, is_private, is_reference}

@@ -7,7 +7,7 @@ ghost use Rattle.history_check_names.specs.Packed.{is_packed_text};
 ghost use Rattle.gix_ref_file.specs.Calls.{Finds};
 ghost use Rattle.history_model.specs.Forms.{is_branch};
 ghost use Rattle.history_model.specs.Repository.{Repository};
-ghost use Rattle.history_names.specs.Face.{files_of_names, kind_of_names};
+ghost use Rattle.history_store.specs.NamesFace.{files_of_names, kind_of_names};
 ghost use Rattle.history_check_names.specs.Causes.{HasCause, IsFault};
 ghost use Rattle.history_check_names.specs.PackedRead.{ReadsPacked};
 ghost use Rattle.history_check_names.specs.Parts.{IsNamesPart, NamesBranch, StandsNames};
@@ -24,7 +24,7 @@ use gix_ref_file::paths::{is_deeper, joined};
 use gix_ref_file::{Files, Place};
 use history_check_objects::Stored;
 use history_model::names::{HEAD, HEADS};
-use history_names::Names;
+use history_store::Names;
 use history_texts::{Part, is_name};
 use std::alloc::Global;
 

@@ -6,15 +6,15 @@ use Rattle.std.specs.BTreeSet as sets
 use Rattle.std.specs.FinMap.{empty, get, get-empty}
 use Rattle.std.specs.Map.{lookup}
 use Rattle.std.proofs.lemmas.List.{reverse-append}
-use Rattle.gix_hash_id.specs.Id.{Id, digits_of, id_of}
-use Rattle.gix_hash_id.specs.Order.{id_eq}
-use Rattle.gix_hash_id.specs.OrderLaws.{id_tied}
+use Rattle.gix_hash.specs.Id.{Id, digits_of, id_of}
+use Rattle.gix_hash.specs.Order.{id_eq}
+use Rattle.gix_hash.specs.OrderLaws.{id_tied}
 use Rattle.std.specs.Ordering.{is_eq}
 use Rattle.std.proofs.lemmas.List.Folds.{list_any-append}
-use Rattle.gix_hash_id.specs.declared.kind.Kind.{Kind}
-use Rattle.gix_hash_id.specs.declared.object_id.ObjectId.{ObjectId}
-use Rattle.gix_hash_id.specs.declared.object_id.ObjectId.TheVariants.{Sha1, Sha256}
-use Rattle.gix_hash_id.specs.declared.kind.Kind.TheVariants as digests
+use Rattle.gix_hash.specs.declared.kind.Kind.{Kind}
+use Rattle.gix_hash.specs.declared.object_id.ObjectId.{ObjectId}
+use Rattle.gix_hash.specs.declared.object_id.ObjectId.TheVariants.{Sha1, Sha256}
+use Rattle.gix_hash.specs.declared.kind.Kind.TheVariants as digests
 use Rattle.gix_ref_file.specs.Tree.{Tree}
 use Rattle.history_model.specs.Objects.{Value, by_id as model_order}
 use Rattle.history_model.proofs.FreshLemmas.{fresh_is_whole}

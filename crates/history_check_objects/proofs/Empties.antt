@@ -1,7 +1,7 @@
 -- The file map without files.
 use Rattle.std.proofs.Common.{◌≡◌, List, [], ◌∷◌, length, refl, sym, ◌∙◌, arith}
 use Rattle.std.specs.FinMap.{empty, entries, len-empty, len-entries}
-use Rattle.gix_hash_id.specs.declared.kind.Kind.{Kind}
+use Rattle.gix_hash.specs.declared.kind.Kind.{Kind}
 use Rattle.history_model.specs.Bytes.{by_bytes}
 use Rattle.history_model.specs.FileMap.{Content}
 use Rattle.history_model.specs.Objects.{root, root_within}

@@ -3,8 +3,8 @@ use Rattle.std.proofs.Common.{◌≡◌, ◌≢◌, ℕ, suc, ◌+◌, ◌<◌, 
 use Rattle.std.specs.List.{All, AllPairs, before_first, after_first, flat_map, list_any}
 use Rattle.std.specs.Prelude.{IsTrue, ◌/◌, ◌%◌}
 use Rattle.std.specs.FinMap.{entries, keys, get, contains_key, from_entries, empty, same_entries_map}
-use Rattle.gix_hash_id.specs.Id.{Id, raw_bytes}
-use Rattle.gix_hash_id.specs.declared.kind.Kind.{Kind}
+use Rattle.gix_hash.specs.Id.{Id, raw_bytes}
+use Rattle.gix_hash.specs.declared.kind.Kind.{Kind}
 use Rattle.gix_object_tree.specs.Entry.{Item}
 use Rattle.gix_object_tree.specs.Mode.{kind_of, kind_word, is_tree_value}
 use Rattle.gix_object_tree.specs.ModeText.{mode_text}

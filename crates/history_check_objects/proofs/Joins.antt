@@ -1,6 +1,6 @@
 -- A whole store, beside other names.
 use Rattle.std.specs.FinMap.{FinMap}
-use Rattle.gix_hash_id.specs.Id.{Id}
+use Rattle.gix_hash.specs.Id.{Id}
 use Rattle.history_model.specs.Bytes.{Bytes, by_bytes}
 use Rattle.history_model.specs.Repository.{IsWholeStore, Reaches, Reference, Repository, by_way_of, named}
 

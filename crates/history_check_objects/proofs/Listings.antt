@@ -3,9 +3,9 @@ use Rattle.std.proofs.Common.{◌≡◌, ℕ, suc, ◌+◌, ◌-◌, ◌<◌, �
 use Rattle.std.specs.Prelude.{Contains, IsTrue, IfErr, Result, Err}
 use Rattle.std.specs.FinMap.{get}
 use Rattle.std.proofs.Math.ListN.{get_or}
-use Rattle.gix_hash_id.specs.Id.{Id, id_of}
-use Rattle.gix_hash_id.specs.declared.kind.Kind.{Kind}
-use Rattle.gix_hash_id.specs.declared.object_id.ObjectId.{ObjectId}
+use Rattle.gix_hash.specs.Id.{Id, id_of}
+use Rattle.gix_hash.specs.declared.kind.Kind.{Kind}
+use Rattle.gix_hash.specs.declared.object_id.ObjectId.{ObjectId}
 use Rattle.gix_ref_file.specs.declared.files.Place.TheVariants as places
 use Rattle.gix_ref_file.specs.Tree.{Tree, Node, file, folder, is_path, names_at, node_at, place_of, bytes_of, IsRooted, under}
 use Rattle.gix_ref_file.proofs.Listings.{node_is}
@@ -20,8 +20,8 @@ use Rattle.history_model.proofs.WholeSteps.{contains_in, in_contains}
 use Rattle.gix_ref_way.specs.Ways.{above}
 use Rattle.gix_ref_way.proofs.Surveys.{one_more}
 use Rattle.gix_ref_way.proofs.Walked.{all_below, none_below_file, found_all}
-use Rattle.gix_hash_id.specs.Kind.{hex_len}
-use Rattle.gix_hash_id.specs.declared.kind.Kind.TheVariants as digests
+use Rattle.gix_hash.specs.Kind.{hex_len}
+use Rattle.gix_hash.specs.declared.kind.Kind.TheVariants as digests
 use Rattle.history_check_objects.specs.Flaws.{IsObjectsFlaw, IsStray, stray_file, stray_folder}
 use Rattle.history_check_objects.specs.Listing.{Gathers, HasObjectFile, IsListedAt, IsNoPlace, IsPlaceIn}
 use Rattle.history_texts.specs.declared.open_error.OpenError.{OpenError}

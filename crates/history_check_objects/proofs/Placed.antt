@@ -1,11 +1,11 @@
 -- Places are those of ids of the kind, also the ids that only contents name.
 use Rattle.std.proofs.Common.{◌≡◌, ℕ, zero, suc, ◌<◌, ◌≤◌, Bool, true, false, not, ◌&&◌, List, [], ◌∷◌, ◌++◌, map, length, take, drop, refl, sym, ◌∙◌, ap, subst, arith, tests, nat_lt, ◌==◌, codes, slice_index, inl, inr}
 use Rattle.std.specs.List.{list_all}
-use Rattle.gix_hash_id.specs.Id.{Id}
-use Rattle.gix_hash_id.specs.Kind.{byte_len, hex_len}
-use Rattle.gix_hash_id.specs.Spelling.{hex_character, hex_text}
-use Rattle.gix_hash_id.specs.declared.kind.Kind.{Kind}
-use Rattle.gix_hash_id.specs.declared.kind.Kind.TheVariants as digests
+use Rattle.gix_hash.specs.Id.{Id}
+use Rattle.gix_hash.specs.Kind.{byte_len, hex_len}
+use Rattle.gix_hash.specs.Spelling.{hex_character, hex_text}
+use Rattle.gix_hash.specs.declared.kind.Kind.{Kind}
+use Rattle.gix_hash.specs.declared.kind.Kind.TheVariants as digests
 use Rattle.gix_object_tree.specs.Entry.{Item, SpellsEntries}
 use Rattle.gix_object_lines.specs.declared.kind.Kind.{Kind as ObjectKind}
 use Rattle.gix_object_lines.specs.declared.kind.Kind.TheVariants as kinds

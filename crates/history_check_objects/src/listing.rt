@@ -1,6 +1,6 @@
 //! The objects of a part, by the places of its files.
 ghost use Rattle.std.specs.Prelude.{◌≡◌, ◌≢◌, IfErr, IfOk, IsTrue, MatchOption, OnOk};
-ghost use Rattle.gix_hash_id.specs.Id.{Id, id_of};
+ghost use Rattle.gix_hash.specs.Id.{Id, id_of};
 ghost use Rattle.history_model.specs.Forms.{is_id};
 ghost use Rattle.history_model.specs.Places.{object_place};
 ghost use Rattle.history_check_objects.specs.Flaws.{IsObjectsFlaw};

@@ -1,7 +1,7 @@
 //! Reading one object: its kind, and what it says of others.
 ghost use Rattle.std.specs.Prelude.{◌≡◌, IfErr, IfOk, MatchOption, map};
-ghost use Rattle.gix_hash_id.specs.Id.{id_of};
-ghost use Rattle.gix_hash_id.specs.declared.kind.Kind.{Kind};
+ghost use Rattle.gix_hash.specs.Id.{id_of};
+ghost use Rattle.gix_hash.specs.declared.kind.Kind.{Kind};
 ghost use Rattle.gix_object_tree.specs.Entry.{item_of};
 ghost use Rattle.gix_object_lines.specs.declared.kind.Kind.TheVariants as kinds;
 ghost use Rattle.gix_ref_file.specs.Tree.{Tree};

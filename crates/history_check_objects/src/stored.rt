@@ -1,7 +1,7 @@
 //! What is known of the objects that are stored: their kinds, and what the tags are of.
 ghost use Rattle.std.specs.BTreeMap.{IsEmpty, Updates};
 ghost use Rattle.std.specs.Prelude.{◌≡◌, MatchOption, OnOk, Some, option_map};
-ghost use Rattle.gix_hash_id.specs.Id.{id_of};
+ghost use Rattle.gix_hash.specs.Id.{id_of};
 ghost use Rattle.history_check_objects.specs.Stored.{facts_in, ids_in, kind_in, target_in};
 ghost use Rattle.history_check_objects.specs.Surveying.{by_id};
 

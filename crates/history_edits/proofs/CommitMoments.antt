@@ -3,17 +3,17 @@ use Rattle.std.proofs.Common.{◌≡◌, ◌≢◌, ◌⊎◌, inl, inr, true, f
 use Rattle.std.specs.List.{AllByRecursion, list_any}
 use Rattle.std.specs.declared.alloc.Global.{Global}
 use Rattle.std.proofs.lemmas.Bool.{or_parts, or_from}
-use Rattle.gix_hash_id.specs.declared.kind.Kind.{Kind}
+use Rattle.gix_hash.specs.declared.kind.Kind.{Kind}
 use Rattle.gix_ref_file.specs.Tree.{Tree, bytes_at}
 use Rattle.gix_ref_lock.specs.PackedEdits as packed
 use Rattle.gix_ref_lock.specs.declared.packed.Transaction.{Transaction}
-use Rattle.gix_ref_moves.specs.Committing.{OnTheWay, IsCommitted, EachOf, Shows, StaysYet, FileStays, LogGone, PackedStays, PackedIsNew, commit_paths}
-use Rattle.gix_ref_moves.specs.Contents.{Contents, IsBetween, contents, noted, moved as moved_by, place_of, lock_path_of, log_path_of}
-use Rattle.gix_ref_moves.specs.Moments.{SameButLocks}
-use Rattle.gix_ref_moves.specs.Moves.{IsNone, all_paths}
-use Rattle.gix_ref_moves.specs.declared.act.Act.{Act}
-use Rattle.gix_ref_moves.specs.declared.act.Act.TheVariants.{Put, Remove}
-use Rattle.gix_ref_moves.specs.declared.act.Move.{Move}
+use Rattle.gix_ref_lock.specs.Committing.{OnTheWay, IsCommitted, EachOf, Shows, StaysYet, FileStays, LogGone, PackedStays, PackedIsNew, commit_paths}
+use Rattle.gix_ref_lock.specs.Contents.{Contents, IsBetween, contents, noted, moved as moved_by, place_of, lock_path_of, log_path_of}
+use Rattle.gix_ref_lock.specs.Moments.{SameButLocks}
+use Rattle.gix_ref_lock.specs.Moves.{IsNone, all_paths}
+use Rattle.gix_ref_lock.specs.declared.act.Act.{Act}
+use Rattle.gix_ref_lock.specs.declared.act.Act.TheVariants.{Put, Remove}
+use Rattle.gix_ref_lock.specs.declared.act.Move.{Move}
 use Rattle.history_model.specs.Bytes.{Bytes, line}
 use Rattle.history_model.specs.Forms.{is_name}
 use Rattle.history_model.specs.Logs.{log_line}

@@ -4,7 +4,7 @@ use Rattle.std.specs.Prelude.{Contains}
 use Rattle.std.specs.List.{AllByRecursion, list_any}
 use Rattle.std.specs.declared.alloc.Global.{Global}
 use Rattle.std.proofs.lemmas.Bool.{or_parts}
-use Rattle.gix_hash_id.specs.declared.kind.Kind.{Kind}
+use Rattle.gix_hash.specs.declared.kind.Kind.{Kind}
 use Rattle.gix_ref_file.specs.History.{Adds, History}
 use Rattle.gix_ref_file.specs.Tree.{Tree}
 use Rattle.gix_ref_file.proofs.Histories.{adds_both, adds_weaker}
@@ -12,11 +12,11 @@ use Rattle.gix_ref_file.proofs.Rooted.{adds_now}
 use Rattle.gix_ref_edit.specs.declared.change.RefEdit.{RefEdit}
 use Rattle.gix_ref_lock.specs.PackedEdits as packed
 use Rattle.gix_ref_lock.specs.declared.packed.Transaction.{Transaction}
-use Rattle.gix_ref_moves.specs.Committing.{IsCommitted}
-use Rattle.gix_ref_moves.specs.Contents.{Contents, contents, moved as moved_by, act_line, lock_path_of, log_path_of}
-use Rattle.gix_ref_moves.specs.Moves.{IsNone, all_paths, lock_paths}
-use Rattle.gix_ref_moves.specs.Needs.{log_paths, noted_logs}
-use Rattle.gix_ref_moves.specs.declared.act.Move.{Move}
+use Rattle.gix_ref_lock.specs.Committing.{IsCommitted}
+use Rattle.gix_ref_lock.specs.Contents.{Contents, contents, moved as moved_by, act_line, lock_path_of, log_path_of}
+use Rattle.gix_ref_lock.specs.Moves.{IsNone, all_paths, lock_paths}
+use Rattle.gix_ref_lock.specs.Needs.{log_paths, noted_logs}
+use Rattle.gix_ref_lock.specs.declared.act.Move.{Move}
 use Rattle.gix_ref_transaction.specs.Paths.{places_of}
 use Rattle.gix_ref_transaction.specs.Plans.{FoldersOfEdits}
 use Rattle.gix_ref_transaction.specs.Rollback.{SameFilesBut, all_locks}

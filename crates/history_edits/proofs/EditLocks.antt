@@ -10,7 +10,7 @@ use Rattle.gix_ref_file.specs.Changes.{may_hold_file}
 use Rattle.gix_ref_file.proofs.Listings.{node_is}
 use Rattle.gix_ref_edit.specs.declared.change.RefEdit.{RefEdit}
 use Rattle.gix_ref_lock.specs.Locks.{lock_of}
-use Rattle.gix_ref_moves.specs.Needs.{AreBeside}
+use Rattle.gix_ref_lock.specs.Needs.{AreBeside}
 use Rattle.gix_ref_store.specs.Places as store
 use Rattle.gix_ref_transaction.specs.Locking.{AreLockable, HaveRoom, IsLockable}
 use Rattle.gix_ref_transaction.specs.Paths as paths

@@ -2,7 +2,7 @@
 use Rattle.std.proofs.Common.{◌≡◌, ◌⊎◌, inl, inr, zero, suc, true, List, [], ◌∷◌, ◌++◌, refl, sym, ap, subst, Option, Some, None, arith}
 use Rattle.std.specs.Prelude.{Contains}
 use Rattle.std.specs.List.{AllByRecursion}
-use Rattle.gix_hash_id.specs.declared.kind.Kind.{Kind}
+use Rattle.gix_hash.specs.declared.kind.Kind.{Kind}
 use Rattle.gix_ref_edit.specs.Names.{names_of}
 use Rattle.gix_ref_edit.specs.declared.change.RefEdit.{RefEdit}
 use Rattle.gix_ref_lock.specs.Locks.{lock_of}

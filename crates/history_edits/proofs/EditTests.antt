@@ -4,7 +4,7 @@ use Rattle.std.specs.List.{AllByRecursion}
 use Rattle.std.specs.FinMap.{get}
 use Rattle.std.proofs.lemmas.Bool.{and_parts, not-true}
 use Rattle.bstr.specs.BStr.{bstr_bytes}
-use Rattle.gix_hash_id.specs.Id.{Id, id_of}
+use Rattle.gix_hash.specs.Id.{Id, id_of}
 use Rattle.gix_object_lines.specs.Actor.{IsPlain, IsSpellable}
 use Rattle.gix_object_lines.specs.Time.{IsSpellableOffset, SpellsTime}
 use Rattle.gix_object_lines.specs.declared.lines.actor.ActorRef.{ActorRef}
@@ -19,8 +19,8 @@ use Rattle.gix_ref_edit.specs.declared.change.RefEdit.{RefEdit}
 use Rattle.gix_ref_format.specs.Packed.{Record}
 use Rattle.gix_ref_format.specs.PackedBuffer.{KeepsFile}
 use Rattle.gix_ref_format.specs.declared.loose.Error.{Error as LooseError}
-use Rattle.gix_ref_moves.specs.declared.act.LogError.{LogError}
-use Rattle.gix_ref_moves.specs.declared.act.LogError.TheVariants.{CreateLeadingDirectories, Append, MessageWithNewlines, MissingCommitter, Unspellable}
+use Rattle.gix_ref_lock.specs.declared.act.LogError.{LogError}
+use Rattle.gix_ref_lock.specs.declared.act.LogError.TheVariants.{CreateLeadingDirectories, Append, MessageWithNewlines, MissingCommitter, Unspellable}
 use Rattle.gix_ref_store.specs.Finds.{TellsState}
 use Rattle.gix_ref_store.specs.RefStates.{RefState, Absent, Stands}
 use Rattle.gix_ref_store.specs.declared.reference.Reference.{Reference}

@@ -2,13 +2,13 @@
 use Rattle.std.proofs.Common.{◌≡◌, true, false, List, [], ◌∷◌, subst, Option, Some, None}
 use Rattle.std.specs.List.{AllByRecursion}
 use Rattle.gix_ref_file.specs.Tree.{Tree}
-use Rattle.gix_ref_packed.specs.Edited.{Line}
+use Rattle.gix_ref_format.specs.Edited.{Line}
 use Rattle.gix_ref_lock.specs.PackedEdits as packed
 use Rattle.gix_ref_lock.specs.declared.packed.Transaction.{Transaction}
-use Rattle.gix_ref_moves.specs.Contents.{lock_path_of}
-use Rattle.gix_ref_moves.specs.Moves.{lock_paths, IsNone}
-use Rattle.gix_ref_moves.specs.declared.act.Move.{Move}
-use Rattle.gix_ref_repacking.specs.Repacking.{HoldsIf}
+use Rattle.gix_ref_lock.specs.Contents.{lock_path_of}
+use Rattle.gix_ref_lock.specs.Moves.{lock_paths, IsNone}
+use Rattle.gix_ref_lock.specs.declared.act.Move.{Move}
+use Rattle.gix_ref_transaction.specs.Repacking.{HoldsIf}
 use Rattle.gix_ref_transaction.specs.Rollback.{all_locks}
 use Rattle.history_model.specs.Bytes.{Bytes}
 use Rattle.history_model.specs.Forms.{is_name}

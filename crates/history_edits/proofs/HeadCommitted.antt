@@ -5,15 +5,15 @@ use Rattle.gix_ref_file.specs.Tree.{Tree, IsRooted}
 use Rattle.gix_ref_file.specs.Changes.{is_file_at}
 use Rattle.gix_ref_file.proofs.Rooted.{file_room}
 use Rattle.std.proofs.lemmas.List.Folds.{list_any-append}
-use Rattle.gix_hash_id.specs.declared.kind.Kind.{Kind}
+use Rattle.gix_hash.specs.declared.kind.Kind.{Kind}
 use Rattle.gix_ref_edit.specs.declared.change.RefEdit.{RefEdit}
 use Rattle.gix_ref_lock.specs.Locks.{lock_of}
 use Rattle.gix_ref_lock.specs.declared.packed.Transaction.{Transaction}
-use Rattle.gix_ref_moves.specs.Committing.{IsCommitted, OnTheWay}
-use Rattle.gix_ref_moves.specs.Contents.{Contents, act_line, contents, moved as moved_by, place_of, lock_path_of, log_path_of}
-use Rattle.gix_ref_moves.specs.Moments.{SameButLocks}
-use Rattle.gix_ref_moves.specs.Needs.{AreBeside, CanCommit, CanNote, log_paths, noted_logs}
-use Rattle.gix_ref_moves.specs.declared.act.Move.{Move}
+use Rattle.gix_ref_lock.specs.Committing.{IsCommitted, OnTheWay}
+use Rattle.gix_ref_lock.specs.Contents.{Contents, act_line, contents, moved as moved_by, place_of, lock_path_of, log_path_of}
+use Rattle.gix_ref_lock.specs.Moments.{SameButLocks}
+use Rattle.gix_ref_lock.specs.Needs.{AreBeside, CanCommit, CanNote, log_paths, noted_logs}
+use Rattle.gix_ref_lock.specs.declared.act.Move.{Move}
 use Rattle.gix_ref_store.specs.Places as store
 use Rattle.gix_ref_transaction.specs.Paths.{places_of}
 use Rattle.gix_ref_way.specs.Ways.{FoldersOnlyOf, IsAbove}

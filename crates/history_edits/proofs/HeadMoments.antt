@@ -6,10 +6,10 @@ use Rattle.gix_ref_file.proofs.Histories.{adds_both, adds_weaker}
 use Rattle.gix_ref_file.proofs.Rooted.{adds_now}
 use Rattle.gix_ref_edit.specs.declared.change.RefEdit.{RefEdit}
 use Rattle.gix_ref_lock.specs.declared.packed.Transaction.{Transaction}
-use Rattle.gix_ref_moves.specs.Committing.{OnTheWay}
-use Rattle.gix_ref_moves.specs.Moments.{SameButLocks}
-use Rattle.gix_ref_moves.specs.Needs.{log_paths}
-use Rattle.gix_ref_moves.specs.declared.act.Move.{Move}
+use Rattle.gix_ref_lock.specs.Committing.{OnTheWay}
+use Rattle.gix_ref_lock.specs.Moments.{SameButLocks}
+use Rattle.gix_ref_lock.specs.Needs.{log_paths}
+use Rattle.gix_ref_lock.specs.declared.act.Move.{Move}
 use Rattle.gix_ref_store.specs.RefStates.{RefState}
 use Rattle.gix_ref_transaction.specs.Paths.{places_of}
 use Rattle.gix_ref_transaction.specs.Plans.{FoldersOfEdits}

@@ -7,12 +7,12 @@ use Rattle.gix_ref_name.specs.Targets.{target_view}
 use Rattle.gix_ref_edit.specs.declared.change.PreviousValue.TheVariants.{MustExistAndMatch}
 use Rattle.gix_ref_edit.specs.declared.change.RefEdit.{RefEdit}
 use Rattle.gix_ref_format.specs.Loose.{loose_text}
-use Rattle.gix_ref_packed.specs.Edited.{Line}
-use Rattle.gix_ref_moves.specs.Contents.{lock_path_of, log_path_of}
-use Rattle.gix_ref_moves.specs.Moves.{IsNone}
-use Rattle.gix_ref_moves.specs.declared.act.Act.TheVariants.{Put}
-use Rattle.gix_ref_moves.specs.declared.act.Move.{Move}
-use Rattle.gix_ref_repacking.specs.Repacking.{HoldsIf, SayOfRecords}
+use Rattle.gix_ref_format.specs.Edited.{Line}
+use Rattle.gix_ref_lock.specs.Contents.{lock_path_of, log_path_of}
+use Rattle.gix_ref_lock.specs.Moves.{IsNone}
+use Rattle.gix_ref_lock.specs.declared.act.Act.TheVariants.{Put}
+use Rattle.gix_ref_lock.specs.declared.act.Move.{Move}
+use Rattle.gix_ref_transaction.specs.Repacking.{HoldsIf, SayOfRecords}
 use Rattle.gix_ref_store.specs.Places as store
 use Rattle.gix_ref_transaction.specs.LogLines.{AllLined, Logging, IsLineOf, IsUpdateLine, has_log, line_in}
 use Rattle.gix_ref_transaction.specs.Plans.{AllHold, AllPlanned, HoldsText, IsActOf, IsPlanOf, IsPut, IsUpdateBy, is_packed_alone}

@@ -15,9 +15,9 @@ use Rattle.gix_ref_edit.specs.declared.names.TwiceError.TheVariants as twice
 use Rattle.gix_ref_edit.specs.declared.splits.SplitError.TheVariants as splitting
 use Rattle.gix_ref_format.specs.Packed.{Record}
 use Rattle.gix_ref_lock.specs.Locks.{lock_of}
-use Rattle.gix_ref_moves.specs.Needs.{AreBeside}
+use Rattle.gix_ref_lock.specs.Needs.{AreBeside}
 use Rattle.gix_ref_store.specs.Known.{is_known}
-use Rattle.gix_ref_moves.specs.declared.act.LogError.{LogError}
+use Rattle.gix_ref_lock.specs.declared.act.LogError.{LogError}
 use Rattle.gix_ref_store.specs.Places as store
 use Rattle.gix_ref_store.specs.Places.{place}
 use Rattle.gix_ref_store.specs.declared.store.file.find.Error as find

@@ -1,12 +1,12 @@
 -- A commit that replaces HEAD, moment by moment.
 use Rattle.std.proofs.Common.{◌≡◌, ◌≢◌, inl, inr, false, [], ◌∷◌, refl, sym, ◌∙◌, ap, subst, Some, None, unwrap_or, bytes_eq}
 use Rattle.gix_ref_file.specs.Tree.{Tree}
-use Rattle.gix_ref_moves.specs.Committing.{OnTheWay, IsCommitted}
-use Rattle.gix_ref_moves.specs.Contents.{Contents, IsBetween, contents, moved as moved_by, place_of, lock_path_of, log_path_of}
-use Rattle.gix_ref_moves.specs.Moments.{SameButLocks}
-use Rattle.gix_ref_moves.specs.Moves.{IsNone, all_paths}
-use Rattle.gix_ref_moves.specs.declared.act.Act.TheVariants.{Put}
-use Rattle.gix_ref_moves.specs.declared.act.Move.{Move}
+use Rattle.gix_ref_lock.specs.Committing.{OnTheWay, IsCommitted}
+use Rattle.gix_ref_lock.specs.Contents.{Contents, IsBetween, contents, moved as moved_by, place_of, lock_path_of, log_path_of}
+use Rattle.gix_ref_lock.specs.Moments.{SameButLocks}
+use Rattle.gix_ref_lock.specs.Moves.{IsNone, all_paths}
+use Rattle.gix_ref_lock.specs.declared.act.Act.TheVariants.{Put}
+use Rattle.gix_ref_lock.specs.declared.act.Move.{Move}
 use Rattle.history_model.specs.Bytes.{Bytes}
 use Rattle.history_model.specs.Places.{file_at, head_place, is_lock_file}
 use Rattle.history_model.specs.StandsFor.{head_text}

@@ -1,7 +1,7 @@
 -- HEAD reads as its branch, so its edit isn't refused.
 use Rattle.std.proofs.Common.{◌≡◌, inl, true, List, sym, ◌∙◌, ap, subst, Option, Some, None, option_map}
 use Rattle.std.specs.Prelude.{Ok, Err}
-use Rattle.gix_hash_id.specs.Id.{Id, id_of}
+use Rattle.gix_hash.specs.Id.{Id, id_of}
 use Rattle.gix_ref_file.specs.Tree.{Tree}
 use Rattle.gix_ref_name.specs.Targets.{Points, ToName}
 use Rattle.gix_ref_edit.specs.declared.change.Change.{Change}

@@ -6,7 +6,7 @@ use Rattle.std.specs.List.{list_all}
 use Rattle.std.proofs.lemmas.Bool.{or_cases, and_parts}
 use Rattle.std.proofs.lemmas.Slice.Eq.{bytes_eq-Decides}
 use Rattle.gix_ref_file.specs.Tree.{Tree}
-use Rattle.gix_ref_moves.specs.Needs.{AreBeside}
+use Rattle.gix_ref_lock.specs.Needs.{AreBeside}
 use Rattle.gix_ref_way.specs.Ways.{IsAbove}
 use Rattle.history_model.specs.Bytes.{Bytes, begins}
 use Rattle.history_model.specs.FileMap.{is_below}

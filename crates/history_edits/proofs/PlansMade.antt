@@ -4,9 +4,9 @@ use Rattle.std.specs.List.{AllByRecursion}
 use Rattle.std.specs.Option.{option_to_list}
 use Rattle.std.proofs.lemmas.List.{append-nil}
 use Rattle.std.specs.declared.alloc.Global.{Global}
-use Rattle.gix_hash_id.specs.Id.{Id, null_id}
-use Rattle.gix_hash_id.specs.Order.{id_eq}
-use Rattle.gix_hash_id.specs.declared.kind.Kind.{Kind}
+use Rattle.gix_hash.specs.Id.{Id, null_id}
+use Rattle.gix_hash.specs.Order.{id_eq}
+use Rattle.gix_hash.specs.declared.kind.Kind.{Kind}
 use Rattle.gix_object_lines.specs.declared.lines.actor.ActorRef.{ActorRef}
 use Rattle.gix_ref_file.specs.Tree.{Tree}
 use Rattle.gix_ref_name.specs.Targets.{Points, ToObject, target_view}
@@ -20,12 +20,12 @@ use Rattle.gix_ref_format.specs.Lookup.{packed_key}
 use Rattle.gix_ref_format.specs.Loose.{loose_text}
 use Rattle.gix_ref_format.specs.Packed.{Record}
 use Rattle.gix_ref_format.specs.PackedBuffer.{KeepsFile}
-use Rattle.gix_ref_packed.specs.Edited.{Line}
-use Rattle.gix_ref_moves.specs.Contents.{place_of, lock_path_of, log_path_of}
-use Rattle.gix_ref_moves.specs.declared.act.Act.{Act}
-use Rattle.gix_ref_moves.specs.declared.act.Act.TheVariants.{Put, Note, Pack, Remove, Forget}
-use Rattle.gix_ref_moves.specs.declared.act.Move.{Move}
-use Rattle.gix_ref_repacking.specs.Repacking.{SaysByKey, SaysOfRecord, SayOfRecords}
+use Rattle.gix_ref_format.specs.Edited.{Line}
+use Rattle.gix_ref_lock.specs.Contents.{place_of, lock_path_of, log_path_of}
+use Rattle.gix_ref_lock.specs.declared.act.Act.{Act}
+use Rattle.gix_ref_lock.specs.declared.act.Act.TheVariants.{Put, Note, Pack, Remove, Forget}
+use Rattle.gix_ref_lock.specs.declared.act.Move.{Move}
+use Rattle.gix_ref_transaction.specs.Repacking.{SaysByKey, SaysOfRecord, SayOfRecords}
 use Rattle.gix_ref_store.specs.Follows.{follow}
 use Rattle.gix_ref_store.specs.Places as store
 use Rattle.gix_ref_store.specs.RefStates.{RefState}

@@ -9,12 +9,12 @@ use Rattle.gix_ref_format.specs.Packed.{Record, packed_records}
 use Rattle.gix_ref_format.specs.PackedBuffer.{KeepsFile, hit}
 use Rattle.gix_ref_format.specs.PackedKept.{kept}
 use Rattle.gix_ref_format.specs.declared.packed.buffer.Buffer.{Buffer}
-use Rattle.gix_ref_packed.specs.Edited.{IsEdited}
+use Rattle.gix_ref_format.specs.Edited.{IsEdited}
 use Rattle.gix_ref_lock.specs.PackedEdits.{lock_path_of, place_of}
 use Rattle.gix_ref_lock.specs.Records.{records_in, IsTextOf}
 use Rattle.gix_ref_lock.specs.declared.packed.Transaction.{Transaction}
-use Rattle.gix_ref_moves.specs.Committing.{packed_end}
-use Rattle.gix_ref_repacking.specs.Repacking.{HoldsIf, HoldsRecords, changes_record, changes_records}
+use Rattle.gix_ref_lock.specs.Committing.{packed_end}
+use Rattle.gix_ref_transaction.specs.Repacking.{HoldsIf, HoldsRecords, changes_record, changes_records}
 use Rattle.gix_ref_store.specs.RefStates.{records_of}
 use Rattle.history_model.specs.Bytes.{Bytes}
 use Rattle.history_model.specs.Forms.{is_name, is_private}

@@ -8,11 +8,11 @@ use Rattle.gix_ref_format.specs.Lookup.{packed_hit, packed_key}
 use Rattle.gix_ref_format.specs.Packed.{Record}
 use Rattle.gix_ref_format.specs.PackedBuffer.{KeepsFile, hit}
 use Rattle.gix_ref_lock.specs.declared.packed.Transaction.{Transaction}
-use Rattle.gix_ref_moves.specs.Committing.{IsCommitted}
-use Rattle.gix_ref_moves.specs.declared.act.Move.{Move}
-use Rattle.gix_ref_repacking.specs.Repacking.{AreRepacked, HoldsIf, changes_record, changes_records}
+use Rattle.gix_ref_lock.specs.Committing.{IsCommitted}
+use Rattle.gix_ref_lock.specs.declared.act.Move.{Move}
+use Rattle.gix_ref_transaction.specs.Repacking.{AreRepacked, HoldsIf, changes_record, changes_records}
 use Rattle.gix_ref_store.specs.RefStates.{records_of}
-use Rattle.gix_hash_id.specs.declared.kind.Kind.{Kind}
+use Rattle.gix_hash.specs.declared.kind.Kind.{Kind}
 use Rattle.history_model.specs.Bytes.{Bytes}
 use Rattle.history_model.specs.Forms.{is_name, is_private}
 use Rattle.history_model.specs.Places.{file_at, packed_place}

@@ -5,19 +5,19 @@ use Rattle.std.specs.List.{list_all}
 use Rattle.gix_ref_file.specs.Tree.{Tree}
 use Rattle.bstr.specs.BStr.{bstr_bytes}
 use Rattle.gix_object_lines.specs.declared.lines.actor.ActorRef.{ActorRef}
-use Rattle.gix_hash_id.specs.Id.{Id}
-use Rattle.gix_hash_id.specs.declared.kind.Kind.{Kind}
+use Rattle.gix_hash.specs.Id.{Id}
+use Rattle.gix_hash.specs.declared.kind.Kind.{Kind}
 use Rattle.gix_ref_name.specs.Targets.{ToObject}
 use Rattle.gix_ref_format.specs.Packed.{Record}
 use Rattle.gix_ref_format.specs.PackedBuffer.{KeepsFile}
 use Rattle.gix_ref_store.specs.Places.{Base, place}
 use Rattle.gix_ref_store.specs.Places as store
 use Rattle.gix_ref_store.specs.RefStates.{RefState, Stands, Absent, state_among}
-use Rattle.gix_ref_packed.specs.Edited.{Line}
+use Rattle.gix_ref_format.specs.Edited.{Line}
 use Rattle.gix_ref_lock.specs.Locks.{lock_of}
 use Rattle.gix_ref_lock.specs.declared.packed.Transaction.{Transaction}
-use Rattle.gix_ref_moves.specs.Committing.{packed_end}
-use Rattle.gix_ref_repacking.specs.Repacking.{HoldsIf}
+use Rattle.gix_ref_lock.specs.Committing.{packed_end}
+use Rattle.gix_ref_transaction.specs.Repacking.{HoldsIf}
 use Rattle.gix_ref_transaction.specs.Paths as paths
 use Rattle.gix_ref_transaction.specs.LogLines.{IsLogLine}
 use Rattle.history_model.specs.Bytes.{Bytes, has_twice}

@@ -3,17 +3,17 @@ use Rattle.std.specs.Prelude.{◌≡◌, ◌≢◌, ℕ, ⊤, List, [], ◌∷�
 use Rattle.std.specs.List.{AllByRecursion}
 use Rattle.std.specs.FinMap.{get}
 use Rattle.std.specs.declared.alloc.Global.{Global}
-use Rattle.gix_hash_id.specs.declared.kind.Kind.{Kind}
+use Rattle.gix_hash.specs.declared.kind.Kind.{Kind}
 use Rattle.gix_ref_file.specs.Tree.{Tree, folder}
 use Rattle.gix_ref_name.specs.Targets.{ToObject}
 use Rattle.gix_ref_format.specs.Loose.{loose_text}
 use Rattle.gix_ref_lock.specs.PackedEdits as packed
 use Rattle.gix_ref_lock.specs.declared.packed.Transaction.{Transaction}
-use Rattle.gix_ref_moves.specs.Committing.{OnTheWay, IsCommitted}
-use Rattle.gix_ref_moves.specs.Contents.{place_of, lock_path_of, log_path_of}
-use Rattle.gix_ref_moves.specs.Moments.{SameButLocks}
-use Rattle.gix_ref_moves.specs.declared.act.Act.TheVariants.{Put, Remove}
-use Rattle.gix_ref_moves.specs.declared.act.Move.{Move}
+use Rattle.gix_ref_lock.specs.Committing.{OnTheWay, IsCommitted}
+use Rattle.gix_ref_lock.specs.Contents.{place_of, lock_path_of, log_path_of}
+use Rattle.gix_ref_lock.specs.Moments.{SameButLocks}
+use Rattle.gix_ref_lock.specs.declared.act.Act.TheVariants.{Put, Remove}
+use Rattle.gix_ref_lock.specs.declared.act.Move.{Move}
 use Rattle.history_model.specs.Bytes.{Bytes}
 use Rattle.history_model.specs.Forms.{is_name}
 use Rattle.history_model.specs.Logs.{log_line}

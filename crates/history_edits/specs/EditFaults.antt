@@ -2,7 +2,7 @@
 -- fails or memory is wanting.
 use Rattle.std.specs.Prelude.{◌≡◌, List, Option, Some, None, IsTrue, IsFalse, false}
 use Rattle.std.specs.List.{AllByRecursion}
-use Rattle.gix_hash_id.specs.Id.{Id}
+use Rattle.gix_hash.specs.Id.{Id}
 use Rattle.gix_object_lines.specs.declared.lines.actor.ActorRef.{ActorRef}
 use Rattle.gix_ref_file.specs.Tree.{Tree}
 use Rattle.gix_ref_name.specs.Targets.{ToObject, target_view}

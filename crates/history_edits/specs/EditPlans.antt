@@ -1,8 +1,8 @@
 -- The edits for moves of names, and for a deletion after them, and what is made of them.
 use Rattle.std.specs.Prelude.{◌≡◌, List, [], ◌∷◌, Option, Some, None, unwrap_or, IsTrue, false}
 use Rattle.std.specs.List.{AllByRecursion}
-use Rattle.gix_hash_id.specs.Id.{null_id}
-use Rattle.gix_hash_id.specs.declared.kind.Kind.{Kind}
+use Rattle.gix_hash.specs.Id.{null_id}
+use Rattle.gix_hash.specs.declared.kind.Kind.{Kind}
 use Rattle.gix_object_lines.specs.declared.lines.actor.ActorRef.{ActorRef}
 use Rattle.gix_ref_file.specs.Tree.{Tree}
 use Rattle.gix_ref_name.specs.Targets.{ToObject, target_view}
@@ -14,10 +14,10 @@ use Rattle.gix_ref_edit.specs.declared.log.LogChange.{LogChange}
 use Rattle.gix_ref_edit.specs.declared.log.RefLog.TheVariants.{AndReference}
 use Rattle.gix_ref_format.specs.Packed.{Record}
 use Rattle.gix_ref_format.specs.PackedBuffer.{KeepsFile}
-use Rattle.gix_ref_packed.specs.Edited.{Line}
+use Rattle.gix_ref_format.specs.Edited.{Line}
 use Rattle.gix_ref_lock.specs.declared.packed.Transaction.{Transaction}
-use Rattle.gix_ref_moves.specs.declared.act.Move.{Move}
-use Rattle.gix_ref_repacking.specs.Repacking.{AreRepacked, SayOfRecords}
+use Rattle.gix_ref_lock.specs.declared.act.Move.{Move}
+use Rattle.gix_ref_transaction.specs.Repacking.{AreRepacked, SayOfRecords}
 use Rattle.gix_ref_store.specs.RefStates.{RefState, state_among}
 use Rattle.gix_ref_store.specs.declared.options.WriteReflog.TheVariants.{Always}
 use Rattle.gix_ref_transaction.specs.LogLines.{Logging, AllLined}

@@ -12,12 +12,12 @@ use Rattle.gix_ref_edit.specs.declared.log.RefLog.TheVariants.{AndReference}
 use Rattle.gix_ref_format.specs.Loose.{loose_text}
 use Rattle.gix_ref_format.specs.Packed.{Record}
 use Rattle.gix_ref_lock.specs.declared.packed.Transaction.{Transaction}
-use Rattle.gix_ref_moves.specs.Committing.{IsCommitted, OnTheWay}
-use Rattle.gix_ref_moves.specs.Contents.{place_of, lock_path_of, log_path_of}
-use Rattle.gix_ref_moves.specs.Moments.{SameButLocks}
-use Rattle.gix_ref_moves.specs.Needs.{CanCommit}
-use Rattle.gix_ref_moves.specs.declared.act.Act.TheVariants.{Put}
-use Rattle.gix_ref_moves.specs.declared.act.Move.{Move}
+use Rattle.gix_ref_lock.specs.Committing.{IsCommitted, OnTheWay}
+use Rattle.gix_ref_lock.specs.Contents.{place_of, lock_path_of, log_path_of}
+use Rattle.gix_ref_lock.specs.Moments.{SameButLocks}
+use Rattle.gix_ref_lock.specs.Needs.{CanCommit}
+use Rattle.gix_ref_lock.specs.declared.act.Act.TheVariants.{Put}
+use Rattle.gix_ref_lock.specs.declared.act.Move.{Move}
 use Rattle.history_model.specs.Bytes.{Bytes}
 use Rattle.history_model.specs.Places.{file_at, head_place, log_place}
 use Rattle.history_model.specs.Repository.{Repository}

@@ -1,6 +1,6 @@
 -- Which broken tree an error names, whatever the root is.
 use Rattle.std.proofs.Common.{◌≡◌, ◌∙◌, ap, sym, subst, refl, inl, inr, ℕ, List, [], Some, None, option_map, Result, Ok, Err}
-use Rattle.gix_hash_id.specs.Id.{Id, id_of}
+use Rattle.gix_hash.specs.Id.{Id, id_of}
 use Rattle.gix_object_tree.specs.Entry.{Item, SpellsTree}
 use Rattle.gix_object_tree.specs.WellFormed.{IsWellFormed}
 use Rattle.gix_object_tree.proofs.TreeLaws.{one_tree}
@@ -30,7 +30,7 @@ use Rattle.gix_traverse_tree.specs.declared.error.Error as walking
 use Rattle.gix_traverse_tree.specs.declared.error.Error.TheVariants as walked
 use Rattle.gix_traverse_tree.specs.declared.recorder.Recorder.{Recorder}
 use Rattle.gix_object_lookup.specs.declared.find.existing_iter.Error.TheVariants as not_found
-use Rattle.gix_hash_id.specs.declared.object_id.ObjectId.{ObjectId}
+use Rattle.gix_hash.specs.declared.object_id.ObjectId.{ObjectId}
 use Rattle.history_model.proofs.WholeLists.{none_is_some}
 use Rattle.history_files.specs.Edits.{as_edited, as_opened, as_unread, unless_memory}
 use Rattle.history_files.specs.Opening.{TellsBroken}

@@ -1,7 +1,7 @@
 -- How many trees edits in a row look up.
 use Rattle.std.proofs.Common.{◌≡◌, ◌∙◌, ap, sym, subst, refl, ℕ, zero, suc, ◌+◌, ◌<◌, ◌≤◌, ◌^◌, arith, true, false, Bool, cond, List, [], ◌∷◌, ◌++◌, length, take, drop, get_or, Option, Some, None}
 use Rattle.std.proofs.Math.Seq.{take-suc}
-use Rattle.gix_hash_id.specs.Id.{Id}
+use Rattle.gix_hash.specs.Id.{Id}
 use Rattle.gix_object_tree.specs.Entry.{Item}
 use Rattle.gix_object_editor.specs.Asked.{CountsUp, front_of, ids_from, slot_into, trees_into, unopened_into}
 use Rattle.gix_object_nodes.specs.Files.{Path, Leaf, Trees, leads_on, leaf_of, named, through}

@@ -1,7 +1,7 @@
 -- Edits of a file map and of what its tree unfolds to are the same.
 use Rattle.std.proofs.Common.{◌≡◌, Bool, true, false, cond, not, ◌||◌, [], ◌∷◌, ◌++◌, refl, sym, ◌∙◌, ap, Option, Some, None, is_some, option_map, bytes_eq}
 use Rattle.std.specs.FinMap.{entries, keys, get, retain_keys}
-use Rattle.gix_hash_id.specs.declared.kind.Kind.{Kind}
+use Rattle.gix_hash.specs.declared.kind.Kind.{Kind}
 use Rattle.gix_object_nodes.specs.Files as unfolded
 use Rattle.gix_object_nodes.specs.Files.{Path, Leaf, Trees, behind, files_of_entry, is_null, HasNoneBelow, SameFiles}
 use Rattle.history_model.specs.Bytes.{Bytes}

@@ -2,7 +2,7 @@
 use Rattle.std.proofs.Common.{◌≡◌, ◌∙◌, ap, sym, refl, true, [], ◌∷◌, None, option_map, is_some}
 use Rattle.std.specs.List.{AllByRecursion, flat_map}
 use Rattle.std.specs.FinMap.{empty, get, get-empty, keys, contains_key}
-use Rattle.gix_hash_id.specs.declared.kind.Kind.{Kind}
+use Rattle.gix_hash.specs.declared.kind.Kind.{Kind}
 use Rattle.gix_object_lookup.specs.Table.{Table}
 use Rattle.gix_object_nodes.specs.Files as unfolded
 use Rattle.gix_object_nodes.specs.Files.{Path, Trees, files_of_tree}

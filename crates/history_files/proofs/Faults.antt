@@ -1,8 +1,8 @@
 -- Why edits of a file map aren't made over a store that has its trees.
 use Rattle.std.proofs.Common.{◌≡◌, ◌≢◌, ℕ, Bool, true, false, cond, not, List, [], ◌∷◌, ◌++◌, refl, sym, ◌∙◌, ap, subst, inl, inr, Option, Some, None, option_map}
-use Rattle.gix_hash_id.specs.Id.{Id, id_of}
-use Rattle.gix_hash_id.specs.Order.{id_eq}
-use Rattle.gix_hash_id.specs.declared.kind.Kind.{Kind}
+use Rattle.gix_hash.specs.Id.{Id, id_of}
+use Rattle.gix_hash.specs.Order.{id_eq}
+use Rattle.gix_hash.specs.declared.kind.Kind.{Kind}
 use Rattle.gix_object_tree.specs.Entry.{Item, SpellsTree}
 use Rattle.gix_object_tree.specs.Mode.{is_tree_value}
 use Rattle.gix_object_tree.specs.ModeText.{Mode}

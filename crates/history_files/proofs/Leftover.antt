@@ -1,7 +1,7 @@
 -- Edits in a row, of which one isn't made.
 use Rattle.std.proofs.Common.{◌≡◌, ◌∙◌, ap, sym, refl, true, false, Bool, ◌||◌, ◌&&◌, List, [], ◌∷◌, map}
 use Rattle.std.specs.List.{AllByRecursion, list_all}
-use Rattle.gix_hash_id.specs.declared.kind.Kind.{Kind}
+use Rattle.gix_hash.specs.declared.kind.Kind.{Kind}
 use Rattle.gix_object_editor.specs.Editor.{EachEntryHas, files_of}
 use Rattle.gix_object_editor.specs.Stored.{HasStored}
 use Rattle.gix_object_nodes.specs.Files.{Trees}

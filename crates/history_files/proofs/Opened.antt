@@ -1,7 +1,7 @@
 -- A root's tree is opened.
 use Rattle.std.proofs.Common.{sym, subst}
-use Rattle.gix_hash_id.specs.Id.{Id}
-use Rattle.gix_hash_id.specs.declared.kind.Kind.{Kind}
+use Rattle.gix_hash.specs.Id.{Id}
+use Rattle.gix_hash.specs.declared.kind.Kind.{Kind}
 use Rattle.gix_object_lines.specs.declared.kind.Kind.TheVariants as objects
 use Rattle.gix_object_any.specs.Object.{Tree}
 use Rattle.gix_object_lookup.specs.Table.{Table}

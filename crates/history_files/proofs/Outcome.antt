@@ -1,10 +1,10 @@
 -- What becomes of edits: the trees, or a value with the null id.
 use Rattle.std.proofs.Common.{◌≡◌, ◌∙◌, sym, subst, true, false, List, [], ◌∷◌, ◌++◌, map, inl, inr, ◌⊎◌}
 use Rattle.std.specs.List.{flat_map, list_all, list_any}
-use Rattle.gix_hash_id.specs.Hasher.{empty_blob_text, id_of_message}
-use Rattle.gix_hash_id.specs.Id.{id_of}
-use Rattle.gix_hash_id.specs.declared.kind.Kind.{Kind}
-use Rattle.gix_hash_id.specs.declared.object_id.ObjectId.{ObjectId}
+use Rattle.gix_hash.specs.Hasher.{empty_blob_text, id_of_message}
+use Rattle.gix_hash.specs.Id.{id_of}
+use Rattle.gix_hash.specs.declared.kind.Kind.{Kind}
+use Rattle.gix_hash.specs.declared.object_id.ObjectId.{ObjectId}
 use Rattle.gix_object_lookup.specs.Table.{Table}
 use Rattle.gix_object_editor.specs.Editor.{EachEntryHas, IsAsRead, files_of}
 use Rattle.gix_object_editor.specs.Entries.{PassesDown, Property}

@@ -3,9 +3,9 @@ use Rattle.std.proofs.Common.{◌≡◌, ◌∙◌, ap, refl, sym, ℕ, zero, su
 use Rattle.std.proofs.Math.Seq.{take-append_seam, drop-append_seam}
 use Rattle.std.specs.Prelude.{slice_index}
 use Rattle.std.specs.Str.Parse.{digits_value}
-use Rattle.gix_hash_id.specs.Id.{Id, digits_of}
-use Rattle.gix_hash_id.specs.Kind.{byte_len}
-use Rattle.gix_hash_id.specs.declared.kind.Kind.{Kind}
+use Rattle.gix_hash.specs.Id.{Id, digits_of}
+use Rattle.gix_hash.specs.Kind.{byte_len}
+use Rattle.gix_hash.specs.declared.kind.Kind.{Kind}
 use Rattle.gix_object_tree.specs.Entry.{Item, SpellsEntry, SpellsTree}
 use Rattle.gix_object_tree.specs.ModeText.{Mode, text_before}
 use Rattle.gix_object_tree.proofs.Octals.{before_cut}
@@ -14,7 +14,7 @@ use Rattle.gix_object_lookup.specs.Table.{Object, Table}
 use Rattle.gix_object_editor.specs.Stored.{HasStored}
 use Rattle.gix_object_nodes.specs.Files.{Trees}
 use Rattle.history_model.specs.Bytes.{is_empty}
-use Rattle.gix_hash_id.proofs.KindLemmas.{byte_len-injective}
+use Rattle.gix_hash.proofs.KindLemmas.{byte_len-injective}
 
 abbrev told_mode : List ℕ → Mode
 told_mode text = record { value = digits_value 8 text; padded = (slice_index text 0 == 48) && (digits_value 8 text == 16384) }

@@ -1,6 +1,6 @@
 -- Trees that are read are one.
 use Rattle.std.proofs.Common.{◌≡◌, ◌∙◌, ap, sym, subst, List}
-use Rattle.gix_hash_id.specs.Id.{Id}
+use Rattle.gix_hash.specs.Id.{Id}
 use Rattle.gix_object_lines.specs.declared.kind.Kind.TheVariants as objects
 use Rattle.gix_object_tree.specs.Entry.{Item, SpellsTree}
 use Rattle.gix_object_tree.proofs.TreeLaws.{one_tree}

@@ -1,10 +1,10 @@
 -- What the entry of a graft's source leads to.
 use Rattle.std.proofs.Common.{◌≡◌, ℕ, Bool, true, false, cond, List, [], ◌∷◌, ◌++◌, refl, sym, ◌∙◌, ap, subst, inl, inr, Option, Some, None, is_some, option_map, codes, get_or, arith}
 use Rattle.std.specs.FinMap.{entries, keys, get}
-use Rattle.gix_hash_id.specs.Id.{Id, id_of, null_id}
-use Rattle.gix_hash_id.specs.declared.kind.Kind.{Kind}
-use Rattle.gix_hash_id.specs.declared.kind.Kind.TheVariants.{Sha1}
-use Rattle.gix_hash_id.specs.declared.object_id.ObjectId.{ObjectId}
+use Rattle.gix_hash.specs.Id.{Id, id_of, null_id}
+use Rattle.gix_hash.specs.declared.kind.Kind.{Kind}
+use Rattle.gix_hash.specs.declared.kind.Kind.TheVariants.{Sha1}
+use Rattle.gix_hash.specs.declared.object_id.ObjectId.{ObjectId}
 use Rattle.gix_object_tree.specs.Mode.{kind_value}
 use Rattle.gix_object_lookup.specs.Table.{Table}
 use Rattle.gix_object_nodes.specs.Files.{Path, Leaf, Trees, files_of_entry, files_of_tree, is_null, leaf_of, named, through, tree_under, unless_tree}

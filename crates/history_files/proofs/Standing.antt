@@ -4,13 +4,13 @@ use Rattle.std.proofs.Common.{◌≡◌, Bool, true, false, cond, ◌&&◌, ◌|
 use Rattle.std.specs.Prelude.{Contains, IsFalse}
 use Rattle.std.specs.List.{AllByRecursion, flat_map, list_any}
 use Rattle.std.specs.FinMap.{entries, keys, get}
-use Rattle.gix_hash_id.specs.Hasher.{empty_tree_text, id_of_message}
-use Rattle.gix_hash_id.specs.Id.{Id, id_of, null_id}
-use Rattle.gix_hash_id.specs.Order.{id_eq}
-use Rattle.gix_hash_id.specs.declared.kind.Kind.{Kind}
-use Rattle.gix_hash_id.specs.declared.kind.Kind.TheVariants.{Sha1}
-use Rattle.gix_hash_id.proofs.EmptyObjects.{sha1-empty_tree}
-use Rattle.gix_hash_id.specs.declared.object_id.ObjectId.{ObjectId}
+use Rattle.gix_hash.specs.Hasher.{empty_tree_text, id_of_message}
+use Rattle.gix_hash.specs.Id.{Id, id_of, null_id}
+use Rattle.gix_hash.specs.Order.{id_eq}
+use Rattle.gix_hash.specs.declared.kind.Kind.{Kind}
+use Rattle.gix_hash.specs.declared.kind.Kind.TheVariants.{Sha1}
+use Rattle.gix_hash.proofs.EmptyObjects.{sha1-empty_tree}
+use Rattle.gix_hash.specs.declared.object_id.ObjectId.{ObjectId}
 use Rattle.gix_object_lookup.specs.Table.{Table}
 use Rattle.gix_object_nodes.specs.Nodes.{leaf_in}
 use Rattle.gix_object_nodes.specs.Files.{IsEmptyTree, Leaf, is_null}

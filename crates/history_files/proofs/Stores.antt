@@ -1,7 +1,7 @@
 -- The table of a whole store has the trees of each stored folder.
 use Rattle.std.proofs.Common.{◌≡◌, ◌∙◌, ap, refl, sym, Bool, true, false, Some, option_map}
 use Rattle.std.specs.FinMap.{get}
-use Rattle.gix_hash_id.specs.Id.{Id, null_id}
+use Rattle.gix_hash.specs.Id.{Id, null_id}
 use Rattle.gix_object_nodes.specs.Files.{is_null}
 use Rattle.history_model.specs.FileMap.{FileMap}
 use Rattle.history_model.specs.Objects.{Value, StoredCommit, StoredTag, StoredBytes, StoredFolder, object_kind, content_of, id_of, value_text}

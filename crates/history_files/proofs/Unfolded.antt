@@ -2,7 +2,7 @@
 use Rattle.std.proofs.Common.{◌≡◌, ℕ, zero, suc, ◌<◌, Bool, true, false, cond, not, List, [], ◌∷◌, ◌++◌, length, refl, sym, ◌∙◌, ap, subst, arith, inl, inr, Option, Some, None, is_some, option_map, length-append, ◌==◌}
 use Rattle.std.specs.List.{list_any, before_first, after_first}
 use Rattle.std.specs.FinMap.{entries, keys, get, contains_key}
-use Rattle.gix_hash_id.specs.declared.kind.Kind.{Kind}
+use Rattle.gix_hash.specs.declared.kind.Kind.{Kind}
 use Rattle.gix_object_tree.specs.Entry.{Item}
 use Rattle.gix_object_tree.specs.Mode.{kind_value, is_tree_value}
 use Rattle.gix_object_lookup.specs.Table.{Table}

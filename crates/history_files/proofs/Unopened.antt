@@ -1,7 +1,7 @@
 -- If two things have the same files without any tree, names lead into the same trees that aren't
 -- opened: over no trees each of these is a file.
 use Rattle.std.proofs.Common.{◌≡◌, ◌∙◌, ap, sym, subst, refl, ℕ, ◌&&◌, not, true, false, Bool, cond, List, [], ◌∷◌, Option, Some, None}
-use Rattle.gix_hash_id.specs.Id.{Id}
+use Rattle.gix_hash.specs.Id.{Id}
 use Rattle.gix_object_tree.specs.Entry.{Item}
 use Rattle.gix_object_tree.specs.Mode.{is_tree_value}
 use Rattle.gix_object_editor.specs.Asked.{ids_from, slot_into, trees_into, unopened_into}

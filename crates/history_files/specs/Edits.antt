@@ -1,8 +1,8 @@
 -- Edits as the code has them, and those of file maps that they are.
 use Rattle.std.specs.Prelude.{ℕ, ◌≡◌, ◌+◌, ⊤, false, length, IsFalse, List, [], ◌∷◌, Option, Some, None, option_map, IfSome, codes, if◌then◌else◌}
 use Rattle.std.specs.FinMap.{keys}
-use Rattle.gix_hash_id.specs.Id.{Id, id_of}
-use Rattle.gix_hash_id.specs.declared.kind.Kind.{Kind}
+use Rattle.gix_hash.specs.Id.{Id, id_of}
+use Rattle.gix_hash.specs.declared.kind.Kind.{Kind}
 use Rattle.gix_object_lines.specs.declared.decode.Error as decode
 use Rattle.gix_object_lines.specs.declared.decode.Error.TheVariants as unread
 use Rattle.gix_object_lookup.specs.declared.find.Error.TheVariants as looked_up

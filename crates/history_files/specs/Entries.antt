@@ -2,10 +2,10 @@
 use Rattle.std.specs.Prelude.{◌==◌, ◌&&◌, ◌||◌, ⊤, Bool, not, false, List, [], ◌∷◌, map, Option, Some, None, Contains, if◌then◌else◌}
 use Rattle.std.specs.List.{AllByRecursion, flat_map, list_any}
 use Rattle.std.specs.FinMap.{keys}
-use Rattle.gix_hash_id.specs.Id.{null_id}
-use Rattle.gix_hash_id.specs.Order.{id_eq}
-use Rattle.gix_hash_id.specs.declared.kind.Kind.{Kind}
-use Rattle.gix_hash_id.specs.declared.kind.Kind.TheVariants.{Sha1}
+use Rattle.gix_hash.specs.Id.{null_id}
+use Rattle.gix_hash.specs.Order.{id_eq}
+use Rattle.gix_hash.specs.declared.kind.Kind.{Kind}
+use Rattle.gix_hash.specs.declared.kind.Kind.TheVariants.{Sha1}
 use Rattle.gix_object_tree.specs.Mode.{kind_value}
 use Rattle.gix_object_tree.specs.ModeText.{Mode}
 use Rattle.gix_object_tree.specs.declared.tree.mode.EntryKind.TheVariants as entries

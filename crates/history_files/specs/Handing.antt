@@ -1,8 +1,8 @@
 -- Trees that an editor hands out, as they are kept.
 use Rattle.std.specs.Prelude.{◌≡◌, ⊤, List, [], ◌∷◌, ◌++◌, map}
-use Rattle.gix_hash_id.specs.Id.{id_of}
-use Rattle.gix_hash_id.specs.declared.kind.Kind.{Kind}
-use Rattle.gix_hash_id.specs.declared.object_id.ObjectId.{ObjectId}
+use Rattle.gix_hash.specs.Id.{id_of}
+use Rattle.gix_hash.specs.declared.kind.Kind.{Kind}
+use Rattle.gix_hash.specs.declared.object_id.ObjectId.{ObjectId}
 use Rattle.gix_object_tree.specs.Entry.{Item, own_item}
 use Rattle.gix_object_tree.specs.Writing as writing
 use Rattle.gix_object_tree.specs.declared.tree.owned.Tree.{Tree}

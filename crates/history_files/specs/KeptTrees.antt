@@ -2,9 +2,9 @@
 use Rattle.std.specs.Prelude.{◌≡◌, ℕ, List, Vec, map, Option, None, Some}
 use Rattle.std.specs.BTreeMap.{BTreeMap, get_by, keys}
 use Rattle.std.specs.declared.alloc.Global.{Global}
-use Rattle.gix_hash_id.specs.Id.{Id, id_of}
-use Rattle.gix_hash_id.specs.Order.{id_cmp}
-use Rattle.gix_hash_id.specs.declared.object_id.ObjectId.{ObjectId}
+use Rattle.gix_hash.specs.Id.{Id, id_of}
+use Rattle.gix_hash.specs.Order.{id_cmp}
+use Rattle.gix_hash.specs.declared.object_id.ObjectId.{ObjectId}
 use Rattle.gix_object_lookup.specs.Table.{Object, Table}
 use Rattle.gix_object_lines.specs.declared.kind.Kind.TheVariants as kinds
 

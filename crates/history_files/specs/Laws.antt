@@ -1,8 +1,8 @@
 -- The statements of the laws on file maps and what their trees unfold to.
 use Rattle.std.specs.Prelude.{◌≡◌, false, List, Option, Some, option_map, IsFalse, ◌↔◌}
 use Rattle.std.specs.FinMap.{get}
-use Rattle.gix_hash_id.specs.Id.{Id}
-use Rattle.gix_hash_id.specs.declared.kind.Kind.{Kind}
+use Rattle.gix_hash.specs.Id.{Id}
+use Rattle.gix_hash.specs.declared.kind.Kind.{Kind}
 use Rattle.gix_object_tree.specs.Entry.{Item, SpellsTree}
 use Rattle.gix_object_tree.specs.WellFormed.{IsWellFormed}
 use Rattle.gix_object_lookup.specs.Table.{Table}

@@ -1,6 +1,6 @@
 -- How many trees edits look up.
 use Rattle.std.specs.Prelude.{ℕ, ◌≡◌, ◌≤◌, ◌<◌, ◌+◌, ◌^◌, List, [], ◌∷◌, length, Option, Some, None}
-use Rattle.gix_hash_id.specs.Id.{Id}
+use Rattle.gix_hash.specs.Id.{Id}
 use Rattle.gix_object_tree.specs.Entry.{Item}
 use Rattle.gix_object_editor.specs.Asked.{front_of, ids_from, trees_into}
 use Rattle.gix_object_nodes.specs.Files.{Path, Trees, leaf_of, named}

@@ -1,8 +1,8 @@
 -- What is read of the trees of files, and why they aren't read. `honest` says that a store returns
 -- what its table has, `may_fail` that its lookups may fail.
 use Rattle.std.specs.Prelude.{◌≡◌, ◌⊎◌, ⊤, Option, Some, None, option_map, option_and_then, List, [], codes}
-use Rattle.gix_hash_id.specs.Id.{Id, id_of}
-use Rattle.gix_hash_id.specs.declared.kind.Kind.{Kind}
+use Rattle.gix_hash.specs.Id.{Id, id_of}
+use Rattle.gix_hash.specs.declared.kind.Kind.{Kind}
 use Rattle.gix_object_lines.specs.declared.kind.Kind.TheVariants as objects
 use Rattle.gix_object_lines.specs.declared.decode.Error as decode
 use Rattle.gix_object_lines.specs.declared.decode.Error.TheVariants as unread
@@ -30,7 +30,7 @@ use Rattle.gix_traverse_tree.specs.Recorder.{Recorded}
 use Rattle.gix_traverse_tree.specs.Trees.{failed}
 use Rattle.gix_traverse_tree.specs.declared.error.Error as walking
 use Rattle.gix_traverse_tree.specs.declared.error.Error.TheVariants as walked
-use Rattle.gix_hash_id.specs.declared.object_id.ObjectId.{ObjectId}
+use Rattle.gix_hash.specs.declared.object_id.ObjectId.{ObjectId}
 use Rattle.history_model.specs.declared.FileKind.TheVariants.{File as PlainFile, Exec, Link}
 use Rattle.history_files.specs.Unfolding.{HasTrees}
 use Rattle.history_files.specs.declared.error.ReadError.{ReadError}

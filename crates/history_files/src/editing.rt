@@ -2,12 +2,12 @@
 
 ghost use Rattle.std.specs.Prelude.{◌≡◌, ◌≤◌, ◌+◌, IfOk, IfErr, IsErrOf, map, not};
 ghost use Rattle.std.specs.List.{list_all, list_any};
-ghost use Rattle.gix_hash_id.specs.Id.{id_of};
+ghost use Rattle.gix_hash.specs.Id.{id_of};
 ghost use Rattle.gix_object_editor.specs.Asked.{CountsUp};
 ghost use Rattle.gix_object_editor.specs.Editor.{IsAsRead, asked_by};
 ghost use Rattle.gix_object_editor.specs.Stored.{HasStored};
 ghost use Rattle.gix_object_nodes.specs.Files.{Path, Trees, is_null};
-ghost use Rattle.gix_hash_id.specs.declared.kind.Kind.{Kind};
+ghost use Rattle.gix_hash.specs.declared.kind.Kind.{Kind};
 ghost use Rattle.history_model.specs.Bytes.{is_empty};
 ghost use Rattle.history_model.specs.FileMap.{FileMap, components, is_path};
 ghost use Rattle.history_files.specs.StandIns.{puts_null, stand_in};

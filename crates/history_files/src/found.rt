@@ -1,7 +1,7 @@
 //! The file or folder at a path.
 
 ghost use Rattle.std.specs.Prelude.{◌≡◌, map, List, IfOk, IfErr, IsErrOf, None, option_map, option_and_then};
-ghost use Rattle.gix_hash_id.specs.Id.{Id, id_of};
+ghost use Rattle.gix_hash.specs.Id.{Id, id_of};
 ghost use Rattle.gix_object_lines.specs.declared.kind.Kind.TheVariants as objects;
 ghost use Rattle.gix_object_tree.specs.Entry.{Item, item_of};
 ghost use Rattle.gix_object_tree.specs.Mode.{kind_of};

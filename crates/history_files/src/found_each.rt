@@ -1,7 +1,7 @@
 //! The file or folder at each of several paths.
 
 ghost use Rattle.std.specs.Prelude.{◌≡◌, map, IfOk, IfErr, IsErrOf, option_map};
-ghost use Rattle.gix_hash_id.specs.Id.{id_of};
+ghost use Rattle.gix_hash.specs.Id.{id_of};
 ghost use Rattle.gix_traverse_tree.specs.AtPaths.{AsksFor};
 ghost use Rattle.history_model.specs.FileMap.{components};
 ghost use Rattle.history_model.specs.Objects as model;

@@ -2,7 +2,7 @@
 
 ghost use Rattle.std.specs.Prelude.{◌≡◌, ◌++◌, map, IfOk, IfErr, IsErrOf, OnOk};
 ghost use Rattle.std.specs.FinMap.{entries};
-ghost use Rattle.gix_hash_id.specs.Id.{id_of};
+ghost use Rattle.gix_hash.specs.Id.{id_of};
 ghost use Rattle.gix_object_lookup.specs.declared.find.Error.TheVariants as looked_up;
 ghost use Rattle.history_model.specs.Answers.{file_line};
 ghost use Rattle.history_files.specs.KeptTrees.{AreKept, ids_of, kept_or};

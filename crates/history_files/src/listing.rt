@@ -2,7 +2,7 @@
 
 ghost use Rattle.std.specs.Prelude.{◌≡◌, map, filter_map, ◌++◌, IfOk, IfErr, IsErrOf, OnOk, option_map, option_to_list};
 ghost use Rattle.std.specs.FinMap.{entries};
-ghost use Rattle.gix_hash_id.specs.Id.{Id, id_of};
+ghost use Rattle.gix_hash.specs.Id.{Id, id_of};
 ghost use Rattle.history_model.specs.Bytes.{Bytes};
 ghost use Rattle.gix_object_tree.specs.Mode.{kind_of};
 ghost use Rattle.gix_traverse_tree.specs.Recorder.{recorded_of};

@@ -1,7 +1,7 @@
 //! An editor of a root's files.
 
 ghost use Rattle.std.specs.Prelude.{◌≡◌, IfOk, IfErr, Some};
-ghost use Rattle.gix_hash_id.specs.Id.{id_of};
+ghost use Rattle.gix_hash.specs.Id.{id_of};
 ghost use Rattle.gix_object_nodes.specs.Files.{Path, Trees};
 ghost use Rattle.gix_object_editor.specs.Stored.{HasStored};
 ghost use Rattle.gix_object_editor.specs.Editor.{asked_by, files_of, EachEntryHas, IsAsRead};

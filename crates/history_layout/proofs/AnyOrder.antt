@@ -1,9 +1,9 @@
 -- Values may be stored in any order, and those left out whose text is stored.
 use Rattle.std.proofs.Common.{◌≡◌, ◌⊎◌, inl, inr, Bool, true, false, cond, not, ◌&&◌, ◌||◌, List, [], ◌∷◌, refl, sym, ◌∙◌, ap, subst, Option, Some, None, is_some, option_map, unwrap_or, bytes_eq}
 use Rattle.std.specs.FinMap.{get, contains_key, insert, empty}
-use Rattle.gix_hash_id.specs.declared.kind.Kind.{Kind}
-use Rattle.gix_hash_id.specs.Id.{Id, null_id}
-use Rattle.gix_hash_id.specs.Order.{id_eq}
+use Rattle.gix_hash.specs.declared.kind.Kind.{Kind}
+use Rattle.gix_hash.specs.Id.{Id, null_id}
+use Rattle.gix_hash.specs.Order.{id_eq}
 use Rattle.history_model.specs.Objects.{Value, StoredFolder, value_text, id_of, empty_tree_id}
 use Rattle.history_model.specs.Meaning.{store_one, store_all, is_other, is_taken, some_taken}
 use Rattle.history_model.specs.Repository.{Repository, IsWholeStore, Values, HaveOwnIds}

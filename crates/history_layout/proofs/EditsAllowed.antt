@@ -6,7 +6,7 @@ use Rattle.std.specs.FinMap.{get}
 use Rattle.std.proofs.lemmas.Bool.{and_from, and_parts, or_from, or_parts, not-false, not_from_false}
 use Rattle.std.proofs.lemmas.List.{append-nil}
 use Rattle.std.proofs.lemmas.List.Sums.{take_while-cons}
-use Rattle.gix_hash_id.specs.Id.{Id, null_id}
+use Rattle.gix_hash.specs.Id.{Id, null_id}
 use Rattle.history_model.specs.Bytes.{Bytes, digits_value, has_byte, has_twice, is_decimal, is_empty}
 use Rattle.history_model.specs.FileMap.{is_below}
 use Rattle.history_model.specs.Repository.{Repository, Reference, id_at, stands}

@@ -6,8 +6,8 @@ use Rattle.std.proofs.lemmas.Cmp.{nat_list_cmp_total}
 use Rattle.std.proofs.lemmas.Map.Text.{is_eq-slice_cmp}
 use Rattle.std.proofs.lemmas.Bool.{and_parts, or_parts}
 use Rattle.std.proofs.lemmas.List.{append-nil}
-use Rattle.gix_hash_id.specs.Id.{Id, null_id}
-use Rattle.gix_hash_id.specs.Order.{id_eq}
+use Rattle.gix_hash.specs.Id.{Id, null_id}
+use Rattle.gix_hash.specs.Order.{id_eq}
 use Rattle.history_model.specs.Bytes.{Bytes, has_twice}
 use Rattle.history_model.specs.Objects.{Actor}
 use Rattle.history_model.specs.Repository.{Repository, Reference, LogEntry, moves_at, stands}

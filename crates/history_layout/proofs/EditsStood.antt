@@ -6,8 +6,8 @@ use Rattle.std.specs.FinMap.{get}
 use Rattle.std.proofs.lemmas.Bool.{or_parts}
 use Rattle.std.proofs.lemmas.List.Folds.{list_any-append}
 use Rattle.gix_ref_file.specs.Tree.{Tree}
-use Rattle.gix_hash_id.specs.Id.{Id}
-use Rattle.gix_hash_id.specs.Order.{id_eq}
+use Rattle.gix_hash.specs.Id.{Id}
+use Rattle.gix_hash.specs.Order.{id_eq}
 use Rattle.history_model.specs.Bytes.{Bytes}
 use Rattle.history_model.specs.Repository.{Repository, Reference, id_at, moves_at, stands}
 use Rattle.history_model.specs.Forms.{IsWritten, is_name}

@@ -3,8 +3,8 @@ use Rattle.std.proofs.Common.{◌≡◌, true, false, not, refl, sym, ◌∙◌,
 use Rattle.std.specs.FinMap.{get}
 use Rattle.std.proofs.lemmas.Option.{same_Some}
 use Rattle.history_model.specs.Objects.{Value, TagValue, StoredCommit, StoredTag, StoredBytes, StoredFolder}
-use Rattle.gix_hash_id.specs.Id.{Id}
-use Rattle.gix_hash_id.specs.Order.{id_eq}
+use Rattle.gix_hash.specs.Id.{Id}
+use Rattle.gix_hash.specs.Order.{id_eq}
 use Rattle.history_model.specs.Repository.{Repository, IsWholeStore, HoldsCommit, as_commit, is_tag_value, peeled, peeled_value}
 use Rattle.history_model.specs.Meaning.{parents_of}
 use Rattle.history_layout.specs.OfferedWords.{NamesStandForCommits, TagsStandForOthers, ParentsAreCommits}

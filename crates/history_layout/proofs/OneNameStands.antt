@@ -8,7 +8,7 @@ use Rattle.history_model.specs.Places.{file_at, object_place}
 use Rattle.history_layout.specs.TreeHalves.{HoldsValues}
 use Rattle.history_layout.specs.TreeSteps.{PutsValue}
 use Rattle.history_layout.specs.OneNameSteps.{CommitsMoveOneName, TagsMoveOneName}
-use Rattle.gix_hash_id.specs.declared.kind.Kind.{Kind}
+use Rattle.gix_hash.specs.declared.kind.Kind.{Kind}
 use Rattle.history_layout.proofs.TreePuts.{puts_store, standing_is_stored}
 use Rattle.history_model.proofs.IdLemmas.{digest_is_id}
 

@@ -4,8 +4,8 @@ use Rattle.std.specs.List.{list_any, list_all, AllByRecursion}
 use Rattle.std.specs.FinMap.{is_sorted}
 use Rattle.std.proofs.lemmas.Bool.{and_parts, or_parts}
 use Rattle.std.proofs.lemmas.Option.{same_Some}
-use Rattle.gix_hash_id.specs.Id.{Id}
-use Rattle.gix_hash_id.specs.declared.kind.Kind.{Kind}
+use Rattle.gix_hash.specs.Id.{Id}
+use Rattle.gix_hash.specs.declared.kind.Kind.{Kind}
 use Rattle.gix_ref_format.specs.Packed.{Record}
 use Rattle.gix_ref_format.specs.PackedBuffer.{hit}
 use Rattle.history_model.specs.Bytes.{Bytes, by_bytes, has_twice}

@@ -1,7 +1,7 @@
 -- What the names part holds while names are packed, and once they are.
 use Rattle.std.proofs.Common.{◌≡◌, ◌≢◌, ◌⊎◌, inl, inr, Bool, true, false, cond, not, ◌&&◌, ◌||◌, [], refl, sym, ◌∙◌, ap, subst, Option, Some, None, option_map, is_some, unwrap_or, bytes_eq, reverse, MatchOption}
 use Rattle.gix_ref_file.specs.Tree.{Tree}
-use Rattle.gix_hash_id.specs.Id.{Id}
+use Rattle.gix_hash.specs.Id.{Id}
 use Rattle.history_model.specs.Bytes.{Bytes}
 use Rattle.history_model.specs.Repository.{Repository, Reference, id_at, moves_at, stands}
 use Rattle.history_model.specs.Forms.{is_name, is_private}

@@ -9,7 +9,7 @@ use Rattle.history_model.specs.Repository.{LogEntry}
 use Rattle.history_model.specs.Forms.{is_log_entry}
 use Rattle.history_model.specs.Logs.{log_line, whole_lines}
 use Rattle.history_model.specs.Recovery.{recovered}
-use Rattle.gix_hash_id.specs.declared.kind.Kind.{Kind}
+use Rattle.gix_hash.specs.declared.kind.Kind.{Kind}
 use Rattle.history_model.proofs.OnePairLines.{entry_parts}
 use Rattle.history_model.proofs.OnePairTexts.{hex_high, none_in, actor_one_line}
 use Rattle.history_model.proofs.RecoveredLemmas.{after_line, holds}

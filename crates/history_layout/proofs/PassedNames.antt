@@ -3,7 +3,7 @@ use Rattle.std.proofs.Common.{◌≡◌, inl, inr, Bool, true, false, cond, not,
 use Rattle.gix_ref_file.specs.Tree.{Tree}
 use Rattle.history_model.specs.Bytes.{Bytes}
 use Rattle.history_model.specs.Objects.{StoredFolder}
-use Rattle.gix_hash_id.specs.Id.{Id}
+use Rattle.gix_hash.specs.Id.{Id}
 use Rattle.history_model.specs.Repository.{Repository, Reference, IsWhole, id_at, stands, peeled, Values, HaveOwnIds}
 use Rattle.history_model.specs.Commands.{Command}
 use Rattle.history_model.specs.Meaning.{after, stored_by, takes_id}
@@ -17,7 +17,7 @@ use Rattle.history_model.specs.Moments.{LeavesStopped}
 use Rattle.history_model.specs.Wholeness.{IsSound}
 use Rattle.history_layout.specs.Passing.{HoldsBetween, MovingStops, passing}
 use Rattle.history_model.specs.declared.Cause.{Cause}
-use Rattle.gix_hash_id.specs.declared.kind.Kind.{Kind}
+use Rattle.gix_hash.specs.declared.kind.Kind.{Kind}
 use Rattle.history_model.proofs.StepLemmas.{stops_may_leave_all}
 use Rattle.history_model.proofs.RecoveredLemmas.{recovered_stands}
 use Rattle.history_layout.proofs.PassedObjects.{still_holds}

@@ -10,7 +10,7 @@ use Rattle.history_model.specs.Recovery.{recovered_objects}
 use Rattle.history_layout.specs.TreeHalves.{HoldsValues}
 use Rattle.history_model.specs.Repository.{Values, HaveOwnIds}
 use Rattle.history_layout.specs.Passing.{HoldsFirst, PutsPass}
-use Rattle.gix_hash_id.specs.declared.kind.Kind.{Kind}
+use Rattle.gix_hash.specs.declared.kind.Kind.{Kind}
 use Rattle.history_model.proofs.ClosedLemmas.{unfinished_gone, object_kept, object_folder_stood}
 use Rattle.history_model.proofs.PlaceLemmas.{one_text, text_itself}
 use Rattle.history_model.proofs.RecoveredLemmas.{place_differs}

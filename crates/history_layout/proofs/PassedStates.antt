@@ -5,7 +5,7 @@ use Rattle.std.specs.FinMap.{entries, keys, get, get-empty, insert, empty}
 use Rattle.gix_ref_file.specs.Tree.{Tree, Node, file, folder}
 use Rattle.history_model.specs.Bytes.{Bytes, by_bytes}
 use Rattle.history_model.specs.FileMap.{is_below}
-use Rattle.gix_hash_id.specs.Id.{Id}
+use Rattle.gix_hash.specs.Id.{Id}
 use Rattle.history_model.specs.Repository.{Repository, Reference, LogEntry, id_at, moves_at, stands}
 use Rattle.history_model.specs.Forms.{is_name}
 use Rattle.history_model.specs.Commands.{Command, Rename}

@@ -6,7 +6,7 @@ use Rattle.std.specs.FinMap.{get, entries, keys}
 use Rattle.history_model.specs.Bytes.{Bytes}
 use Rattle.history_model.specs.FileMap.{FileMap, Content, folders_of, inside, beginnings, Edit, Put, Remove, RemoveFile, Graft}
 use Rattle.history_model.specs.Objects.{Value, StoredCommit, StoredTag, StoredBytes, StoredFolder}
-use Rattle.gix_hash_id.specs.Id.{Id}
+use Rattle.gix_hash.specs.Id.{Id}
 use Rattle.history_model.specs.Repository.{Repository, IsWhole, peeled, peeled_value, is_tag, is_tag_value}
 use Rattle.history_model.specs.Commands.{Command, Commit, Rename, CommitCommand, Tag, TagCommand}
 use Rattle.history_model.specs.Meaning.{edits_of, first_files, new_commit, new_tag, parents_of, put_bytes, store_all, stored_by}

@@ -6,11 +6,11 @@ use Rattle.std.specs.List.{AllByRecursion, list_any}
 use Rattle.std.proofs.lemmas.Bool.{and_parts, or_from, or_parts}
 use Rattle.std.proofs.lemmas.List.Folds.{list_any-append}
 use Rattle.hex.specs.Hex.{lower_digits}
-use Rattle.gix_hash_id.specs.Id.{Id}
-use Rattle.gix_hash_id.specs.Spelling.{hex_character, hex_text}
+use Rattle.gix_hash.specs.Id.{Id}
+use Rattle.gix_hash.specs.Spelling.{hex_character, hex_text}
 use Rattle.gix_object_lines.specs.NameTest.{is_barred, is_partial_name}
 use Rattle.gix_ref_format.specs.Packed.{Record}
-use Rattle.gix_ref_packed.specs.Written.{header_text, packed_text, peel_text, record_text, records_text}
+use Rattle.gix_ref_format.specs.Written.{header_text, packed_text, peel_text, record_text, records_text}
 use Rattle.history_model.specs.Bytes.{Bytes, begins, has_byte}
 use Rattle.history_model.specs.Forms.{is_name, max_name, refs_front}
 use Rattle.history_model.proofs.NameTests.{unbarred_of}

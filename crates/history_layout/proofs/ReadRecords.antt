@@ -3,9 +3,9 @@ use Rattle.std.proofs.Common.{◌≡◌, refl, sym, ◌∙◌, ap, subst, Bool, 
 use Rattle.std.specs.Prelude.{IfSome, option_and_then}
 use Rattle.std.specs.List.{AllByRecursion}
 use Rattle.std.proofs.lemmas.Option.{same_Some}
-use Rattle.gix_hash_id.specs.Id.{Id}
-use Rattle.gix_hash_id.specs.Kind.{hex_len}
-use Rattle.gix_hash_id.specs.declared.kind.Kind.{Kind}
+use Rattle.gix_hash.specs.Id.{Id}
+use Rattle.gix_hash.specs.Kind.{hex_len}
+use Rattle.gix_hash.specs.declared.kind.Kind.{Kind}
 use Rattle.gix_object_lines.specs.NameTest.{begins, is_full_name}
 use Rattle.gix_ref_format.specs.Ids.{id_from_hex, digits_read}
 use Rattle.gix_ref_format.specs.Lines.{lines, cut_line}
@@ -13,7 +13,7 @@ use Rattle.gix_ref_format.specs.Packed.{Record, Item, Good, Bad, BadHeader, reco
 use Rattle.gix_ref_format.specs.PackedBuffer.{OpenFault, first_bad}
 use Rattle.gix_ref_format.specs.declared.packed.Header.{Header}
 use Rattle.gix_ref_format.specs.declared.packed.buffer.Error.TheVariants as faults
-use Rattle.gix_ref_packed.specs.Written.{HasKind}
+use Rattle.gix_ref_format.specs.Written.{HasKind}
 
 none_some : {A X : Type 0} {x : X} → None ≡ Some x → A
 none_some e = cc

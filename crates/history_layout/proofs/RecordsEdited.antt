@@ -6,11 +6,11 @@ use Rattle.std.specs.FinMap.Entries.{below_all}
 use Rattle.std.specs.Ordering.{is_lt, is_eq}
 use Rattle.std.proofs.lemmas.Bool.{and_from, and_parts, or_from}
 use Rattle.std.proofs.lemmas.Map.Text.{is_eq-slice_cmp}
-use Rattle.gix_hash_id.specs.declared.kind.Kind.{Kind}
+use Rattle.gix_hash.specs.declared.kind.Kind.{Kind}
 use Rattle.gix_ref_format.specs.Packed.{Record, packed_records}
 use Rattle.gix_ref_format.specs.PackedBuffer.{Keeps, hit}
-use Rattle.gix_ref_packed.specs.Edited.{Ascend, ComesBefore, IsEdited, Line, line_at, under}
-use Rattle.gix_ref_packed.specs.Written.{AllHaveKind, HasKind, packed_text}
+use Rattle.gix_ref_format.specs.Edited.{Ascend, ComesBefore, IsEdited, Line, line_at, under}
+use Rattle.gix_ref_format.specs.Written.{AllHaveKind, HasKind, packed_text}
 use Rattle.history_model.specs.Bytes.{Bytes, by_bytes, has_byte, has_twice}
 use Rattle.history_model.specs.Forms.{is_name, is_private}
 use Rattle.history_model.specs.PackedNames.{PackedFile, is_packed_form, packed_file, packed_with, says_sorted}

@@ -8,15 +8,15 @@ use Rattle.hex.specs.Hex.{lower_digits}
 use Rattle.gix_ref_file.specs.Tree.{Tree}
 use Rattle.history_model.specs.Bytes.{Bytes, begins, ends, line}
 use Rattle.history_model.specs.Objects.{Actor, hex}
-use Rattle.gix_hash_id.specs.Id.{Id}
-use Rattle.gix_hash_id.specs.Spelling.{hex_text}
+use Rattle.gix_hash.specs.Id.{Id}
+use Rattle.gix_hash.specs.Spelling.{hex_text}
 use Rattle.history_model.specs.Repository.{Repository, LogEntry}
 use Rattle.history_model.specs.Forms.{is_id, is_name}
 use Rattle.history_model.specs.Logs.{log_line, log_text}
 use Rattle.history_model.specs.PackedNames.{id_from_hex, whole_line}
 use Rattle.history_model.specs.Places.{file_at, head_place, packed_place, log_place, is_log_place}
 use Rattle.history_model.specs.NameStates.{NameState, Holds, Symbolic, Absent, Faulty, name_state, loose_state, loose_line, packed_text_state}
-use Rattle.gix_hash_id.specs.declared.kind.Kind.{Kind}
+use Rattle.gix_hash.specs.declared.kind.Kind.{Kind}
 use Rattle.history_model.proofs.IdLemmas.{low_digit, id_digits, id_from_hex-hex}
 use Rattle.history_model.proofs.NameLemmas.{name-log}
 use Rattle.std.proofs.lemmas.Bool.{and_parts}

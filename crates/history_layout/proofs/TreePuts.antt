@@ -5,15 +5,15 @@ use Rattle.std.specs.FinMap.{get, insert, contains_key, empty}
 use Rattle.gix_ref_file.specs.Tree.{Tree}
 use Rattle.history_model.specs.Bytes.{Bytes}
 use Rattle.history_model.specs.Objects.{Value, hex, StoredFolder, value_text, id_of, empty_tree_id}
-use Rattle.gix_hash_id.specs.Id.{Id, null_id}
-use Rattle.gix_hash_id.specs.Order.{id_eq}
+use Rattle.gix_hash.specs.Id.{Id, null_id}
+use Rattle.gix_hash.specs.Order.{id_eq}
 use Rattle.history_model.specs.Meaning.{store_one, is_taken, is_other}
 use Rattle.history_model.specs.Places.{file_at, object_place, unfinished_place}
 use Rattle.history_layout.specs.TreeHalves.{HoldsValues, HalvesStand, PlacesTellValues}
 use Rattle.history_model.specs.Repository.{Values, HaveOwnIds}
 use Rattle.history_model.specs.StandsFor.{value_files}
 use Rattle.history_layout.specs.TreeSteps.{PutsValue, PutsStore, StandingIsStored, StoredStands, TreesTellTaken, OwnIdsStay, NoneUnfinished, RenamesPut}
-use Rattle.gix_hash_id.specs.declared.kind.Kind.{Kind}
+use Rattle.gix_hash.specs.declared.kind.Kind.{Kind}
 use Rattle.history_model.proofs.IdLemmas.{one_id, id_itself, ids_apart, get_with_id, digest_is_id}
 use Rattle.history_model.proofs.PlaceLemmas.{one_text, text_itself, file_at_id, file_has_id, same_file}
 use Rattle.history_model.proofs.RecoveredLemmas.{place_apart}

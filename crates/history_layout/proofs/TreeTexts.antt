@@ -6,8 +6,8 @@ use Rattle.history_model.specs.FileMap.{FileMap}
 use Rattle.history_layout.specs.TreeHalves.{HoldsValues}
 use Rattle.history_model.specs.Repository.{Values, HaveOwnIds}
 use Rattle.gix_ref_file.specs.Tree.{Tree}
-use Rattle.gix_hash_id.specs.Id.{Id}
-use Rattle.gix_hash_id.specs.declared.kind.Kind.{Kind}
+use Rattle.gix_hash.specs.Id.{Id}
+use Rattle.gix_hash.specs.declared.kind.Kind.{Kind}
 use Rattle.gix_object_lines.proofs.Headers.{word_lacks_space}
 use Rattle.history_model.specs.Objects.{CommitValue, Value, StoredCommit, StoredTag, StoredBytes, StoredFolder, object_kind, content_of, value_text, commit_content, root}
 use Rattle.gix_object_lines.specs.Kind.{kind_word}

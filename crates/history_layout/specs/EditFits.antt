@@ -1,7 +1,7 @@
 -- When the names of a command can be moved, and one of them removed, in one transaction.
 use Rattle.std.specs.Prelude.{◌≡◌, ◌⊎◌, ⊤, List, [], ◌∷◌, map, bytes_eq, Option, Some, None, unwrap_or, Contains, IsTrue, IsFalse}
 use Rattle.std.specs.List.{AllByRecursion}
-use Rattle.gix_hash_id.specs.Id.{null_id}
+use Rattle.gix_hash.specs.Id.{null_id}
 use Rattle.history_model.specs.Bytes.{Bytes, has_twice}
 use Rattle.history_model.specs.Repository.{Repository, id_at, stands}
 use Rattle.history_model.specs.Forms.{is_log_entry, is_name}

@@ -1,6 +1,6 @@
 -- What a line of a move moves: its name to the commit that its word means.
 use Rattle.std.specs.Prelude.{unwrap_or}
-use Rattle.gix_hash_id.specs.Id.{null_id}
+use Rattle.gix_hash.specs.Id.{null_id}
 use Rattle.history_model.specs.Repository.{Repository, LogEntry}
 use Rattle.history_model.specs.Words.{commit_of}
 use Rattle.history_model.specs.Commands.{MoveCommand, To}

@@ -4,7 +4,7 @@ use Rattle.std.specs.FinMap.{get}
 use Rattle.history_model.specs.Bytes.{Bytes}
 use Rattle.history_model.specs.FileMap.{FileMap, Content}
 use Rattle.history_model.specs.Objects.{StoredBytes, StoredFolder}
-use Rattle.gix_hash_id.specs.Id.{Id}
+use Rattle.gix_hash.specs.Id.{Id}
 use Rattle.history_model.specs.Repository.{Repository, IsStored, IsWholeStore}
 
 -- The bytes of each file of a stored folder are stored.

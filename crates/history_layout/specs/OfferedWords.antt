@@ -2,8 +2,8 @@
 use Rattle.std.specs.Prelude.{◌≡◌, not, Some}
 use Rattle.std.specs.List.{AllByRecursion}
 use Rattle.history_model.specs.Bytes.{Bytes}
-use Rattle.gix_hash_id.specs.Id.{Id}
-use Rattle.gix_hash_id.specs.Order.{id_eq}
+use Rattle.gix_hash.specs.Id.{Id}
+use Rattle.gix_hash.specs.Order.{id_eq}
 use Rattle.history_model.specs.Repository.{Repository, IsWholeStore, HasWholeNames, HoldsCommit, id_at, is_tag, peeled}
 use Rattle.history_model.specs.Commands.{CommitCommand}
 use Rattle.history_model.specs.Meaning.{name_commit, parents_of}

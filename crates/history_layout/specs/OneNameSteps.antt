@@ -1,7 +1,7 @@
 -- The step of a command that moves one name, as a commit and a tag do, on the two trees: its values
 -- are stored, in any order, and its name moves.
 use Rattle.std.specs.Prelude.{◌≡◌, IsTrue}
-use Rattle.gix_hash_id.specs.Id.{Id}
+use Rattle.gix_hash.specs.Id.{Id}
 use Rattle.history_model.specs.Bytes.{Bytes}
 use Rattle.history_model.specs.Objects.{Actor, StoredCommit, StoredTag, id_of}
 use Rattle.history_model.specs.Repository.{Repository, LogEntry}

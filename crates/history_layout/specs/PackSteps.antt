@@ -5,8 +5,8 @@ use Rattle.std.specs.FinMap.{get}
 use Rattle.gix_ref_file.specs.Tree.{Tree, folder}
 use Rattle.gix_ref_format.specs.Packed.{Record}
 use Rattle.gix_ref_format.specs.PackedBuffer.{hit}
-use Rattle.gix_ref_packed.specs.Edited.{Ascend}
-use Rattle.gix_ref_packed.specs.Written.{packed_text}
+use Rattle.gix_ref_format.specs.Edited.{Ascend}
+use Rattle.gix_ref_format.specs.Written.{packed_text}
 use Rattle.history_model.specs.Bytes.{Bytes}
 use Rattle.history_model.specs.Repository.{Repository, id_at, is_tag, peeled, stands}
 use Rattle.history_model.specs.Forms.{is_name, is_private}

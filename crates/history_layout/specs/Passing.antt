@@ -7,7 +7,7 @@ use Rattle.history_model.specs.Bytes.{Bytes}
 use Rattle.history_model.specs.FileMap.{FileMap, folders_of, is_below}
 use Rattle.history_model.specs.Objects.{Value, StoredCommit, StoredFolder, value_text, id_of}
 use Rattle.history_model.specs.Repository.{Repository, IsWholeStore, id_at, moves_at, stands, Values, HaveOwnIds}
-use Rattle.gix_hash_id.specs.Id.{Id}
+use Rattle.gix_hash.specs.Id.{Id}
 use Rattle.history_model.specs.NameStates.{NameState, Holds, Absent, is_absent, name_state}
 use Rattle.history_model.specs.PackedNames.{packed_file, PackedAgrees}
 use Rattle.history_model.specs.Commands.{Command, CommitCommand, Commit, Rename, Tag, TagCommand}
@@ -25,7 +25,7 @@ use Rattle.history_model.specs.Replies.{Reply}
 use Rattle.history_model.specs.Steps.{some_failed}
 use Rattle.history_model.specs.Moments.{GoesOnFrom, LeavesStopped, Moment, ActsOn, last_moment}
 use Rattle.history_model.specs.Wholeness.{IsSound}
-use Rattle.gix_hash_id.specs.declared.kind.Kind.{Kind}
+use Rattle.gix_hash.specs.declared.kind.Kind.{Kind}
 
 -- ---- values
 

@@ -1,6 +1,6 @@
 -- What a rename moves: the new name to what the old one holds.
 use Rattle.std.specs.Prelude.{unwrap_or, codes}
-use Rattle.gix_hash_id.specs.Id.{Id, null_id}
+use Rattle.gix_hash.specs.Id.{Id, null_id}
 use Rattle.history_model.specs.Bytes.{Bytes}
 use Rattle.history_model.specs.Repository.{Repository, LogEntry, id_at}
 use Rattle.history_model.specs.Meaning.{history_actor}

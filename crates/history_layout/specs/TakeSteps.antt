@@ -2,7 +2,7 @@
 use Rattle.std.specs.Prelude.{◌≡◌, Option, Some, None, MatchOption, bytes_eq, if◌then◌else◌, IsTrue}
 use Rattle.gix_ref_file.specs.Tree.{Tree}
 use Rattle.gix_ref_format.specs.PackedBuffer.{hit}
-use Rattle.gix_hash_id.specs.declared.kind.Kind.{Kind}
+use Rattle.gix_hash.specs.declared.kind.Kind.{Kind}
 use Rattle.history_model.specs.Bytes.{Bytes}
 use Rattle.history_model.specs.PackedNames.{PackedFile, packed_file, is_packed_form}
 use Rattle.history_model.specs.Places.{file_at, packed_place}

@@ -5,7 +5,7 @@ use Rattle.std.specs.FinMap.{get}
 use Rattle.gix_ref_file.specs.Tree.{Tree, folder}
 use Rattle.history_model.specs.Bytes.{Bytes}
 use Rattle.history_model.specs.Objects.{Value, value_text}
-use Rattle.gix_hash_id.specs.Id.{Id}
+use Rattle.gix_hash.specs.Id.{Id}
 use Rattle.history_model.specs.Repository.{Repository, Values, HaveOwnIds, id_at, moves_at}
 use Rattle.history_model.specs.Forms.{is_id}
 use Rattle.history_model.specs.Places.{Pair, file_at, object_place, is_object_folder, head_place, packed_place, log_place, is_name_place, is_name_folder}
@@ -13,7 +13,7 @@ use Rattle.history_model.specs.PackedNames.{packed_file, PackedAgrees}
 use Rattle.history_model.specs.Logs.{log_text}
 use Rattle.history_model.specs.NameStates.{Holds, name_state}
 use Rattle.history_model.specs.StandsFor.{StandsFor, value_files, head_text}
-use Rattle.gix_hash_id.specs.declared.kind.Kind.{Kind}
+use Rattle.gix_hash.specs.declared.kind.Kind.{Kind}
 
 -- The tree has the files of these values and no other, and no folders but those of objects.
 pub record HoldsValues (kind : Kind) (tree : Tree) (values : Values) : Type 0 where

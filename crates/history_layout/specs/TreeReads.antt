@@ -5,12 +5,12 @@ use Rattle.gix_ref_file.specs.Tree.{Tree}
 use Rattle.history_model.specs.Bytes.{Bytes, has_byte}
 use Rattle.history_model.specs.FileMap.{FileMap}
 use Rattle.history_model.specs.Objects.{CommitValue, Value, StoredCommit, StoredBytes, StoredFolder, object_text, object_kind, content_of, commit_content, root}
-use Rattle.gix_hash_id.specs.Id.{Id}
+use Rattle.gix_hash.specs.Id.{Id}
 use Rattle.history_model.specs.Forms.{is_id}
 use Rattle.history_model.specs.Places.{file_at, object_place}
 use Rattle.history_layout.specs.TreeHalves.{HoldsValues}
 use Rattle.history_model.specs.Repository.{Values, HaveOwnIds}
-use Rattle.gix_hash_id.specs.declared.kind.Kind.{Kind}
+use Rattle.gix_hash.specs.declared.kind.Kind.{Kind}
 use Rattle.gix_object_lines.specs.Kind.{kind_word}
 use Rattle.gix_object_lines.specs.declared.kind.Kind.{Kind as ObjectKind}
 use Rattle.gix_object_lines.specs.declared.kind.Kind.TheVariants as objects

@@ -4,14 +4,14 @@ use Rattle.std.specs.FinMap.{get, contains_key, empty}
 use Rattle.gix_ref_file.specs.Tree.{Tree, folder, bytes_at}
 use Rattle.history_model.specs.Bytes.{Bytes, line}
 use Rattle.history_model.specs.Objects.{Actor, Value, StoredFolder, hex, value_text, id_of, empty_tree_id}
-use Rattle.gix_hash_id.specs.Order.{id_eq}
-use Rattle.gix_hash_id.specs.Id.{Id, null_id}
+use Rattle.gix_hash.specs.Order.{id_eq}
+use Rattle.gix_hash.specs.Id.{Id, null_id}
 use Rattle.history_model.specs.Repository.{Repository, LogEntry, IsWholeStore, id_at, Values, HaveOwnIds}
 use Rattle.history_model.specs.Meaning.{store_one, store_all, some_taken, is_taken, is_other}
 use Rattle.history_model.specs.Places.{file_at, object_place, unfinished_place, is_object_folder, log_place, is_name_folder}
 use Rattle.history_model.specs.Logs.{log_line}
 use Rattle.history_layout.specs.TreeHalves.{HoldsValues}
-use Rattle.gix_hash_id.specs.declared.kind.Kind.{Kind}
+use Rattle.gix_hash.specs.declared.kind.Kind.{Kind}
 
 -- ---- values
 

@@ -6,8 +6,8 @@ use Rattle.std.proofs.lemmas.Map.Text.{is_eq-slice_cmp}
 use Rattle.history_model.specs.Bytes.{Bytes, by_bytes}
 use Rattle.history_model.specs.FileMap.{FileMap, Content, has_below}
 use Rattle.history_model.specs.Objects.{by_id, CommitValue, Value, StoredCommit, StoredFolder, id_of, empty_tree_id, value_text}
-use Rattle.gix_hash_id.specs.Id.{Id, null_id}
-use Rattle.gix_hash_id.specs.Order.{id_eq}
+use Rattle.gix_hash.specs.Id.{Id, null_id}
+use Rattle.gix_hash.specs.Order.{id_eq}
 use Rattle.history_model.specs.Repository.{Repository, Reference, fresh, id_at, stands, commit_at, peeled, peeled_value, as_commit}
 use Rattle.history_model.specs.Commands.{Commit, Files, Show, CommitCommand, EditLine}
 use Rattle.history_model.specs.Words.{ReadsAs, word_meaning, commit_of, commit_read, candidates, name_meaning, id_meaning}
@@ -18,7 +18,7 @@ use Rattle.history_model.specs.Replies.{Committed, FilesAre, ShowsCommit, ShowsC
 use Rattle.history_model.specs.Steps.{Step}
 use Rattle.history_model.specs.Rows.{first_command, first_commit, sample_actor}
 use Rattle.history_model.specs.declared.Cause.{Cause}
-use Rattle.gix_hash_id.specs.declared.kind.Kind.TheVariants.{Sha1}
+use Rattle.gix_hash.specs.declared.kind.Kind.TheVariants.{Sha1}
 use Rattle.std.proofs.lemmas.Bool.{or_from}
 
 abbrev pub command_with : List EditLine → CommitCommand

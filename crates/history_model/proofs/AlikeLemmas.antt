@@ -6,7 +6,7 @@ use Rattle.std.specs.Prelude.{pos}
 use Rattle.history_model.specs.Bytes.{Bytes}
 use Rattle.history_model.specs.FileMap.{FileMap, Edit, edited, edited_by, folders_of}
 use Rattle.history_model.specs.Objects.{CommitValue, StoredCommit, StoredFolder, id_of, folder_id}
-use Rattle.gix_hash_id.specs.Id.{Id}
+use Rattle.gix_hash.specs.Id.{Id}
 use Rattle.history_model.specs.Repository.{Repository, Reference, as_commit, peeled, peeled_value, id_at}
 use Rattle.history_model.specs.Commands.{Commit, CommitCommand, EditLine, LogCommand}
 use Rattle.history_model.specs.Words.{commit_of}

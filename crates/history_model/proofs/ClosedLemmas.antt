@@ -2,7 +2,7 @@
 use Rattle.std.proofs.Common.{◌≡◌, ◌≢◌, Bool, true, false, cond, not, ◌&&◌, [], ◌∷◌, refl, sym, ◌∙◌, ap, Option, Some, None, IsSome, is_some, bytes_eq}
 use Rattle.std.specs.FinMap.{get}
 use Rattle.gix_ref_file.specs.Tree.{Tree, Node, file, folder, bytes_of}
-use Rattle.gix_hash_id.specs.Id.{Id}
+use Rattle.gix_hash.specs.Id.{Id}
 use Rattle.history_model.specs.Bytes.{Bytes}
 use Rattle.history_model.specs.NameStates.{Holds, name_state}
 use Rattle.history_model.specs.Places.{file_at, unfinished_place}

@@ -10,7 +10,7 @@ use Rattle.std.proofs.lemmas.Slice.Eq.{bytes_eq-Decides}
 use Rattle.history_model.specs.Bytes.{Bytes, by_bytes}
 use Rattle.history_model.proofs.GrammarLemmas.{words_differ}
 use Rattle.history_model.specs.Objects.{Value, StoredBytes, StoredFolder, blob_id, folder_id, mode_of, entry_at}
-use Rattle.gix_hash_id.specs.Id.{Id}
+use Rattle.gix_hash.specs.Id.{Id}
 use Rattle.history_model.specs.Repository.{Repository, IsWhole, IsStored, file_values}
 use Rattle.history_model.specs.Laws.{EntriesTellFiles, IsTreeIn}
 use Rattle.history_model.specs.declared.FileKind.{FileKind}

@@ -15,8 +15,8 @@ use Rattle.history_model.specs.Causes.{first_cause, holds, do_collide}
 use Rattle.history_model.specs.Rows.{first_command, first_commit}
 use Rattle.history_model.specs.declared.Cause.{Cause}
 use Rattle.history_model.specs.declared.Cause.TheVariants.{Taken, Collides, HoldsTag, TooLarge}
-use Rattle.gix_hash_id.specs.Order.{id_eq}
-use Rattle.gix_hash_id.specs.declared.kind.Kind.TheVariants.{Sha1}
+use Rattle.gix_hash.specs.Order.{id_eq}
+use Rattle.gix_hash.specs.declared.kind.Kind.TheVariants.{Sha1}
 use Rattle.history_model.proofs.RowLemmas.{entries-empty, root-empty, first_length, first_new_commit}
 use Rattle.history_model.proofs.AfterFirstLemmas.{skip}
 

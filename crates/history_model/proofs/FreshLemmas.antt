@@ -9,7 +9,7 @@ use Rattle.std.proofs.lemmas.Slice.Eq.{bytes_eq-Decides}
 use Rattle.gix_ref_file.specs.Tree.{file, folder, bytes_of}
 use Rattle.history_model.specs.Bytes.{Bytes, by_bytes}
 use Rattle.history_model.specs.Objects.{by_id, Value, value_text}
-use Rattle.gix_hash_id.specs.Id.{Id}
+use Rattle.gix_hash.specs.Id.{Id}
 use Rattle.history_model.specs.Repository.{Reference, IsWhole, Reaches, named, by_way_of, fresh, moves_at}
 use Rattle.history_model.specs.Forms.{is_name}
 use Rattle.history_model.specs.Logs.{log_text}
@@ -18,7 +18,7 @@ use Rattle.history_model.specs.NameStates.{NameState, Holds, Absent, name_state,
 use Rattle.history_model.specs.StandsFor.{StandsFor, head_text, object_files}
 use Rattle.history_model.specs.Laws.{FreshStands, IsFresh, fresh_pair}
 use Rattle.history_model.proofs.RowLemmas.{no_entries_by}
-use Rattle.gix_hash_id.specs.declared.kind.Kind.{Kind}
+use Rattle.gix_hash.specs.declared.kind.Kind.{Kind}
 
 some_none : {A X : Type 0} (x : X) → Some x ≡ None → A
 some_none x e = cc

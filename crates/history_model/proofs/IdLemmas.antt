@@ -8,19 +8,19 @@ use Rattle.std.proofs.lemmas.List.{length-map}
 use Rattle.sha1.specs.Sha1.{sha1, digest_bytes as sha1_bytes, hash_after as sha1_hash, padded_message as sha1_padded}
 use Rattle.sha2.specs.Sha256.{sha256, digest_bytes as sha256_bytes, final_hash as sha256_hash, initial_hash_256}
 use Rattle.hex.specs.Hex.{hex_digit_value}
-use Rattle.gix_hash_id.specs.declared.kind.Kind.{Kind}
-use Rattle.gix_hash_id.specs.declared.kind.Kind.TheVariants.{Sha1, Sha256}
-use Rattle.gix_hash_id.specs.Kind.{byte_len, hex_len, kind_number}
-use Rattle.gix_hash_id.specs.Id.{Id, null_id, digits_of, bytes_from, raw_bytes}
-use Rattle.gix_hash_id.specs.Order.{id_eq}
-use Rattle.gix_hash_id.specs.OrderLaws.{id_eq-same, id_eq-itself, id_total, id_tied, kind_number-injective, same_id}
-use Rattle.gix_hash_id.specs.Hasher.{digest_of}
-use Rattle.gix_hash_id.specs.Packed.{bytes_from-digits_of}
-use Rattle.gix_hash_id.specs.Spelling.{hex_character, IsHexOf}
-use Rattle.gix_hash_id.specs.Views.{IsBytesOf}
-use Rattle.gix_hash_id.proofs.ByteLists.{length-digits_of, id-digits_len}
-use Rattle.gix_hash_id.proofs.KindLemmas.{hex_len-byte_len}
-use Rattle.gix_hash_id.proofs.LawLemmas.{AreDigits, none, more, same_text, hex_text-IsHexOf, digits_of-AreDigits, id-AreDigits}
+use Rattle.gix_hash.specs.declared.kind.Kind.{Kind}
+use Rattle.gix_hash.specs.declared.kind.Kind.TheVariants.{Sha1, Sha256}
+use Rattle.gix_hash.specs.Kind.{byte_len, hex_len, kind_number}
+use Rattle.gix_hash.specs.Id.{Id, null_id, digits_of, bytes_from, raw_bytes}
+use Rattle.gix_hash.specs.Order.{id_eq}
+use Rattle.gix_hash.specs.OrderLaws.{id_eq-same, id_eq-itself, id_total, id_tied, kind_number-injective, same_id}
+use Rattle.gix_hash.specs.Hasher.{digest_of}
+use Rattle.gix_hash.specs.Packed.{bytes_from-digits_of}
+use Rattle.gix_hash.specs.Spelling.{hex_character, IsHexOf}
+use Rattle.gix_hash.specs.Views.{IsBytesOf}
+use Rattle.gix_hash.proofs.ByteLists.{length-digits_of, id-digits_len}
+use Rattle.gix_hash.proofs.KindLemmas.{hex_len-byte_len}
+use Rattle.gix_hash.proofs.LawLemmas.{AreDigits, none, more, same_text, hex_text-IsHexOf, digits_of-AreDigits, id-AreDigits}
 pub use Rattle.gix_ref_format.proofs.IdLemmas.{id_from_hex-reads, id_from_hex-tells}
 use Rattle.history_model.specs.Bytes.{Bytes}
 use Rattle.history_model.specs.Objects.{by_id, digest, hex}

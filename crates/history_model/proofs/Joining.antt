@@ -2,7 +2,7 @@
 use Rattle.std.proofs.Common.{◌≡◌, ℕ, List, [], ◌∷◌, ◌++◌, length, Some, slice_get, refl, sym, ◌∙◌, ap, subst, zero, suc}
 use Rattle.gix_ref_file.specs.Tree.{Tree}
 use Rattle.gix_ref_file.specs.History.{History, trees, moment}
-use Rattle.gix_hash_id.specs.declared.kind.Kind.{Kind}
+use Rattle.gix_hash.specs.declared.kind.Kind.{Kind}
 use Rattle.history_model.specs.Places.{Pair}
 use Rattle.history_model.specs.Repository.{Repository}
 use Rattle.history_model.specs.StandsFor.{StandsWhole}

@@ -2,7 +2,7 @@
 use Rattle.std.proofs.Common.{◌≡◌, ℕ, ◌<◌, inl, inr, List, take, sym, ◌∙◌, ap, subst, arith, IsTrue, MatchBool}
 use Rattle.std.specs.Prelude.{pos, ◌≤ℤ◌}
 use Rattle.std.proofs.lemmas.Int.{ints}
-use Rattle.gix_hash_id.specs.Id.{Id}
+use Rattle.gix_hash.specs.Id.{Id}
 use Rattle.gix_traverse_graph.specs.Commits.{Commits, WalkRequest}
 use Rattle.gix_traverse_graph.specs.Order.{At, IsChosen}
 use Rattle.gix_traverse_graph.specs.Walks.{FinishedByDate, InSomeOrder, breadth, newest, oldest, date, topological, unfiltered}

@@ -12,8 +12,8 @@ use Rattle.gix_object_lines.specs.declared.kind.Kind.TheVariants as kinds
 use Rattle.history_model.specs.Bytes.{Bytes, by_bytes, has_twice}
 use Rattle.history_model.specs.FileMap.{FileMap, Content, Put, edited_by, folders_of, inside, beginnings, has_below, is_below}
 use Rattle.history_model.specs.Objects.{by_id, CommitValue, Value, StoredCommit, StoredFolder, StoredBytes, empty_tree_id, hex, digest, blob_id, tree_text, object_text, entry_text, root, root_within, folder_id, commit_content, content_of, id_of}
-use Rattle.gix_hash_id.specs.Id.{Id, null_id}
-use Rattle.gix_hash_id.specs.Order.{id_eq}
+use Rattle.gix_hash.specs.Id.{Id, null_id}
+use Rattle.gix_hash.specs.Order.{id_eq}
 use Rattle.history_model.specs.Repository.{fresh}
 use Rattle.history_model.specs.Forms.{max_content}
 use Rattle.history_model.specs.Commands.{Commit, EditLine, PutLine}
@@ -21,7 +21,7 @@ use Rattle.history_model.specs.Meaning.{new_commit, stored_by, first_files}
 use Rattle.history_model.specs.Causes.{first_cause, holds}
 use Rattle.history_model.specs.Rows.{content}
 use Rattle.history_model.specs.declared.Cause.TheVariants.{TooLarge}
-use Rattle.gix_hash_id.specs.declared.kind.Kind.TheVariants.{Sha1}
+use Rattle.gix_hash.specs.declared.kind.Kind.TheVariants.{Sha1}
 use Rattle.history_model.specs.declared.FileKind.TheVariants.{File}
 use Rattle.history_model.proofs.IdLemmas.{get_with_id, id_itself}
 use Rattle.history_model.proofs.RowLemmas.{entries-empty, text_with}

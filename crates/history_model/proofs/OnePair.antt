@@ -4,12 +4,12 @@ use Rattle.std.specs.FinMap.{FinMap, get}
 use Rattle.history_model.specs.Bytes.{Bytes, by_bytes}
 use Rattle.history_model.specs.FileMap.{FileMap}
 use Rattle.history_model.specs.Objects.{by_id, Value, CommitValue, StoredCommit, StoredTag, StoredBytes, StoredFolder, value_text, id_of}
-use Rattle.gix_hash_id.specs.Id.{Id}
+use Rattle.gix_hash.specs.Id.{Id}
 use Rattle.history_model.specs.Repository.{Repository, Reference, IsStored, IsWholeStore, id_at, moves_at}
 use Rattle.history_model.specs.Forms.{is_id}
 use Rattle.history_model.specs.Places.{Pair, object_place}
 use Rattle.history_model.specs.StandsFor.{StandsWhole, object_files, head_text}
-use Rattle.gix_hash_id.specs.declared.kind.Kind.{Kind}
+use Rattle.gix_hash.specs.declared.kind.Kind.{Kind}
 use Rattle.history_model.proofs.IdLemmas.{one_by_ids, digest_is_id}
 use Rattle.history_model.proofs.PlaceLemmas.{file_at_id}
 use Rattle.history_model.proofs.WholeLists.{texts_differ, none_is_some}

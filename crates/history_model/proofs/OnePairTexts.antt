@@ -7,10 +7,10 @@ use Rattle.std.proofs.lemmas.Fmt.{decimal_injective}
 use Rattle.hex.specs.Hex.{lower_digits}
 use Rattle.history_model.specs.Bytes.{Bytes, has_byte, begins, ends, is_empty}
 use Rattle.history_model.specs.Objects.{hex, Actor, actor_text}
-use Rattle.gix_hash_id.specs.Id.{Id}
-use Rattle.gix_hash_id.specs.Spelling.{hex_text}
+use Rattle.gix_hash.specs.Id.{Id}
+use Rattle.gix_hash.specs.Spelling.{hex_text}
 use Rattle.history_model.specs.Forms.{is_id, is_actor, is_actor_part, is_offset, max_seconds, max_actor_part}
-use Rattle.gix_hash_id.specs.declared.kind.Kind.{Kind}
+use Rattle.gix_hash.specs.declared.kind.Kind.{Kind}
 use Rattle.history_model.proofs.IdLemmas.{low_digit, id_digits, hex_tells}
 use Rattle.history_model.proofs.PartLemmas.{split_at, tail_same}
 use Rattle.history_model.proofs.WholeLists.{clash}

@@ -9,14 +9,14 @@ use Rattle.std.proofs.lemmas.Map.Text.{is_eq-slice_cmp}
 use Rattle.std.proofs.lemmas.Slice.Eq.{bytes_eq-Decides}
 use Rattle.history_model.specs.Bytes.{Bytes, by_bytes}
 use Rattle.history_model.specs.Objects.{by_id, Value, hex, digest, value_text}
-use Rattle.gix_hash_id.specs.Id.{Id}
-use Rattle.gix_hash_id.specs.Order.{id_eq}
-use Rattle.gix_hash_id.specs.Kind.{hex_len}
+use Rattle.gix_hash.specs.Id.{Id}
+use Rattle.gix_hash.specs.Order.{id_eq}
+use Rattle.gix_hash.specs.Kind.{hex_len}
 use Rattle.history_model.specs.Forms.{is_id}
 use Rattle.history_model.specs.Places.{object_place}
 use Rattle.history_model.specs.Repository.{Values, HaveOwnIds}
 use Rattle.history_model.specs.StandsFor.{value_files}
-use Rattle.gix_hash_id.specs.declared.kind.Kind.{Kind}
+use Rattle.gix_hash.specs.declared.kind.Kind.{Kind}
 use Rattle.history_model.proofs.IdLemmas.{has_kind, hex_tells, length-hex, one_id, id_itself, apart_ids, same_id_key, digest_is_id}
 use Rattle.history_model.proofs.PartLemmas.{head_same, tail_same}
 use Rattle.history_model.proofs.AfterFirstLemmas.{get-with}

@@ -17,7 +17,7 @@ use Rattle.history_model.specs.Places.{file_at, is_log_place, log_name, is_lock_
 use Rattle.history_model.specs.NameStates.{Absent, NameState, is_absent, loose_state, packed_text_state, name_state}
 use Rattle.history_model.specs.Recovery.{is_leftover, is_deserted, recovered_files, recovered_names, recovered_node, recovered_objects}
 use Rattle.history_model.specs.Laws.{RecoveryKeeps, RecoveryReads, RecoveryEnds}
-use Rattle.gix_hash_id.specs.declared.kind.Kind.{Kind}
+use Rattle.gix_hash.specs.declared.kind.Kind.{Kind}
 use Rattle.history_model.proofs.NameLemmas.{name-lock, name-log}
 use Rattle.std.proofs.lemmas.Bool.{and_parts, and_right}
 use Rattle.history_model.proofs.WholeStores.{same_tie}

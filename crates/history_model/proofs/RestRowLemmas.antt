@@ -11,7 +11,7 @@ use Rattle.history_model.specs.Rows.{first_command, xs, Gives, Refuses}
 use Rattle.history_model.specs.Repository.{fresh}
 use Rattle.history_model.specs.Replies.{reply_text, RefusedFor}
 use Rattle.history_model.specs.declared.Cause.{Cause}
-use Rattle.gix_hash_id.specs.declared.kind.Kind.TheVariants.{Sha1}
+use Rattle.gix_hash.specs.declared.kind.Kind.TheVariants.{Sha1}
 use Rattle.history_model.specs.declared.Cause.TheVariants.{Syntax, Truncated, LineTooLong}
 use Rattle.history_model.proofs.PartLemmas.{words_same, split_at, one_line}
 use Rattle.history_model.proofs.GrammarLemmas.{words_differ}

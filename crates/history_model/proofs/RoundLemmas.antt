@@ -21,7 +21,7 @@ use Rattle.history_model.specs.Rounds.{HasWritten, IsCutOff, Round, IsStoppedIn,
 use Rattle.history_model.specs.Laws.{RoundsJoin, WritesReplies, RunsEnd, RunsHaveWritten, TracesStop}
 use Rattle.history_model.specs.declared.End.{End}
 use Rattle.history_model.specs.declared.End.TheVariants.{Input, Refused as ByRefusal, Fault as ByFault}
-use Rattle.gix_hash_id.specs.declared.kind.Kind.{Kind}
+use Rattle.gix_hash.specs.declared.kind.Kind.{Kind}
 use Rattle.history_model.proofs.RecoveredLemmas.{recovered_stands}
 use Rattle.std.proofs.lemmas.Bool.{or_parts, not-false, or_right, or_left}
 use Rattle.std.proofs.lemmas.Option.{same_Some}

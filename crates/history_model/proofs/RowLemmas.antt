@@ -13,8 +13,8 @@ use Rattle.history_model.specs.Objects.{hex, digest, blob_text, blob_id, empty_t
 use Rattle.history_model.specs.Repository.{fresh, Reference}
 use Rattle.history_model.specs.Meaning.{new_commit}
 use Rattle.history_model.specs.Rows.{first_command, first_commit, three_files, content}
-use Rattle.gix_hash_id.specs.declared.kind.Kind.{Kind}
-use Rattle.gix_hash_id.specs.declared.kind.Kind.TheVariants.{Sha1, Sha256}
+use Rattle.gix_hash.specs.declared.kind.Kind.{Kind}
+use Rattle.gix_hash.specs.declared.kind.Kind.TheVariants.{Sha1, Sha256}
 use Rattle.history_model.specs.declared.FileKind.TheVariants.{Exec}
 use Rattle.gix_traverse_graph.proofs.Lists.{none_from_length}
 

@@ -9,7 +9,7 @@ use Rattle.std.proofs.lemmas.Slice.Eq.{bytes_eq-Decides}
 use Rattle.history_model.specs.Bytes.{Bytes, by_bytes}
 use Rattle.history_model.specs.FileMap.{FileMap}
 use Rattle.history_model.specs.Objects.{CommitValue, StoredFolder, id_of}
-use Rattle.gix_hash_id.specs.Id.{Id, null_id}
+use Rattle.gix_hash.specs.Id.{Id, null_id}
 use Rattle.history_model.specs.Repository.{Repository, Reference, id_at, stands, commit_at}
 use Rattle.history_model.specs.Commands.{Command, Commit, Tag, Move, Rename, Delete, Switch, Pack, Index, Names, Files, Past, Log, Show, LogCommand}
 use Rattle.history_model.specs.Replies.{Reply, RefusedFor, Faulted, LogIs, FilesAre, ShowsCommit, ShowsContent}

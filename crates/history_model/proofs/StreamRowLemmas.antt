@@ -9,15 +9,15 @@ use Rattle.gix_object_lines.specs.declared.kind.Kind.TheVariants as kinds
 use Rattle.history_model.specs.Bytes.{Bytes}
 use Rattle.history_model.specs.FileMap.{Content}
 use Rattle.history_model.specs.Objects.{by_id, Value, StoredCommit, StoredFolder, hex, digest, blob_id, empty_tree_id, tree_text, object_text, entry_text, value_text, folder_id}
-use Rattle.gix_hash_id.specs.Id.{Id, digits_of}
-use Rattle.gix_hash_id.specs.Order.{id_eq}
+use Rattle.gix_hash.specs.Id.{Id, digits_of}
+use Rattle.gix_hash.specs.Order.{id_eq}
 use Rattle.history_model.specs.Repository.{Repository}
 use Rattle.history_model.specs.Commands.{Commit, Files, Show}
 use Rattle.history_model.specs.Replies.{Reply, Faulted, FileLine, Committed, FilesAre, ShowsCommit, ShowsContent, reply_text}
 use Rattle.history_model.specs.Answers.{file_line, files_shown}
 use Rattle.history_model.specs.Steps.{is_faulted}
 use Rattle.history_model.specs.Rows.{Gives, content, first_stream, first_output, empty_file_stream, empty_file_output, hello_stream, hello_output, sample_actor}
-use Rattle.gix_hash_id.specs.declared.kind.Kind.TheVariants.{Sha1}
+use Rattle.gix_hash.specs.declared.kind.Kind.TheVariants.{Sha1}
 use Rattle.history_model.specs.declared.Fault.TheVariants.{File as ByFile}
 use Rattle.history_model.specs.declared.FileKind.TheVariants.{File}
 use Rattle.history_model.proofs.IdLemmas.{get_with_id}

@@ -5,7 +5,7 @@ use Rattle.std.specs.FinMap.{entries, keys}
 use Rattle.history_model.specs.Bytes.{Bytes}
 use Rattle.history_model.specs.FileMap.{FileMap, Content, inside, beginnings, folders_of, Edit, Put, Remove, RemoveFile, Graft, ComesFromFiles, grafted}
 use Rattle.history_model.specs.Objects.{Value, StoredCommit, StoredBytes, StoredFolder}
-use Rattle.gix_hash_id.specs.Id.{Id, null_id}
+use Rattle.gix_hash.specs.Id.{Id, null_id}
 use Rattle.history_model.specs.Repository.{Repository, HoldsCommit, IsStored, peeled, IsWholeStore}
 use Rattle.history_model.specs.Forms.{IsWrittenFiles, IsWritten}
 use Rattle.history_model.specs.Words.{WordMeaning, ReadsAs, Unborn, Unknown, Ambiguous, commit_read, commit_of, word_meaning}

@@ -5,8 +5,8 @@ use Rattle.std.specs.FinMap.{get, remove, contains_key}
 use Rattle.history_model.specs.Bytes.{Bytes, begins, has_byte, has_twice, is_empty, digits_value, is_decimal}
 use Rattle.history_model.specs.FileMap.{FileMap, is_path, components, inside, folders_of, Edit, Put, Remove, RemoveFile, Graft}
 use Rattle.history_model.specs.Objects.{Actor, Value, StoredCommit, StoredTag, StoredFolder, content_of, value_text, id_of}
-use Rattle.gix_hash_id.specs.Id.{Id, null_id}
-use Rattle.gix_hash_id.specs.Order.{id_eq}
+use Rattle.gix_hash.specs.Id.{Id, null_id}
+use Rattle.gix_hash.specs.Order.{id_eq}
 use Rattle.history_model.specs.Repository.{Repository, Reference, LogEntry, HoldsCommit, id_at, moves_at, stands, IsWholeStore, IsWhole}
 use Rattle.history_model.specs.Forms.{IsWritten, IsWrittenFiles, IsWrittenValue, HasForm, is_id, is_actor, is_actor_part, is_seconds, is_offset, is_name, is_private, is_branch, is_tag_name, is_commit_form, is_tag_form, is_log_entry, is_reference, title, max_title, max_content, max_parents, max_seconds}
 use Rattle.history_model.specs.Words.{commit_of, word_meaning, head_word}
@@ -14,7 +14,7 @@ use Rattle.history_model.specs.Commands.{Command, Commit, Tag, Move, Rename, Del
 use Rattle.history_model.specs.Meaning.{References, branch_or_name, read_actor, history_actor, parents_of, edits_of, new_commit, new_tag, tag_rest, put_bytes, stored_by, with_name, with_lines, moved_reference, names_after, branch_after, after}
 use Rattle.history_model.specs.CommandParts.{words_in, at_word, targets, names_in, actors_in, contents_in}
 use Rattle.history_model.specs.Causes.{first_cause, is_bad_actor, is_bad_title, is_bad_place, holds}
-use Rattle.gix_hash_id.specs.declared.kind.Kind.{Kind}
+use Rattle.gix_hash.specs.declared.kind.Kind.{Kind}
 use Rattle.history_model.specs.declared.Cause.TheVariants.{BadName, PrivateName, NoSuchName, TooManyParents, DuplicateParent, BadActor, BadTime, BadMessage, TooLarge}
 use Rattle.history_model.proofs.WholeLists.{In, in_right, in_either, in_map, in_flat, of_flat, none_is_some, none_passes, pass_all}
 use Rattle.history_model.proofs.WholePaths.{inner_below, begins_parts}

@@ -5,11 +5,11 @@ use Rattle.std.specs.FinMap.{FinMap, entries, keys, values, get, empty}
 use Rattle.history_model.specs.Bytes.{Bytes, by_bytes}
 use Rattle.history_model.specs.FileMap.{FileMap, Content, inside, beginnings}
 use Rattle.history_model.specs.Objects.{Value, CommitValue, StoredCommit, StoredTag, StoredBytes, StoredFolder, value_text, id_of, empty_tree_id, longest, digest, tree_text}
-use Rattle.gix_hash_id.specs.Id.{Id, null_id}
-use Rattle.gix_hash_id.specs.Order.{id_eq}
+use Rattle.gix_hash.specs.Id.{Id, null_id}
+use Rattle.gix_hash.specs.Order.{id_eq}
 use Rattle.history_model.specs.Repository.{Repository, Reference, IsStored, HoldsCommit, as_commit, NamesAreStored, named_ids, file_values, Reaches, named, by_way_of, IsWholeStore}
 use Rattle.history_model.specs.Meaning.{store_all, some_taken, is_other}
-use Rattle.gix_hash_id.specs.declared.kind.Kind.{Kind}
+use Rattle.gix_hash.specs.declared.kind.Kind.{Kind}
 use Rattle.history_model.proofs.RowLemmas.{entries-empty, root-empty}
 use Rattle.history_model.proofs.WholeLists.{In, all_in, in_all, in_either, of_map, of_flat, same_text, texts_differ, none_is_some, one_passes}
 use Rattle.history_model.proofs.WholePaths.{beginning_parts}

@@ -5,7 +5,7 @@ use Rattle.std.specs.FinMap.{FinMap, entries, keys, get, remove}
 use Rattle.history_model.specs.Bytes.{Bytes}
 use Rattle.history_model.specs.FileMap.{is_below, folders_of}
 use Rattle.history_model.specs.Objects.{by_id, Actor, Value, StoredCommit, StoredTag, StoredBytes, StoredFolder, id_of}
-use Rattle.gix_hash_id.specs.Id.{Id, null_id}
+use Rattle.gix_hash.specs.Id.{Id, null_id}
 use Rattle.history_model.specs.Repository.{Repository, Reference, HoldsCommit, peeled_value, id_at, stands, HasWholeNames, IsWhole}
 use Rattle.history_model.specs.Forms.{IsWritten, title}
 use Rattle.history_model.specs.Words.{commit_of, word_meaning}

@@ -5,7 +5,7 @@ use Rattle.std.specs.FinMap.{entries, get, get-empty, empty, contains_key, retai
 use Rattle.history_model.specs.Bytes.{Bytes, by_bytes, has_byte}
 use Rattle.history_model.specs.FileMap.{FileMap, Content, is_path, components, is_within, Edit, Put, Remove, RemoveFile, Graft, ComesFromFiles, edited, edited_by, edit_path, cleared, carried, grafted, grafted_paths}
 use Rattle.history_model.specs.Objects.{Value, CommitValue, StoredCommit, StoredTag, StoredBytes, StoredFolder, id_of}
-use Rattle.gix_hash_id.specs.Id.{Id}
+use Rattle.gix_hash.specs.Id.{Id}
 use Rattle.history_model.specs.Repository.{Repository, IsStored, HoldsCommit, as_commit, peeled, peeled_value, id_at, IsWholeStore}
 use Rattle.history_model.specs.Forms.{IsWrittenFiles, IsWritten, max_path}
 use Rattle.history_model.specs.Words.{WordMeaning, ReadsAs, Unborn, Unknown, Ambiguous, commit_read, commit_of, word_meaning}

@@ -7,8 +7,8 @@ use Rattle.history_model.specs.FileMap.{FileMap, Content, is_below, inside, begi
 use Rattle.history_model.specs.Objects.{digest, TreeEntry, FileEntry, FolderEntry, tree_entries, mode_of, entry_text, tree_entry_text, root_within, longest, root, blob_text, tree_text, Value, StoredBytes, StoredFolder, value_text, id_of}
 use Rattle.history_model.specs.Repository.{file_values}
 use Rattle.history_model.specs.Forms.{is_id}
-use Rattle.gix_hash_id.specs.Id.{Id, raw_bytes}
-use Rattle.gix_hash_id.specs.declared.kind.Kind.{Kind}
+use Rattle.gix_hash.specs.Id.{Id, raw_bytes}
+use Rattle.gix_hash.specs.declared.kind.Kind.{Kind}
 use Rattle.history_model.specs.declared.FileKind.{FileKind}
 use Rattle.history_model.specs.declared.FileKind.TheVariants.{File, Exec, Link}
 use Rattle.history_model.proofs.PartLemmas.{split_at}

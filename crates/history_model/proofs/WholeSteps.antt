@@ -3,7 +3,7 @@ use Rattle.std.proofs.Common.{◌≡◌, zero, suc, Bool, true, false, cond, not
 use Rattle.std.specs.List.{list_all}
 use Rattle.std.specs.FinMap.{get}
 use Rattle.history_model.specs.Bytes.{Bytes}
-use Rattle.gix_hash_id.specs.Id.{Id}
+use Rattle.gix_hash.specs.Id.{Id}
 use Rattle.history_model.specs.Repository.{Repository, Reference, IsWhole, id_at, moves_at}
 use Rattle.history_model.specs.Forms.{IsWritten, IsWrittenValue, is_id, is_name, is_private, is_branch, is_reference, is_log_entry}
 use Rattle.history_model.specs.Commands.{Command}

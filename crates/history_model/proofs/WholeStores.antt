@@ -8,10 +8,10 @@ use Rattle.std.proofs.lemmas.Map.Text.{is_eq-slice_cmp}
 use Rattle.history_model.specs.Bytes.{Bytes, by_bytes}
 use Rattle.history_model.specs.FileMap.{FileMap, inside}
 use Rattle.history_model.specs.Objects.{by_id, Value, StoredCommit, StoredTag, StoredBytes, StoredFolder, value_text, id_of, empty_tree_id}
-use Rattle.gix_hash_id.specs.Id.{Id, null_id}
-use Rattle.gix_hash_id.specs.Order.{id_eq}
+use Rattle.gix_hash.specs.Id.{Id, null_id}
+use Rattle.gix_hash.specs.Order.{id_eq}
 use Rattle.history_model.specs.Meaning.{store_one, store_all, is_other, is_taken, some_taken}
-use Rattle.gix_hash_id.specs.declared.kind.Kind.{Kind}
+use Rattle.gix_hash.specs.declared.kind.Kind.{Kind}
 use Rattle.history_model.proofs.WholeLists.{In, clash, same_text, text_itself, texts_differ, none_is_some}
 use Rattle.history_model.proofs.IdLemmas.{one_id, id_itself, get_with_id}
 use Rattle.history_model.proofs.WholeTexts.{text_same}

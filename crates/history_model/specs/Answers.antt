@@ -5,8 +5,8 @@ use Rattle.std.specs.FinMap.{entries, keys, get, len}
 use Rattle.history_model.specs.Bytes.{Bytes, begins, digits_value}
 use Rattle.history_model.specs.FileMap.{FileMap, Content, cut_to}
 use Rattle.history_model.specs.Objects.{CommitValue, StoredCommit, StoredTag, id_of, blob_id, folder_id}
-use Rattle.gix_hash_id.specs.declared.kind.Kind.{Kind}
-use Rattle.gix_hash_id.specs.Id.{Id, null_id}
+use Rattle.gix_hash.specs.declared.kind.Kind.{Kind}
+use Rattle.gix_hash.specs.Id.{Id, null_id}
 use Rattle.history_model.specs.Repository.{Repository, Reference, moves_at, commit_at, peeled}
 use Rattle.history_model.specs.Words.{commit_of}
 use Rattle.history_model.specs.Commands.{Command, Commit, Tag, Move, Rename, Delete, Switch, Pack, Index, Names, Files, Past, Log, Show, LogCommand, Order, Breadth, Newest, Oldest, NewestSince, OldestSince, Date, Topological, LogItem, Tip, Hidden}

@@ -5,8 +5,8 @@ use Rattle.std.specs.FinMap.{keys, get}
 use Rattle.history_model.specs.Bytes.{Bytes, begins, has_byte, has_twice, is_empty}
 use Rattle.history_model.specs.FileMap.{some_refused, has_below, is_below, is_path, grafted_paths, grafts_nothing}
 use Rattle.history_model.specs.Objects.{content_of, id_of, StoredTag}
-use Rattle.gix_hash_id.specs.Id.{Id}
-use Rattle.gix_hash_id.specs.Order.{id_eq}
+use Rattle.gix_hash.specs.Id.{Id}
+use Rattle.gix_hash.specs.Order.{id_eq}
 use Rattle.history_model.specs.Repository.{Repository, id_at, stands, is_tag, peeled}
 use Rattle.history_model.specs.Forms.{heads_front, tags_front, is_name, is_private, is_tag_name, is_actor_part, is_seconds, is_offset, title, max_title, max_path, max_content, max_parents}
 use Rattle.history_model.specs.Words.{WordMeaning, ReadsAs, Unborn, Unknown, Ambiguous, word_meaning, commit_of}

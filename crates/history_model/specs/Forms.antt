@@ -8,11 +8,11 @@ use Rattle.history_model.specs.Bytes.{Bytes, begins, ends, has_byte, has_twice, 
 use Rattle.gix_object_lines.specs.NameTest.{is_partial_name}
 use Rattle.history_model.specs.FileMap.{FileMap, IsFileMap}
 use Rattle.history_model.specs.Objects.{Actor, CommitValue, TagValue, Value, StoredCommit, StoredTag, StoredBytes, StoredFolder, content_of}
-use Rattle.gix_hash_id.specs.Id.{Id}
-use Rattle.gix_hash_id.specs.Kind.{hex_len, kind_number}
-use Rattle.gix_hash_id.specs.Order.{id_eq}
+use Rattle.gix_hash.specs.Id.{Id}
+use Rattle.gix_hash.specs.Kind.{hex_len, kind_number}
+use Rattle.gix_hash.specs.Order.{id_eq}
 use Rattle.history_model.specs.Repository.{LogEntry, Reference, Repository}
-use Rattle.gix_hash_id.specs.declared.kind.Kind.{Kind}
+use Rattle.gix_hash.specs.declared.kind.Kind.{Kind}
 
 -- the most bytes of any object's content
 abbrev pub max_content : ℕ

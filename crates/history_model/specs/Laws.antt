@@ -8,7 +8,7 @@ use Rattle.gix_ref_file.specs.Tree.{Tree, file, folder}
 use Rattle.history_model.specs.Bytes.{Bytes, by_bytes}
 use Rattle.history_model.specs.FileMap.{FileMap, Edit, cut_to, IsFileMap, edited_by, edit_path, is_path, ComesFromFiles}
 use Rattle.history_model.specs.Objects.{StoredFolder, entry_at}
-use Rattle.gix_hash_id.specs.Id.{Id}
+use Rattle.gix_hash.specs.Id.{Id}
 use Rattle.history_model.specs.Repository.{Repository, IsWhole, id_at, moves_at, peeled, first_branch, fresh}
 use Rattle.history_model.specs.Commands.{Command, Rename, Pack, Files, Log, LogCommand, Order, Breadth, Topological}
 use Rattle.history_model.specs.Answers.{commits_of, walk_request, IsWalk, kept, time_at}
@@ -25,7 +25,7 @@ use Rattle.history_model.specs.Steps.{Step, goes_on, is_faulted, next}
 use Rattle.history_model.specs.Runs.{BeginsWith, Runs, EndsReading, EndsWriting}
 use Rattle.history_model.specs.Moments.{Moment, IsPairAt, IsRunPair, LeavesStopped, Traces}
 use Rattle.history_model.specs.Rounds.{HasWritten, Round, IsRunOf, AreRounds, last_left, Outcomes}
-use Rattle.gix_hash_id.specs.declared.kind.Kind.{Kind}
+use Rattle.gix_hash.specs.declared.kind.Kind.{Kind}
 use Rattle.history_model.specs.declared.End.{End}
 use Rattle.history_model.specs.declared.End.TheVariants.{Input, Fault as ByFault}
 

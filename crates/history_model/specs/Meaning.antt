@@ -5,13 +5,13 @@ use Rattle.std.specs.FinMap.{FinMap, get, insert, remove, contains_key, empty}
 use Rattle.history_model.specs.Bytes.{Bytes, by_bytes, digits_value}
 use Rattle.history_model.specs.FileMap.{FileMap, Edit, Put, Remove, RemoveFile, Graft, edited_by, folders_of}
 use Rattle.history_model.specs.Objects.{by_id, Actor, CommitValue, TagValue, Value, StoredCommit, StoredTag, StoredBytes, StoredFolder, value_text, id_of, empty_tree_id}
-use Rattle.gix_hash_id.specs.Order.{id_eq}
-use Rattle.gix_hash_id.specs.Id.{Id, null_id}
+use Rattle.gix_hash.specs.Order.{id_eq}
+use Rattle.gix_hash.specs.Id.{Id, null_id}
 use Rattle.history_model.specs.Repository.{Reference, Repository, id_at, moves_at, stands, commit_at, peeled}
 use Rattle.history_model.specs.Forms.{title, is_name}
 use Rattle.history_model.specs.Words.{head_word, candidates, commit_of}
 use Rattle.history_model.specs.Commands.{Command, Commit, Tag, Move, Rename, Delete, Switch, ActorLine, EditLine, PutLine, RemoveLine, RemoveFileLine, GraftLine, CommitCommand, TagCommand, To}
-use Rattle.gix_hash_id.specs.declared.kind.Kind.{Kind}
+use Rattle.gix_hash.specs.declared.kind.Kind.{Kind}
 
 -- ---- what is read before anything is stored
 

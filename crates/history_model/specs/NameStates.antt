@@ -2,11 +2,11 @@
 use Rattle.std.specs.Prelude.{Bool, true, false, ◌&&◌, drop, find, if◌then◌else◌, option_map, unwrap_or, bytes_eq, codes}
 use Rattle.gix_ref_file.specs.Tree.{Tree}
 use Rattle.history_model.specs.Bytes.{Bytes, begins}
-use Rattle.gix_hash_id.specs.Id.{Id}
+use Rattle.gix_hash.specs.Id.{Id}
 use Rattle.history_model.specs.Forms.{is_name, is_private}
 use Rattle.history_model.specs.Places.{file_at, packed_place}
 use Rattle.history_model.specs.PackedNames.{PackedFile, packed_file, id_from_hex, whole_line}
-use Rattle.gix_hash_id.specs.declared.kind.Kind.{Kind}
+use Rattle.gix_hash.specs.declared.kind.Kind.{Kind}
 
 pub data NameState : Type 0 where
   Holds : Id → NameState

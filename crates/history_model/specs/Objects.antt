@@ -5,11 +5,11 @@ use Rattle.std.specs.Prelude.{ℕ, zero, suc, List, [], ◌∷◌, ◌++◌, len
 use Rattle.std.specs.List.{flat_map, before_first, after_first}
 use Rattle.std.specs.FinMap.{entries, keys, get}
 use Rattle.std.specs.declared.cmp.Ordering.{Ordering}
-use Rattle.gix_hash_id.specs.declared.kind.Kind.{Kind}
-use Rattle.gix_hash_id.specs.Id.{Id, raw_bytes}
-use Rattle.gix_hash_id.specs.Order.{id_cmp}
-use Rattle.gix_hash_id.specs.Spelling.{hex_text}
-use Rattle.gix_hash_id.specs.Hasher.{id_of_message}
+use Rattle.gix_hash.specs.declared.kind.Kind.{Kind}
+use Rattle.gix_hash.specs.Id.{Id, raw_bytes}
+use Rattle.gix_hash.specs.Order.{id_cmp}
+use Rattle.gix_hash.specs.Spelling.{hex_text}
+use Rattle.gix_hash.specs.Hasher.{id_of_message}
 use Rattle.gix_object_lines.specs.Header.{header_text}
 use Rattle.gix_object_lines.specs.declared.kind.Kind.{Kind as ObjectKind}
 use Rattle.gix_object_lines.specs.declared.kind.Kind.TheVariants as objects

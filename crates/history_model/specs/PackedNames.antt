@@ -10,7 +10,7 @@ pub use Rattle.gix_ref_format.specs.Ids.{id_from_hex}
 use Rattle.history_model.specs.Bytes.{Bytes, by_bytes, ends, has_byte, has_twice}
 use Rattle.history_model.specs.Repository.{Repository, peeled, is_tag}
 use Rattle.history_model.specs.Forms.{is_name, is_private}
-use Rattle.gix_hash_id.specs.declared.kind.Kind.{Kind}
+use Rattle.gix_hash.specs.declared.kind.Kind.{Kind}
 
 -- the text before the line feed at its end, if it ends with one
 abbrev pub whole_line : Bytes → Option Bytes

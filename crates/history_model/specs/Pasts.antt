@@ -2,8 +2,8 @@
 use Rattle.std.specs.Prelude.{◌≡◌, Bool, ◌&&◌, List, [], ◌∷◌, ◌++◌, unwrap_or, codes, IsFalse, if◌then◌else◌}
 use Rattle.history_model.specs.Bytes.{Bytes}
 use Rattle.history_model.specs.Objects.{Actor}
-use Rattle.gix_hash_id.specs.Order.{id_eq}
-use Rattle.gix_hash_id.specs.Id.{null_id}
+use Rattle.gix_hash.specs.Order.{id_eq}
+use Rattle.gix_hash.specs.Id.{null_id}
 use Rattle.history_model.specs.Repository.{LogEntry, Repository, id_at, moves_at, stands}
 use Rattle.history_model.specs.Forms.{title}
 use Rattle.history_model.specs.Commands.{Command, Commit, Tag, Move}

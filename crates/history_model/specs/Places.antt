@@ -6,7 +6,7 @@ use Rattle.gix_ref_file.specs.Tree.{Tree, node_at, bytes_of}
 use Rattle.history_model.specs.Bytes.{Bytes, begins, ends}
 use Rattle.history_model.specs.FileMap.{is_within}
 use Rattle.history_model.specs.Objects.{hex}
-use Rattle.gix_hash_id.specs.Id.{Id}
+use Rattle.gix_hash.specs.Id.{Id}
 use Rattle.history_model.specs.Repository.{Repository, stands}
 use Rattle.history_model.specs.Words.{head_word}
 

@@ -8,7 +8,7 @@ use Rattle.history_model.specs.FileMap.{is_below}
 use Rattle.history_model.specs.Logs.{whole_lines}
 use Rattle.history_model.specs.Places.{Pair, file_at, unfinished_place, is_log_place, log_name, is_lock_file}
 use Rattle.history_model.specs.NameStates.{name_state, is_absent}
-use Rattle.gix_hash_id.specs.declared.kind.Kind.{Kind}
+use Rattle.gix_hash.specs.declared.kind.Kind.{Kind}
 
 -- without the file of an object that was not renamed to its place
 abbrev pub recovered_objects : Tree → Tree

@@ -5,9 +5,9 @@ use Rattle.std.specs.FinMap.{FinMap, get, values, empty}
 use Rattle.history_model.specs.Bytes.{Bytes, by_bytes}
 use Rattle.history_model.specs.FileMap.{FileMap, folders_of, is_below}
 use Rattle.history_model.specs.Objects.{by_id, Actor, CommitValue, Value, StoredCommit, StoredTag, StoredBytes, StoredFolder, id_of, empty_tree_id}
-use Rattle.gix_hash_id.specs.Order.{id_eq}
-use Rattle.gix_hash_id.specs.Id.{Id, null_id}
-use Rattle.gix_hash_id.specs.declared.kind.Kind.{Kind}
+use Rattle.gix_hash.specs.Order.{id_eq}
+use Rattle.gix_hash.specs.Id.{Id, null_id}
+use Rattle.gix_hash.specs.declared.kind.Kind.{Kind}
 
 -- One move of a name, a line of its log. The old id is null if the move creates the name.
 pub record LogEntry : Type 0 where

@@ -15,7 +15,7 @@ use Rattle.history_model.specs.Stops.{LeftByStop}
 use Rattle.history_model.specs.Steps.{Steps, some_failed}
 use Rattle.history_model.specs.Runs.{BeginsWith}
 use Rattle.history_model.specs.Moments.{Moment, IsPairAt, IsStepPair, ActedOn, Traces}
-use Rattle.gix_hash_id.specs.declared.kind.Kind.{Kind}
+use Rattle.gix_hash.specs.declared.kind.Kind.{Kind}
 use Rattle.history_model.specs.declared.Cause.{Cause}
 use Rattle.history_model.specs.declared.Fault.TheVariants.{Memory}
 

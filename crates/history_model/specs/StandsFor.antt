@@ -4,14 +4,14 @@ use Rattle.std.specs.FinMap.{FinMap, entries, get, from_entries}
 use Rattle.gix_ref_file.specs.Tree.{folder}
 use Rattle.history_model.specs.Bytes.{Bytes, by_bytes, line}
 use Rattle.history_model.specs.Objects.{value_text}
-use Rattle.gix_hash_id.specs.Id.{Id}
+use Rattle.gix_hash.specs.Id.{Id}
 use Rattle.history_model.specs.Repository.{Repository, Values, IsWhole, id_at, moves_at}
 use Rattle.history_model.specs.Forms.{IsWritten}
 use Rattle.history_model.specs.Places.{Pair, file_at, object_place, is_object_folder, head_place, packed_place, log_place, is_name_place, is_name_folder}
 use Rattle.history_model.specs.PackedNames.{packed_file, PackedAgrees}
 use Rattle.history_model.specs.Logs.{log_text}
 use Rattle.history_model.specs.NameStates.{Holds, name_state}
-use Rattle.gix_hash_id.specs.declared.kind.Kind.{Kind}
+use Rattle.gix_hash.specs.declared.kind.Kind.{Kind}
 
 -- each value's text at its place
 abbrev pub value_files : Kind → Values → FinMap by_bytes Bytes

@@ -11,7 +11,7 @@ use Rattle.history_model.specs.Places.{Pair}
 use Rattle.history_model.specs.StandsFor.{StandsWhole}
 use Rattle.history_model.specs.Stops.{LeftByStop, StoresBetween}
 use Rattle.history_model.specs.Steps.{Step, Steps}
-use Rattle.gix_hash_id.specs.declared.kind.Kind.{Kind}
+use Rattle.gix_hash.specs.declared.kind.Kind.{Kind}
 
 -- whole, with each part in written form
 pub record IsSound (r : Repository) : Type 0 where

@@ -6,9 +6,9 @@ use Rattle.std.specs.FinMap.{keys}
 use Rattle.hex.specs.Hex.{is_hex_digit}
 use Rattle.history_model.specs.Bytes.{Bytes, begins, lower}
 use Rattle.history_model.specs.Objects.{hex}
-use Rattle.gix_hash_id.specs.Id.{Id}
-use Rattle.gix_hash_id.specs.Kind.{hex_len}
-use Rattle.gix_hash_id.specs.declared.kind.Kind.{Kind}
+use Rattle.gix_hash.specs.Id.{Id}
+use Rattle.gix_hash.specs.Kind.{hex_len}
+use Rattle.gix_hash.specs.declared.kind.Kind.{Kind}
 use Rattle.history_model.specs.Forms.{refs_front, heads_front, tags_front, is_private}
 use Rattle.history_model.specs.Repository.{Repository, id_at, stands, peeled}
 

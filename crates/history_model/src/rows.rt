@@ -8,7 +8,7 @@ ghost use Rattle.history_model.specs.Rows.{Gives, Refuses, first_commit, first_s
 ghost use Rattle.history_model.specs.Rows.{hello_stream, hello_output, three_files, content, lines, lib_files, GraftMakes, xs};
 ghost use Rattle.history_model.specs.FileMap.{Graft, edited, grafts_nothing};
 ghost use Rattle.history_model.specs.Commands.{GraftLine};
-ghost use Rattle.gix_hash_id.specs.declared.kind.Kind.TheVariants.{Sha1, Sha256};
+ghost use Rattle.gix_hash.specs.declared.kind.Kind.TheVariants.{Sha1, Sha256};
 
 /// Ids of blobs and of the empty tree in both kinds; the first commit's 99 bytes and id; the tree
 /// of three files in their order.

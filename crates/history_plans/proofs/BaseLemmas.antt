@@ -6,8 +6,8 @@ use Rattle.std.proofs.Common.{◌≡◌, ℕ, zero, suc, arith, ◌+◌, ◌<◌
 use Rattle.std.specs.List.{AllByRecursion, cons_option, list_any, filter_map, flat_map}
 use Rattle.std.proofs.lemmas.List.{map-append, take_more}
 use Rattle.history_model.specs.Bytes.{Bytes, has_twice}
-use Rattle.gix_hash_id.specs.Id.{Id, id_of}
-use Rattle.gix_hash_id.specs.Order.{id_eq}
+use Rattle.gix_hash.specs.Id.{Id, id_of}
+use Rattle.gix_hash.specs.Order.{id_eq}
 use Rattle.history_model.specs.Repository.{IsWholeStore, Repository, stands}
 use Rattle.history_model.specs.Words.{commit_of, word_meaning}
 use Rattle.history_model.proofs.WholeReads.{read_holds}
@@ -18,7 +18,7 @@ use Rattle.history_model.specs.Causes.{is_new, is_at, is_elsewhere, same_id}
 use Rattle.history_model.specs.declared.Cause.{Cause}
 use Rattle.history_model.specs.declared.Cause.TheVariants.{NoSuchName, Taken, NotExpected}
 use Rattle.history_word.specs.Commands.{IsExpect}
-use Rattle.gix_hash_id.specs.declared.object_id.ObjectId.{ObjectId}
+use Rattle.gix_hash.specs.declared.object_id.ObjectId.{ObjectId}
 use Rattle.history_repository.specs.Reads.{IsReadingFault, GivesMeant}
 use Rattle.history_plans.specs.Bases.{IsExpected, IsHeldSource, IsRootedSource, IsRootedWord, expected_meanings, line_word, source_id, held_cause, parents_cause}
 use Rattle.history_repository.specs.Meanings.{HasRootIn, words_cause, reads_as, commit_in, commit_or_cause, meaning_of, peeled_in}

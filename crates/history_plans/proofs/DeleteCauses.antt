@@ -1,9 +1,9 @@
 -- What a `delete` is refused for.
 use Rattle.std.proofs.Common.{◌≡◌, Bool, true, false, cond, not, ◌||◌, List, [], ◌∷◌, ◌++◌, map, refl, sym, ◌∙◌, ap, subst, Option, Some, None, option_map, is_some}
 use Rattle.std.specs.Prelude.{Result, Err}
-use Rattle.gix_hash_id.specs.Id.{Id, id_of}
-use Rattle.gix_hash_id.specs.Order.{id_eq}
-use Rattle.gix_hash_id.specs.declared.object_id.ObjectId.{ObjectId}
+use Rattle.gix_hash.specs.Id.{Id, id_of}
+use Rattle.gix_hash.specs.Order.{id_eq}
+use Rattle.gix_hash.specs.declared.object_id.ObjectId.{ObjectId}
 use Rattle.history_model.specs.Bytes.{Bytes}
 use Rattle.history_model.specs.Repository.{stands}
 use Rattle.history_model.specs.Forms.{is_name, is_private}

@@ -11,11 +11,11 @@ use Rattle.history_model.specs.Commands.{EditLine, PutLine, RemoveLine, RemoveFi
 use Rattle.history_model.specs.CommandParts.{edit_paths, put_contents, source_paths}
 use Rattle.history_model.specs.Meaning.{put_bytes, read_edit, word_files}
 use Rattle.history_model.specs.Causes.{is_bad_path}
-use Rattle.gix_hash_id.specs.declared.kind.Kind.{Kind}
+use Rattle.gix_hash.specs.declared.kind.Kind.{Kind}
 use Rattle.history_files.specs.Editing.{HavePaths, Names, NameEdits}
 use Rattle.history_files.specs.Laws.{table_of}
 use Rattle.history_files.specs.declared.edits.Change.{Change}
-use Rattle.history_objects.specs.Stores.{AreObjectsOf}
+use Rattle.history_store.specs.Stores.{AreObjectsOf}
 use Rattle.history_texts.specs.declared.object.NewObject.{NewObject}
 use Rattle.history_word.specs.Commands.{AreEdits, IsEdit}
 use Rattle.history_model.specs.Forms.{max_content, max_path}

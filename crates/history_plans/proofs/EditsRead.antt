@@ -14,7 +14,7 @@ use Rattle.history_model.specs.CommandParts.{edit_paths}
 use Rattle.history_model.specs.Causes.{is_bad_path}
 use Rattle.history_model.specs.Meaning.{put_bytes}
 use Rattle.history_files.specs.declared.found.Found.{Found}
-use Rattle.history_objects.specs.Stores.{AreObjectsOf}
+use Rattle.history_store.specs.Stores.{AreObjectsOf}
 use Rattle.history_texts.specs.declared.object.NewObject.{NewObject}
 use Rattle.history_word.specs.Commands.{AreEdits, IsEdit}
 use Rattle.history_word.specs.declared.command.Edit.{Edit}

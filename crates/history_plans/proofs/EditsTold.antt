@@ -1,9 +1,9 @@
 -- What edits of files report if they fail.
 use Rattle.std.proofs.Common.{◌≡◌, refl, sym, ◌∙◌, subst, List, [], ◌∷◌}
 use Rattle.std.specs.Prelude.{Option, Some, None, Result, Ok, Err, IfOk, IfErr, option_map}
-use Rattle.gix_hash_id.specs.Id.{Id, id_of}
-use Rattle.gix_hash_id.specs.declared.kind.Kind.{Kind}
-use Rattle.gix_hash_id.specs.declared.object_id.ObjectId.{ObjectId}
+use Rattle.gix_hash.specs.Id.{Id, id_of}
+use Rattle.gix_hash.specs.declared.kind.Kind.{Kind}
+use Rattle.gix_hash.specs.declared.object_id.ObjectId.{ObjectId}
 use Rattle.gix_object_lookup.specs.Table.{Table}
 use Rattle.gix_ref_file.specs.History.{History}
 use Rattle.history_model.specs.FileMap.{FileMap}
@@ -11,7 +11,7 @@ use Rattle.history_model.specs.Meaning.{files_at, first_files}
 use Rattle.history_files.specs.Editing.{AreEdited, EditsFault, HavePaths, IsBase, NameEdits, OfEdits}
 use Rattle.history_files.specs.declared.trees.EditedFiles.{EditedFiles}
 use Rattle.history_files.specs.declared.edits.EditError.{EditError}
-use Rattle.history_objects.specs.KnownObjects.{table_of, HoldsKnown}
+use Rattle.history_store.specs.KnownObjects.{table_of, HoldsKnown}
 use Rattle.history_plans.specs.Files.{TellsEdited, unmade}
 use Rattle.history_repository.specs.TreesBefore.{IsTreeBefore}
 use Rattle.history_repository.specs.Stands.{Stands}

@@ -4,8 +4,8 @@ use Rattle.std.specs.Prelude.{is_none}
 use Rattle.std.specs.List.{list_any}
 use Rattle.std.specs.FinMap.{entries, get}
 use Rattle.gix_object_lookup.specs.Table.{Table}
-use Rattle.gix_hash_id.specs.declared.kind.Kind.{Kind}
-use Rattle.gix_hash_id.specs.declared.object_id.ObjectId.{ObjectId}
+use Rattle.gix_hash.specs.declared.kind.Kind.{Kind}
+use Rattle.gix_hash.specs.declared.object_id.ObjectId.{ObjectId}
 use Rattle.history_model.specs.Bytes.{Bytes, is_empty}
 use Rattle.history_model.specs.FileMap.{Content, FileMap, Graft, IsFileMap, carried, grafted_paths, grafts_nothing, is_path, with_rest}
 use Rattle.history_model.specs.Causes.{is_bad_path}

@@ -7,8 +7,8 @@ use Rattle.std.specs.FinMap.{keys}
 use Rattle.std.proofs.lemmas.List.{map-append}
 use Rattle.std.proofs.lemmas.List.Folds.{list_all-append, list_any-append}
 use Rattle.std.proofs.lemmas.Bool.{and_parts, or_from}
-use Rattle.gix_hash_id.specs.Id.{id_of, null_id}
-use Rattle.gix_hash_id.specs.declared.object_id.ObjectId.{ObjectId}
+use Rattle.gix_hash.specs.Id.{id_of, null_id}
+use Rattle.gix_hash.specs.declared.object_id.ObjectId.{ObjectId}
 use Rattle.gix_ref_file.specs.declared.files.FileError.{FileError}
 use Rattle.gix_ref_file.specs.declared.files.FileError.TheVariants.{Failed, Memory as NoMemory}
 use Rattle.history_model.specs.Bytes.{Bytes}
@@ -36,7 +36,7 @@ use Rattle.history_plans.specs.declared.base.Expected.{Expected}
 use Rattle.history_repository.specs.Held.{held_id}
 use Rattle.history_repository.specs.declared.held.Held.{Held}
 use Rattle.history_plans.specs.declared.moving.Line.{Line}
-use Rattle.history_names.specs.declared.changing.MovedName.{MovedName}
+use Rattle.history_store.specs.declared.changing.MovedName.{MovedName}
 use Rattle.history_repository.specs.declared.stopped.Stopped.{Stopped}
 use Rattle.history_plans.proofs.FirstCauses.{find_after_none, find_in_front, here, passed}
 use Rattle.history_repository.proofs.WordCauses.{any_map, commit_told, words_told as all_words_told}

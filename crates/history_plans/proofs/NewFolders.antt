@@ -3,10 +3,10 @@ use Rattle.std.proofs.Common.{◌≡◌, ◌⊎◌, inl, inr, refl, sym, ◌∙�
 use Rattle.std.specs.Prelude.{Contains}
 use Rattle.std.specs.List.{AllByRecursion, list_any, flat_map}
 use Rattle.std.specs.FinMap.{empty, get, keys, values}
-use Rattle.gix_hash_id.specs.Id as object_id
-use Rattle.gix_hash_id.specs.Id.{Id, null_id}
-use Rattle.gix_hash_id.specs.Order.{id_eq}
-use Rattle.gix_hash_id.specs.declared.kind.Kind.{Kind}
+use Rattle.gix_hash.specs.Id as object_id
+use Rattle.gix_hash.specs.Id.{Id, null_id}
+use Rattle.gix_hash.specs.Order.{id_eq}
+use Rattle.gix_hash.specs.declared.kind.Kind.{Kind}
 use Rattle.gix_object_lines.specs.declared.kind.Kind.TheVariants as kinds
 use Rattle.history_model.specs.Bytes.{Bytes, by_bytes, is_empty}
 use Rattle.history_model.specs.FileMap.{FileMap, Content, Edit, Graft, beginnings, folders_of, inside}
@@ -28,7 +28,7 @@ use Rattle.history_model.proofs.WholeTexts.{text_same}
 use Rattle.history_files.specs.Entries.{other_folders, own_folders}
 use Rattle.history_files.specs.Editing.{AreGiven, AreTreesOf, HasTreeOf, HaveNull, standing, values_of}
 use Rattle.history_files.specs.declared.trees.EditedTree.{EditedTree}
-use Rattle.history_objects.specs.Stores.{AreObjectsOf}
+use Rattle.history_store.specs.Stores.{AreObjectsOf}
 use Rattle.history_texts.specs.declared.object.NewObject.{NewObject}
 use Rattle.history_plans.specs.CommitCauses.{is_long}
 use Rattle.history_plans.specs.Plans.{is_long_tree, object_parts, tree_parts}

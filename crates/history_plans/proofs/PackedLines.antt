@@ -6,8 +6,8 @@ use Rattle.std.specs.FinMap.{entries, find, get, get-entries}
 use Rattle.std.specs.Ordering.{eq_by_cmp}
 use Rattle.std.proofs.lemmas.Bool.{and_parts}
 use Rattle.std.proofs.lemmas.List.{map-append}
-use Rattle.gix_hash_id.specs.Id.{Id, null_id}
-use Rattle.gix_hash_id.specs.Order.{id_eq}
+use Rattle.gix_hash.specs.Id.{Id, null_id}
+use Rattle.gix_hash.specs.Order.{id_eq}
 use Rattle.gix_object_lines.specs.NameTest.{is_full_name}
 use Rattle.gix_ref_format.specs.Packed.{Record}
 use Rattle.gix_ref_format.specs.PackedBuffer.{hit}
@@ -22,8 +22,8 @@ use Rattle.history_model.proofs.WholeLists.{In, same_text}
 use Rattle.history_model.proofs.WholeStores.{in_get}
 use Rattle.history_layout.specs.PackSteps.{record_for}
 use Rattle.history_layout.proofs.OfferedReads.{tags_stand_for_others}
-use Rattle.history_names.specs.Packed.{record_of_name, records_of}
-use Rattle.history_names.specs.declared.packs.PackedName.{PackedName}
+use Rattle.history_store.specs.Packed.{record_of_name, records_of}
+use Rattle.history_store.specs.declared.packs.PackedName.{PackedName}
 use Rattle.history_layout.proofs.FullNames.{full_of}
 use Rattle.history_repository.specs.Reads.{GivesMeant}
 use Rattle.history_repository.specs.NamesShown.{shown_name}

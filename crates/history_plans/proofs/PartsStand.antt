@@ -1,7 +1,7 @@
 -- What is true of each of the two parts of a repository.
 use Rattle.std.proofs.Common.{◌≡◌, false, ◌≢◌, refl, sym, ◌∙◌, ap, subst, true, None}
 use Rattle.std.specs.Prelude.{Option, Some, IsSome, is_some, option_and_then, not, ◌&&◌}
-use Rattle.gix_hash_id.specs.Id.{Id, null_id}
+use Rattle.gix_hash.specs.Id.{Id, null_id}
 use Rattle.gix_ref_file.specs.History.{History}
 use Rattle.history_model.specs.Bytes.{Bytes}
 use Rattle.std.specs.FinMap.{get}
@@ -9,7 +9,7 @@ use Rattle.history_model.specs.Forms.{IsWritten, is_name, is_private, is_referen
 use Rattle.history_model.specs.Repository.{HaveOwnIds, IsWhole, Reference, id_at, peeled_value, stands}
 use Rattle.history_layout.specs.TreeHalves.{HoldsValues, HoldsNames}
 use Rattle.history_layout.proofs.TreePuts.{halves_stand}
-use Rattle.history_names.specs.Packing.{KeepsRecords}
+use Rattle.history_store.specs.Packing.{KeepsRecords}
 use Rattle.history_repository.specs.Face.{KeepsAllButObjects}
 use Rattle.history_plans.specs.Halves.{objects_tree, ObjectsStand, NamesStand}
 use Rattle.history_repository.specs.Stands.{pair_of, Stands}

@@ -15,10 +15,10 @@ use Rattle.history_model.specs.NameStates.{name_state}
 use Rattle.history_model.specs.Places.{file_at}
 use Rattle.history_layout.proofs.OfferedFiles.{all_keys}
 use Rattle.gix_ref_way.specs.Ways.{IsAbove, HasWay}
-use Rattle.history_names.specs.AllNames.{TellsMeeting}
+use Rattle.history_store.specs.AllNames.{TellsMeeting}
 use Rattle.history_repository.specs.Face.{names_part}
 use Rattle.history_repository.specs.Stands.{Stands, pair_of}
-use Rattle.history_names.specs.Packing.{told_id}
+use Rattle.history_store.specs.Packing.{told_id}
 use Rattle.history_plans.specs.Halves.{NamesStand}
 use Rattle.history_repository.specs.declared.repository.Repository.{Repository}
 use Rattle.std.specs.List.{list_any}

@@ -8,7 +8,7 @@ use Rattle.history_model.specs.Bytes.{Bytes}
 use Rattle.history_model.specs.FileMap.{FileMap, folders_of, grafts_nothing, some_refused}
 use Rattle.history_model.specs.Objects.{CommitValue, Value, StoredBytes, StoredFolder, StoredCommit, folder_id, content_of, commit_content, root, tree_text}
 use Rattle.history_model.specs.Objects.{id_of as value_id}
-use Rattle.gix_hash_id.specs.Id.{Id, null_id, id_of}
+use Rattle.gix_hash.specs.Id.{Id, null_id, id_of}
 use Rattle.std.specs.FinMap.{get}
 use Rattle.history_model.specs.Repository.{HoldsCommit, IsWholeStore, as_commit, id_at}
 use Rattle.history_model.specs.Forms.{is_id, title, max_content}
@@ -24,7 +24,7 @@ use Rattle.history_model.specs.declared.Cause.{Cause}
 use Rattle.history_model.specs.declared.Cause.TheVariants.{BadPath, IsFolder, NoSuchPath, TooLarge}
 use Rattle.history_model.specs.declared.Fault.{Fault}
 use Rattle.history_model.specs.declared.Fault.TheVariants.{Memory, File, IdTaken}
-use Rattle.gix_hash_id.specs.declared.kind.Kind.{Kind}
+use Rattle.gix_hash.specs.declared.kind.Kind.{Kind}
 use Rattle.history_model.proofs.IdLemmas.{digest_is_id}
 use Rattle.history_layout.proofs.OfferedReads.{parents_are_commits}
 use Rattle.history_layout.proofs.PassedStops.{commits_store_whole}
@@ -36,10 +36,10 @@ use Rattle.history_files.specs.declared.trees.EditedTree.{EditedTree}
 use Rattle.history_files.specs.declared.trees.EditedFiles.{EditedFiles}
 use Rattle.history_texts.specs.Formats.{actor_of, entry_of, own_actor}
 use Rattle.history_texts.specs.Commits.{SaysCommit, IsPlainCommit, has_ids_of}
-use Rattle.history_objects.specs.Stores.{AreObjectsOf}
+use Rattle.history_store.specs.Stores.{AreObjectsOf}
 use Rattle.history_texts.specs.declared.object.NewObject.{NewObject}
 use Rattle.gix_object_commit.specs.declared.commit.owned.Commit.{Commit as OwnCommit}
-use Rattle.gix_hash_id.specs.declared.object_id.ObjectId.{ObjectId}
+use Rattle.gix_hash.specs.declared.object_id.ObjectId.{ObjectId}
 use Rattle.history_texts.specs.declared.log_entry.LogEntry.{LogEntry}
 use Rattle.history_word.specs.Commands.{AreEdits}
 use Rattle.history_word.specs.declared.command.Edit.{Edit}

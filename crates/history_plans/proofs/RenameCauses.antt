@@ -3,8 +3,8 @@ use Rattle.std.proofs.Common.{◌≡◌, inl, inr, Bool, true, false, cond, not,
 use Rattle.std.specs.Prelude.{Result, Err}
 use Rattle.std.specs.List.{list_any}
 use Rattle.std.specs.FinMap.{get, keys}
-use Rattle.gix_hash_id.specs.Id.{Id, id_of, null_id}
-use Rattle.gix_hash_id.specs.declared.object_id.ObjectId.{ObjectId}
+use Rattle.gix_hash.specs.Id.{Id, id_of, null_id}
+use Rattle.gix_hash.specs.declared.object_id.ObjectId.{ObjectId}
 use Rattle.gix_ref_file.specs.History.{History}
 use Rattle.history_model.specs.Bytes.{Bytes}
 use Rattle.history_model.specs.Repository.{Reference, id_at, stands}
@@ -18,13 +18,13 @@ use Rattle.history_model.proofs.WholeLists.{none_passes}
 use Rattle.history_model.proofs.WholeReads.{no_cause}
 use Rattle.history_layout.specs.RenameSteps.{rename_entry}
 use Rattle.history_texts.specs.Formats.{actor_of, entry_of}
-use Rattle.history_names.specs.Packing.{NameReads}
+use Rattle.history_store.specs.Packing.{NameReads}
 use Rattle.history_texts.specs.declared.log_entry.LogEntry.{LogEntry}
 use Rattle.history_repository.specs.Face.{names_part}
 use Rattle.history_plans.specs.Moving.{names_cause}
 use Rattle.history_plans.specs.Renaming.{PlansRename, TestsRename}
 use Rattle.history_repository.specs.Stands.{Stands}
-use Rattle.history_names.specs.declared.changing.MovedName.{MovedName}
+use Rattle.history_store.specs.declared.changing.MovedName.{MovedName}
 use Rattle.history_repository.specs.declared.repository.Repository.{Repository}
 use Rattle.history_repository.specs.declared.stopped.Stopped.{Stopped}
 use Rattle.history_repository.specs.declared.stopped.Stopped.TheVariants.{Refused, Fault}

@@ -1,7 +1,7 @@
 -- What the clauses on the plan of a commit take for granted.
 use Rattle.std.specs.Prelude.{◌≡◌, List, Option, None, map, option_map}
 use Rattle.std.specs.List.{AllByRecursion}
-use Rattle.gix_hash_id.specs.declared.object_id.ObjectId.{ObjectId}
+use Rattle.gix_hash.specs.declared.object_id.ObjectId.{ObjectId}
 use Rattle.gix_ref_file.specs.History.{History}
 use Rattle.history_model.specs.Meaning.{parents_of}
 use Rattle.history_word.specs.Commands.{AreEdits, IsCommit}

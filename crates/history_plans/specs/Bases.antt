@@ -11,8 +11,8 @@ use Rattle.history_model.specs.Commands as orders
 use Rattle.history_model.specs.Meaning.{branch_or_name, parents_of}
 use Rattle.history_model.specs.declared.Cause.{Cause}
 use Rattle.history_model.specs.declared.Cause.TheVariants.{NoSuchName, Taken, TooManyParents, DuplicateParent}
-use Rattle.gix_hash_id.specs.Id.{Id, id_of}
-use Rattle.gix_hash_id.specs.Order.{id_eq}
+use Rattle.gix_hash.specs.Id.{Id, id_of}
+use Rattle.gix_hash.specs.Order.{id_eq}
 use Rattle.history_repository.specs.Meanings.{HasRootIn, commit_or_cause, meaning_of, reads_as}
 use Rattle.history_repository.specs.Meant.{HasRoot, peeled_id}
 use Rattle.history_repository.specs.TreesBefore.{IsTreeBefore}

@@ -1,6 +1,6 @@
 -- What a `delete` wants of its name.
 use Rattle.std.specs.Prelude.{◌≡◌, List, ◌++◌, Option, Some, None, Result, Ok, Err}
-use Rattle.gix_hash_id.specs.Id.{Id}
+use Rattle.gix_hash.specs.Id.{Id}
 use Rattle.history_model.specs.Causes.{first_cause}
 use Rattle.history_model.specs.Commands.{Command}
 use Rattle.history_model.specs.declared.Cause.{Cause}

@@ -6,16 +6,16 @@ use Rattle.history_model.specs.Objects.{Value}
 use Rattle.history_model.specs.Repository.{Values, HaveOwnIds}
 use Rattle.history_model.specs.Meaning.{some_taken, store_all}
 use Rattle.history_layout.specs.TreeHalves.{HoldsValues}
-use Rattle.gix_hash_id.specs.declared.kind.Kind.{Kind}
+use Rattle.gix_hash.specs.declared.kind.Kind.{Kind}
 use Rattle.history_model.specs.declared.Fault.TheVariants.{Memory, File, IdTaken}
 use Rattle.std.specs.FinMap.{contains_key}
-use Rattle.gix_hash_id.specs.Id.{Id}
+use Rattle.gix_hash.specs.Id.{Id}
 use Rattle.history_repository.specs.Face.{objects_part, names_part, known_ids}
 use Rattle.history_repository.specs.declared.repository.Repository.{Repository}
 use Rattle.history_repository.specs.declared.stopped.Stopped.{Stopped}
 use Rattle.history_repository.specs.declared.stopped.Stopped.TheVariants.{Refused, Fault}
-use Rattle.history_objects.specs.Face.{kind_of_objects}
-use Rattle.history_names.specs.Changing.{HoldNamesOf}
+use Rattle.history_store.specs.ObjectsFace.{kind_of_objects}
+use Rattle.history_store.specs.Changing.{HoldNamesOf}
 use Rattle.history_model.specs.Repository as plain
 
 -- the tree of a part

@@ -3,7 +3,7 @@ use Rattle.std.specs.Prelude.{◌≡◌, ⊤, Bool, true, false, not, ◌&&◌, 
 use Rattle.std.specs.declared.alloc.Global.{Global}
 use Rattle.std.specs.List.{AllZip, list_any}
 use Rattle.std.specs.FinMap.{keys}
-use Rattle.gix_hash_id.specs.Id.{Id, id_of}
+use Rattle.gix_hash.specs.Id.{Id, id_of}
 use Rattle.history_model.specs.Bytes.{Bytes, has_twice}
 use Rattle.history_model.specs.Causes.{do_collide, first_cause, same_id}
 use Rattle.history_model.specs.Commands.{Move, MoveCommand, To}
@@ -27,7 +27,7 @@ use Rattle.history_repository.specs.Meanings.{commit_in, commit_or_cause, meanin
 use Rattle.history_plans.specs.declared.base.Expected.{Expected}
 use Rattle.history_plans.specs.declared.base.Expected.TheVariants.{Any, New, At}
 use Rattle.history_plans.specs.declared.moving.Line.{Line}
-use Rattle.history_names.specs.declared.changing.MovedName.{MovedName}
+use Rattle.history_store.specs.declared.changing.MovedName.{MovedName}
 use Rattle.history_repository.specs.declared.stopped.Stopped.{Stopped}
 use Rattle.history_repository.specs.declared.stopped.Stopped.TheVariants.{Refused, Fault}
 use Rattle.history_model.specs.Repository as plain

@@ -1,13 +1,13 @@
 -- What a `pack` is to write.
 use Rattle.std.specs.Prelude.{◌≡◌, List, None, Some, IsTrue, if◌then◌else◌, map}
 use Rattle.std.specs.List.{AllByRecursion}
-use Rattle.gix_hash_id.specs.Order.{id_eq}
+use Rattle.gix_hash.specs.Order.{id_eq}
 use Rattle.gix_object_lines.specs.NameTest.{is_full_name}
 use Rattle.gix_ref_format.specs.Packed.{Record}
 use Rattle.history_model.specs.Answers.{names_shown}
 use Rattle.history_model.specs.Replies.{NameLine}
-use Rattle.history_names.specs.Packed.{records_of}
-use Rattle.history_names.specs.declared.packs.PackedName.{PackedName}
+use Rattle.history_store.specs.Packed.{records_of}
+use Rattle.history_store.specs.declared.packs.PackedName.{PackedName}
 use Rattle.history_repository.specs.declared.shown.Shown.{Shown}
 use Rattle.history_model.specs.Repository as plain
 

@@ -1,10 +1,10 @@
 -- What a commit is to store and how its name is to move, as the plain repository has it.
 use Rattle.std.specs.Prelude.{◌≡◌, ◌⊎◌, ◌<◌, ◌≤◌, ⊤, Bool, List, [], ◌∷◌, ◌++◌, map, length, Contains, MatchOption, Some, None, Result, Ok, Err, IsTrue, IsFalse}
 use Rattle.std.specs.List.{list_all, list_any, flat_map}
-use Rattle.gix_hash_id.specs.declared.kind.Kind.{Kind}
-use Rattle.gix_hash_id.specs.declared.object_id.ObjectId.{ObjectId}
+use Rattle.gix_hash.specs.declared.kind.Kind.{Kind}
+use Rattle.gix_hash.specs.declared.object_id.ObjectId.{ObjectId}
 use Rattle.history_model.specs.Bytes.{Bytes}
-use Rattle.history_objects.specs.Stores.{AreObjectsOf}
+use Rattle.history_store.specs.Stores.{AreObjectsOf}
 use Rattle.history_texts.specs.declared.object.NewObject.{NewObject}
 use Rattle.history_model.specs.CommandParts.{contents_in}
 use Rattle.history_model.specs.Objects.{CommitValue, Value, commit_content, digest, folder_id, object_text}
@@ -29,10 +29,10 @@ use Rattle.history_plans.specs.declared.planning.Below.{Below}
 use Rattle.history_plans.specs.declared.planning.Committed.{Committed}
 use Rattle.history_plans.specs.declared.planning.NewFiles.{NewFiles}
 use Rattle.history_plans.specs.declared.planning.Plan.{Plan}
-use Rattle.history_names.specs.declared.changing.MovedName.{MovedName}
+use Rattle.history_store.specs.declared.changing.MovedName.{MovedName}
 use Rattle.history_repository.specs.declared.stopped.Stopped.{Stopped}
 use Rattle.history_repository.specs.declared.stopped.Stopped.TheVariants.{Refused, Fault}
-use Rattle.gix_hash_id.specs.Id as object_id
+use Rattle.gix_hash.specs.Id as object_id
 use Rattle.gix_object_lines.specs.declared.kind.Kind as git_object
 use Rattle.gix_object_lines.specs.declared.kind.Kind.TheVariants as kinds
 use Rattle.history_model.specs.Repository as plain

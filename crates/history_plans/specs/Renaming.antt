@@ -1,7 +1,7 @@
 -- What a `rename` wants of its two names, and how the new one is made.
 use Rattle.std.specs.Prelude.{◌≡◌, None, Some, Result, Ok, Err}
-use Rattle.gix_hash_id.specs.Id.{id_of}
-use Rattle.gix_hash_id.specs.declared.object_id.ObjectId.{ObjectId}
+use Rattle.gix_hash.specs.Id.{id_of}
+use Rattle.gix_hash.specs.declared.object_id.ObjectId.{ObjectId}
 use Rattle.history_model.specs.Bytes.{Bytes}
 use Rattle.history_model.specs.Causes.{first_cause}
 use Rattle.history_model.specs.Commands.{Rename}
@@ -9,7 +9,7 @@ use Rattle.history_model.specs.Repository.{id_at}
 use Rattle.history_layout.specs.RenameSteps.{rename_entry}
 use Rattle.history_texts.specs.Formats.{entry_of}
 use Rattle.history_repository.specs.Reads.{IsReadingFault}
-use Rattle.history_names.specs.declared.changing.MovedName.{MovedName}
+use Rattle.history_store.specs.declared.changing.MovedName.{MovedName}
 use Rattle.history_repository.specs.declared.stopped.Stopped.{Stopped}
 use Rattle.history_repository.specs.declared.stopped.Stopped.TheVariants.{Refused, Fault}
 use Rattle.history_model.specs.Repository as plain

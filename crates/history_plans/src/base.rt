@@ -13,7 +13,7 @@ ghost use Rattle.history_plans.specs.Asked.{AskedCommit};
 ghost use Rattle.history_plans.specs.Bases.{AreRootedSources, AreSourcesRead, AreWordsRead, IsCommitBase, IsExpected, IsHeldSource, IsRootedAs, IsSourceRead, expected_meanings, held_cause, parents_cause};
 ghost use Rattle.history_repository.specs.Meanings.{words_cause, meaning_of, peeled_in};
 ghost use Rattle.history_repository.specs.Held.{IsHeld};
-ghost use Rattle.gix_hash_id.specs.Id.{id_of};
+ghost use Rattle.gix_hash.specs.Id.{id_of};
 ghost use Rattle.history_repository.specs.declared.stored.PeeledCommit.{PeeledCommit};
 ghost use Rattle.history_model.specs.Repository as plain;
 ghost use Rattle.history_model.specs.Commands as orders;

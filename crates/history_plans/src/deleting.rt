@@ -1,7 +1,7 @@
 //! What a `delete` is refused for.
 
 ghost use Rattle.std.specs.Prelude.{◌≡◌, None, Option, Some, MatchResult, option_map};
-ghost use Rattle.gix_hash_id.specs.Id.{id_of};
+ghost use Rattle.gix_hash.specs.Id.{id_of};
 ghost use Rattle.history_model.specs.Bytes.{Bytes};
 ghost use Rattle.history_word.specs.Commands.{IsDelete};
 ghost use Rattle.history_plans.specs.Deleting.{TestsAll, gone_cause};

@@ -2,13 +2,13 @@
 
 ghost use Rattle.std.specs.Prelude.{◌≡◌, IfOk, IsFalse, List, map, option_to_list};
 ghost use Rattle.std.specs.List.{AllZip, flat_map, list_any};
-ghost use Rattle.gix_hash_id.specs.Id.{Id};
+ghost use Rattle.gix_hash.specs.Id.{Id};
 ghost use Rattle.history_model.specs.Causes.{is_bad_path};
 ghost use Rattle.history_model.specs.CommandParts.{edit_paths};
 ghost use Rattle.history_model.specs.Commands.{EditLine};
 ghost use Rattle.history_model.specs.Meaning.{put_bytes};
 ghost use Rattle.history_files.specs.Editing.{HavePaths};
-ghost use Rattle.history_objects.specs.Stores.{AreObjectsOf};
+ghost use Rattle.history_store.specs.Stores.{AreObjectsOf};
 ghost use Rattle.history_word.specs.Commands.{AreEdits};
 ghost use Rattle.history_plans.specs.Files.{AreChangesOf, AreReadAs, HasSource, IsFoundFor, TellsEdited, TellsRead, IsChangeOf, change_parts, edit_parts, grafts_none, kept_edit, unmade};
 ghost use Rattle.history_repository.specs.Stands.{Stands};

@@ -3,7 +3,7 @@
 ghost use Rattle.std.specs.Prelude.{◌≡◌, ◌∷◌, [], ◌+◌, ⊤, IsFalse, None, Some, get_or, length, map, nat_lt};
 ghost use Rattle.std.specs.FinMap.{entries, get};
 ghost use Rattle.std.specs.List.{list_any};
-ghost use Rattle.gix_hash_id.specs.Id.{id_of};
+ghost use Rattle.gix_hash.specs.Id.{id_of};
 ghost use Rattle.history_repository.specs.Meant.{HasRoot, peeled_id};
 ghost use Rattle.history_model.specs.Answers.{file_line};
 ghost use Rattle.history_model.specs.Bytes.{Bytes};

@@ -2,7 +2,7 @@
 
 ghost use Rattle.std.specs.Prelude.{◌≡◌, ◌++◌, None, Some, IfOk, IsTrue, List, MatchResult, OnOk, ⊤, map, not, option_map};
 ghost use Rattle.std.specs.List.{flat_map, list_all, list_any};
-ghost use Rattle.gix_hash_id.specs.Id.{id_of};
+ghost use Rattle.gix_hash.specs.Id.{id_of};
 ghost use Rattle.history_model.specs.Forms.{is_name, is_private, max_content};
 ghost use Rattle.history_word.specs.Commands.{AreTos, IsActor, IsMove, IsTo};
 ghost use Rattle.history_word.specs.Fields.{Keeps};

@@ -2,7 +2,7 @@
 
 ghost use Rattle.std.specs.Prelude.{◌≡◌, IfNone, IfSome, IsFalse, map};
 ghost use Rattle.gix_object_lines.specs.NameTest.{is_full_name};
-ghost use Rattle.history_names.specs.Packed.{record_of_name, records_of};
+ghost use Rattle.history_store.specs.Packed.{record_of_name, records_of};
 ghost use Rattle.history_repository.specs.Reads.{GivesMeant};
 ghost use Rattle.history_repository.specs.NamesShown.{shown_name};
 ghost use Rattle.history_plans.specs.Packing.{AreAllNames, AreFull, line_record};

@@ -2,7 +2,7 @@
 
 ghost use Rattle.std.specs.Prelude.{◌≡◌, ◌≤◌, ◌<◌, ◌++◌, None, Err, OnOk, MatchOption, MatchResult, map, length};
 ghost use Rattle.std.specs.List.{list_any};
-ghost use Rattle.gix_hash_id.specs.Id.{id_of};
+ghost use Rattle.gix_hash.specs.Id.{id_of};
 ghost use Rattle.history_model.specs.Forms.{max_content};
 ghost use Rattle.history_model.specs.CommandParts.{contents_in};
 ghost use Rattle.history_model.specs.Commands.{Commit};
@@ -10,7 +10,7 @@ ghost use Rattle.history_model.specs.Meaning.{new_commit};
 ghost use Rattle.history_model.specs.Objects.{CommitValue, folder_id};
 ghost use Rattle.history_model.specs.declared.Cause.TheVariants.{TooLarge};
 ghost use Rattle.history_model.specs.declared.Fault.TheVariants.{IdTaken};
-ghost use Rattle.history_objects.specs.Face.{kind_of_objects};
+ghost use Rattle.history_store.specs.ObjectsFace.{kind_of_objects};
 ghost use Rattle.history_word.specs.Commands.{IsActor};
 ghost use Rattle.history_word.specs.Fields.{Keeps};
 ghost use Rattle.history_plans.specs.Asked.{AskedCommit, AskedFiles};

@@ -1,7 +1,7 @@
 //! The plan of a `rename`: a name that is made at what another holds.
 
 ghost use Rattle.std.specs.Prelude.{◌≡◌, ◌∷◌, [], None, Some, IfOk, MatchResult};
-ghost use Rattle.gix_hash_id.specs.Id.{id_of};
+ghost use Rattle.gix_hash.specs.Id.{id_of};
 ghost use Rattle.history_model.specs.Bytes.{Bytes};
 ghost use Rattle.history_model.specs.Meaning.{history_actor};
 ghost use Rattle.history_model.specs.Repository.{id_at};

@@ -4,7 +4,7 @@ ghost use Rattle.std.specs.Prelude.{◌≡◌, IsFalse, IsTrue, MatchOption};
 ghost use Rattle.history_model.specs.Forms.{is_name, max_content};
 ghost use Rattle.history_model.specs.Meaning.{tag_rest};
 ghost use Rattle.history_model.specs.Objects.{TagValue};
-ghost use Rattle.history_objects.specs.Face.{kind_of_objects};
+ghost use Rattle.history_store.specs.ObjectsFace.{kind_of_objects};
 ghost use Rattle.history_texts.specs.Tags.{SaysTag};
 ghost use Rattle.history_word.specs.Commands.{IsActor, IsExpect, IsTag};
 ghost use Rattle.history_word.specs.Fields.{Keeps};

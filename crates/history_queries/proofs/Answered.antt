@@ -6,7 +6,7 @@ use Rattle.std.specs.declared.alloc.Global.{Global}
 use Rattle.history_model.specs.Bytes.{Bytes}
 use Rattle.history_model.specs.FileMap.{FileMap, Content, has_below, inside}
 use Rattle.history_model.specs.Objects.{CommitValue, Value, StoredCommit, StoredTag, StoredBytes, StoredFolder, blob_id, entry_at, folder_id, mode_of}
-use Rattle.gix_hash_id.specs.Id.{Id, id_of}
+use Rattle.gix_hash.specs.Id.{Id, id_of}
 use Rattle.history_model.specs.Repository.{Repository, IsWhole, IsWholeStore, as_commit}
 use Rattle.history_model.specs.Meaning.{first_files, word_files}
 use Rattle.history_model.specs.Words.{word_meaning}
@@ -19,14 +19,14 @@ use Rattle.history_model.specs.declared.FileKind.TheVariants.{File, Exec, Link}
 use Rattle.history_files.specs.Reading.{entry_of, line_of}
 use Rattle.history_files.specs.declared.found.Found.{Found}
 use Rattle.history_files.specs.declared.listing.File.{File as FoundFile}
-use Rattle.gix_hash_id.specs.declared.kind.Kind.{Kind}
+use Rattle.gix_hash.specs.declared.kind.Kind.{Kind}
 use Rattle.history_model.specs.declared.Cause.{Cause}
 use Rattle.history_model.specs.declared.Cause.TheVariants.{BadPath, IsFolder, NoSuchPath}
 use Rattle.history_model.proofs.WholeReads.{read_holds}
 use Rattle.history_layout.proofs.OfferedFiles.{files_are_stored}
 use Rattle.history_model.proofs.WholeLists.{texts_differ}
 use Rattle.history_texts.specs.Commits.{SaysCommit}
-use Rattle.gix_hash_id.specs.declared.object_id.ObjectId.{ObjectId}
+use Rattle.gix_hash.specs.declared.object_id.ObjectId.{ObjectId}
 use Rattle.history_repository.specs.Reads.{OnlyAnswers, GivesMeant, ReadsMeant, IsReadingFault}
 use Rattle.history_repository.specs.Meanings.{commit_or_cause}
 use Rattle.history_queries.specs.Shown.{shown_commit, shown_content}

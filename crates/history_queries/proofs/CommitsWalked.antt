@@ -4,20 +4,20 @@ use Rattle.std.specs.declared.alloc.Global.{Global}
 use Rattle.std.specs.Prelude.{ℤ, Contains, IfErr, IsErrAnd, IsTrue, IsSome, Result, Ok, Err, ⊤, option_and_then, unwrap_or}
 use Rattle.std.specs.List.{AllZip, AllByRecursion, list_all, list_any}
 use Rattle.std.specs.FinMap.{get}
-use Rattle.gix_hash_id.specs.Id.{Id, id_of, bytes_from, digits_of}
-use Rattle.gix_hash_id.specs.Kind.{hex_len}
-use Rattle.gix_hash_id.specs.Order.{id_eq}
-use Rattle.gix_hash_id.specs.Packed.{object_id_of, object_id_of-id_of}
-use Rattle.gix_hash_id.specs.Views.{IsHexOfId}
-use Rattle.gix_hash_id.proofs.LawLemmas.{hex_text-IsHexOf}
-use Rattle.gix_hash_id.specs.declared.kind.Kind.{Kind}
-use Rattle.gix_hash_id.specs.declared.object_id.ObjectId.{ObjectId}
+use Rattle.gix_hash.specs.Id.{Id, id_of, bytes_from, digits_of}
+use Rattle.gix_hash.specs.Kind.{hex_len}
+use Rattle.gix_hash.specs.Order.{id_eq}
+use Rattle.gix_hash.specs.Packed.{object_id_of, object_id_of-id_of}
+use Rattle.gix_hash.specs.Views.{IsHexOfId}
+use Rattle.gix_hash.proofs.LawLemmas.{hex_text-IsHexOf}
+use Rattle.gix_hash.specs.declared.kind.Kind.{Kind}
+use Rattle.gix_hash.specs.declared.object_id.ObjectId.{ObjectId}
 use Rattle.gix_ref_file.proofs.Rooted.{both}
 use Rattle.gix_ref_file.specs.History.{History}
-use Rattle.gix_object_commit_tokens.specs.ReadingOn.{Reads, TellsNone, committer_told}
-use Rattle.gix_object_commit_tokens.specs.Tokens.{Part, start}
-use Rattle.gix_object_commit_tokens.proofs.OnePart.{one_id}
-use Rattle.gix_object_commit_tokens.proofs.ToldParts.{parts_read, end}
+use Rattle.gix_object_commit.specs.ReadingOn.{Reads, TellsNone, committer_told}
+use Rattle.gix_object_commit.specs.Tokens.{Part, start}
+use Rattle.gix_object_commit.proofs.OnePart.{one_id}
+use Rattle.gix_object_commit.proofs.ToldParts.{parts_read, end}
 use Rattle.gix_object_lookup.specs.Existing.{Stands}
 use Rattle.gix_object_lookup.specs.Table.{Object, Table, content_or_none}
 use Rattle.gix_traverse_graph.specs.Commits.{Commit, Commits, Reached, WalkRequest, asked_parents, tip, parent}
@@ -55,7 +55,7 @@ use Rattle.history_walks.specs.declared.error.WalkError.{WalkError}
 use Rattle.history_walks.specs.declared.error.WalkError.TheVariants.{Failed, Broken, Memory}
 use Rattle.history_walks.proofs.Named.{contains_from_map, contains_map}
 use Rattle.history_walks.proofs.Spelled.{line, commit_told, no_parent_fault, no_time_fault}
-use Rattle.history_objects.specs.KnownObjects as known
+use Rattle.history_store.specs.KnownObjects as known
 use Rattle.history_repository.proofs.Tables.{tables_same}
 use Rattle.history_repository.specs.Face.{rows_in}
 use Rattle.history_repository.specs.Reads.{GivesMeant, IsReadingFault}
@@ -66,7 +66,7 @@ use Rattle.history_repository.specs.KeptRows.{AgreeRows, TellsRow}
 use Rattle.history_queries.specs.Walked.{AllHold, AreRead, IsLogged}
 use Rattle.history_repository.specs.declared.stopped.Stopped.{Stopped}
 use Rattle.history_repository.specs.declared.stopped.Stopped.TheVariants.{Fault}
-use Rattle.gix_hash_id.specs.declared.kind.Kind.TheVariants as hash
+use Rattle.gix_hash.specs.declared.kind.Kind.TheVariants as hash
 use Rattle.gix_object_lines.specs.declared.kind.Kind.TheVariants as kinds
 use Rattle.history_files.specs.Laws as laws
 use Rattle.history_model.specs.Objects as model

@@ -2,7 +2,7 @@
 use Rattle.std.proofs.Common.{◌≡◌, ◌∙◌, ◌≤◌, ap, refl, sym, arith, tests, Bool, true, false, ℕ, [], length, take, drop, Option, None, Some, codes}
 use Rattle.std.specs.Prelude.{is_some, nat_le, option_map, unwrap_or}
 use Rattle.std.proofs.lemmas.List.{length-take-le, take_all, take_at}
-use Rattle.gix_hash_id.specs.declared.kind.Kind.{Kind}
+use Rattle.gix_hash.specs.declared.kind.Kind.{Kind}
 use Rattle.gix_object_lines.specs.declared.kind.Kind.{Kind as ObjectKind}
 use Rattle.gix_ref_file.specs.Tree.{overwritten, part}
 use Rattle.history_model.specs.Bytes.{Bytes, begins}

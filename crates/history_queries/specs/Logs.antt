@@ -1,7 +1,7 @@
 -- What a log's items read as, and the order of its walk.
 use Rattle.std.specs.Prelude.{◌≡◌, ◌++◌, ◌&&◌, not, Bool, false, ℤ, pos, List, map, Option, Some, None, Result, if◌then◌else◌}
 use Rattle.std.specs.List.{filter_map, list_any}
-use Rattle.gix_hash_id.specs.Id.{Id}
+use Rattle.gix_hash.specs.Id.{Id}
 use Rattle.gix_traverse_graph.specs.declared.parents.Parents.{Parents}
 use Rattle.gix_traverse_graph.specs.declared.parents.Parents.TheVariants.{All, First}
 use Rattle.history_model.specs.Answers.{tip_word, hidden_word}

@@ -1,7 +1,7 @@
 -- What was seen of commits at some paths.
 use Rattle.std.specs.Prelude.{◌≡◌, List, map, option_map, IfSome}
 use Rattle.std.specs.Borrow.{Bor}
-use Rattle.gix_hash_id.specs.Id.{Id, id_of}
+use Rattle.gix_hash.specs.Id.{Id, id_of}
 use Rattle.history_files.specs.Reading.{entry_of}
 use Rattle.history_model.specs.Answers.{differs_at, parents_at}
 use Rattle.history_model.specs.Bytes.{Bytes}

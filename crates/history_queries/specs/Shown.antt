@@ -5,8 +5,8 @@ use Rattle.history_model.specs.Replies.{CommitShown, ContentShown}
 use Rattle.history_model.specs.declared.FileKind.{FileKind}
 use Rattle.history_texts.specs.Formats.{own_actor}
 use Rattle.gix_object_commit.specs.declared.commit.owned.Commit.{Commit}
-use Rattle.gix_hash_id.specs.declared.object_id.ObjectId.{ObjectId}
-use Rattle.gix_hash_id.specs.Id.{id_of}
+use Rattle.gix_hash.specs.declared.object_id.ObjectId.{ObjectId}
+use Rattle.gix_hash.specs.Id.{id_of}
 
 abbrev pub shown_commit : ObjectId → Commit → CommitShown
 shown_commit id commit = record {

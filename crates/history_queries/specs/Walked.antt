@@ -1,8 +1,8 @@
 -- The commits of a repository that a walk lists.
 use Rattle.std.specs.Prelude.{◌≡◌, List, Contains, Vec, map, Some, None, Result, Ok, Err}
 use Rattle.std.specs.declared.alloc.Global.{Global}
-use Rattle.gix_hash_id.specs.Id.{id_of}
-use Rattle.gix_hash_id.specs.declared.object_id.ObjectId.{ObjectId}
+use Rattle.gix_hash.specs.Id.{id_of}
+use Rattle.gix_hash.specs.declared.object_id.ObjectId.{ObjectId}
 use Rattle.history_files.specs.Laws.{table_of}
 use Rattle.history_model.specs.Answers.{IsWalk, commits_of, walk_request}
 use Rattle.history_model.specs.Causes.{first_cause}

@@ -2,7 +2,7 @@
 
 ghost use Rattle.std.specs.Prelude.{◌≡◌, filter, map, option_map, replicate, IfOk, IfSome, None, Some};
 ghost use Rattle.std.specs.FinMap.{get};
-ghost use Rattle.gix_hash_id.specs.Id.{id_of};
+ghost use Rattle.gix_hash.specs.Id.{id_of};
 ghost use Rattle.history_files.specs.Reading.{entry_of};
 ghost use Rattle.history_model.specs.Answers.{differs_at};
 ghost use Rattle.history_model.specs.FileMap.{FileMap};

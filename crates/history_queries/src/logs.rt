@@ -2,7 +2,7 @@
 
 ghost use Rattle.std.specs.Prelude.{◌≡◌, List, Some, None, map, IfOk, MatchResult};
 ghost use Rattle.std.specs.List.{filter_map, list_any, AllZip};
-ghost use Rattle.gix_hash_id.specs.Id.{id_of};
+ghost use Rattle.gix_hash.specs.Id.{id_of};
 ghost use Rattle.history_model.specs.Bytes.{Bytes};
 ghost use Rattle.history_model.specs.Causes.{is_bad_path, wants_all_parents};
 ghost use Rattle.history_model.specs.Replies.{reply_text, LogIs};

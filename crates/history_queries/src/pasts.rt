@@ -2,7 +2,7 @@
 
 ghost use Rattle.std.specs.Prelude.{◌≡◌, List, IfOk, IsTrue};
 ghost use Rattle.std.specs.List.{list_all};
-ghost use Rattle.gix_hash_id.specs.declared.kind.Kind.{Kind};
+ghost use Rattle.gix_hash.specs.declared.kind.Kind.{Kind};
 ghost use Rattle.history_model.specs.Repository.{LogEntry};
 ghost use Rattle.history_model.specs.Forms.{is_log_entry};
 ghost use Rattle.history_model.specs.Logs.{log_text};

@@ -7,7 +7,7 @@ ghost use Rattle.history_files.specs.Reading.{line_of};
 ghost use Rattle.history_model.specs.FileMap.{FileMap};
 ghost use Rattle.history_model.specs.Objects.{CommitValue, StoredCommit, StoredFolder, commit_content};
 ghost use Rattle.history_texts.specs.Commits.{SaysCommit};
-ghost use Rattle.gix_hash_id.specs.Id.{Id, id_of};
+ghost use Rattle.gix_hash.specs.Id.{Id, id_of};
 ghost use Rattle.gix_traverse_graph.specs.Rows.{AllHeld};
 ghost use Rattle.gix_traverse_commit_known.specs.Told.{rows_of};
 ghost use Rattle.history_model.specs.declared.Fault.TheVariants.{Memory};

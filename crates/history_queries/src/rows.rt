@@ -2,7 +2,7 @@
 
 ghost use Rattle.std.specs.Prelude.{◌≡◌, Contains, IfOk, IfSome, Some, is_some};
 ghost use Rattle.std.specs.FinMap.{get};
-ghost use Rattle.gix_hash_id.specs.Id.{id_of};
+ghost use Rattle.gix_hash.specs.Id.{id_of};
 ghost use Rattle.gix_traverse_graph.specs.Rows.{AreRows};
 ghost use Rattle.gix_traverse_commit_known.specs.Told.{rows_of as graph_rows};
 ghost use Rattle.history_model.specs.Objects.{CommitValue, StoredCommit, Value, commit_content, content_of};
@@ -14,7 +14,7 @@ ghost use Rattle.history_repository.specs.Reads.{GivesMeant};
 ghost use Rattle.history_queries.specs.Indexing.{AreTheCommits, AreToldOf, front_of};
 ghost use Rattle.history_repository.specs.Stands.{Stands};
 ghost use Rattle.history_queries.specs.Walked.{AllHold, AreRead};
-ghost use Rattle.gix_hash_id.specs.declared.kind.Kind as hash;
+ghost use Rattle.gix_hash.specs.declared.kind.Kind as hash;
 ghost use Rattle.history_model.specs.Answers as model;
 ghost use Rattle.history_model.specs.Repository as plain;
 

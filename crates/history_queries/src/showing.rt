@@ -9,7 +9,7 @@ ghost use Rattle.history_texts.specs.Actors.{HasActorForm};
 ghost use Rattle.history_texts.specs.Commits.{IsPlainCommit};
 ghost use Rattle.history_texts.specs.Formats.{own_actor};
 ghost use Rattle.history_queries.specs.Shown.{shown_commit, shown_content};
-ghost use Rattle.gix_hash_id.specs.Id.{id_of};
+ghost use Rattle.gix_hash.specs.Id.{id_of};
 ghost use Rattle.history_model.specs.Forms.{max_path};
 ghost use Rattle.history_word.specs.Commands.{IsPath};
 ghost use Rattle.history_word.specs.Fields.{Keeps};
@@ -18,7 +18,7 @@ ghost use Rattle.history_repository.specs.Meanings.{commit_or_cause};
 ghost use Rattle.history_repository.specs.Meant.{HasContent};
 ghost use Rattle.history_repository.specs.Stands.{Stands};
 ghost use Rattle.history_repository.specs.Reads.{OnlyAnswers, GivesMeant};
-ghost use Rattle.gix_hash_id.specs.declared.kind.Kind as hash;
+ghost use Rattle.gix_hash.specs.declared.kind.Kind as hash;
 ghost use Rattle.history_model.specs.Repository as plain;
 ghost use Rattle.history_model.specs.Commands as model;
 

@@ -2,8 +2,8 @@
 use Rattle.std.proofs.Common.{◌≡◌, inl, refl, sym, ◌∙◌, ap, subst, Bool, true, false, cond, ◌&&◌, ◌||◌, ℕ, List, [], ◌∷◌, ◌++◌, drop, Option, Some, None, option_map, is_some, unwrap_or, codes, find}
 use Rattle.std.specs.Prelude.{is_none, bytes_eq, option_and_then, Result, Ok, Err, IfOk}
 use Rattle.std.proofs.lemmas.Bool.{and_from, and_parts}
-use Rattle.gix_hash_id.specs.Id.{Id}
-use Rattle.gix_hash_id.specs.declared.kind.Kind.{Kind}
+use Rattle.gix_hash.specs.Id.{Id}
+use Rattle.gix_hash.specs.declared.kind.Kind.{Kind}
 use Rattle.gix_object_lines.specs.NameTest.{is_partial_name, is_full_name, is_capitals, has_slash}
 use Rattle.gix_ref_file.specs.Tree.{Tree}
 use Rattle.gix_ref_file.specs.Changes.{is_file_at}

@@ -15,7 +15,7 @@ use Rattle.history_model.specs.Places.{file_at, is_log_place, is_lock_file, log_
 use Rattle.history_model.specs.NameStates.{is_absent, name_state}
 use Rattle.history_model.specs.Recovery.{is_deserted, recovered_files, recovered_names, recovered_node}
 use Rattle.history_model.proofs.RecoveryLemmas.{get-recovered_names}
-use Rattle.gix_hash_id.specs.declared.kind.Kind.{Kind}
+use Rattle.gix_hash.specs.declared.kind.Kind.{Kind}
 use Rattle.history_model.proofs.WholePaths.{begins_parts, begins_front}
 use Rattle.gix_ref_way.specs.Ways.{ChangesOneFile, above}
 use Rattle.history_recovery.specs.Clearing.{lock_place, is_over, AreAllKept, IsCut, AreCutBelow, IsLogFolder, Cuts, MayCut, Replaces}

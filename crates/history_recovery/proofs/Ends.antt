@@ -4,8 +4,8 @@ use Rattle.std.specs.Prelude.{Result, Ok, Err, OnOk}
 use Rattle.std.specs.FinMap.{get, remove}
 use Rattle.std.proofs.lemmas.Map.Text.{is_eq-slice_cmp}
 use Rattle.std.proofs.lemmas.Slice.Eq.{bytes_eq-Decides}
-use Rattle.gix_hash_id.specs.declared.kind.Kind.{Kind}
-use Rattle.gix_hash_id.specs.declared.kind.Kind.TheVariants.{Sha1}
+use Rattle.gix_hash.specs.declared.kind.Kind.{Kind}
+use Rattle.gix_hash.specs.declared.kind.Kind.TheVariants.{Sha1}
 use Rattle.gix_ref_file.specs.Tree.{Tree, Node, file, folder, same_path, bytes_of, node_at, place_of}
 use Rattle.gix_ref_file.specs.Changes.{to_remove_file, is_file_at, MayLeave}
 use Rattle.gix_ref_file.specs.History.{History, Adds}

@@ -14,7 +14,7 @@ use Rattle.history_model.specs.FileMap.{is_below}
 use Rattle.history_model.specs.Places.{file_at, is_log_place}
 use Rattle.history_model.specs.Logs.{whole_lines}
 use Rattle.history_model.specs.Recovery.{is_deserted, recovered_files, recovered_names}
-use Rattle.gix_hash_id.specs.declared.kind.Kind.{Kind}
+use Rattle.gix_hash.specs.declared.kind.Kind.{Kind}
 use Rattle.history_model.proofs.EntryLemmas.{key_passes}
 use Rattle.history_model.proofs.RecoveryLemmas.{get-recovered_names, recovery_keeps}
 use Rattle.history_model.proofs.WholePaths.{below_parts, below_front}

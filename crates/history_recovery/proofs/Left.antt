@@ -12,7 +12,7 @@ use Rattle.history_model.specs.Logs.{whole_lines}
 use Rattle.history_model.specs.Places.{file_at, packed_place, is_log_place, log_name, is_lock_file}
 use Rattle.history_model.specs.NameStates.{NameState, Absent, is_absent, name_state, loose_state, packed_text_state}
 use Rattle.history_model.specs.Recovery.{is_deserted, recovered_files, recovered_names, recovered_node}
-use Rattle.gix_hash_id.specs.declared.kind.Kind.{Kind}
+use Rattle.gix_hash.specs.declared.kind.Kind.{Kind}
 use Rattle.history_model.proofs.NameLemmas.{name-lock, name-log, ends_after}
 use Rattle.history_model.proofs.RecoveryLemmas.{get-recovered_files}
 use Rattle.history_recovery.specs.Clearing.{lock_place, is_over}

@@ -5,7 +5,7 @@ use Rattle.std.specs.Prelude.{IsTrue, IsSome}
 use Rattle.std.specs.FinMap.{get}
 use Rattle.std.proofs.lemmas.Bool.{and_parts, or_parts, or_right}
 use borrow.Author.Tests.{leb-true}
-use Rattle.gix_hash_id.specs.declared.kind.Kind.{Kind}
+use Rattle.gix_hash.specs.declared.kind.Kind.{Kind}
 use Rattle.gix_object_lines.specs.NameTest as rules
 use Rattle.gix_ref_file.specs.Tree.{Tree, Node, file, folder, bytes_of, is_folder, max_path}
 use Rattle.history_model.specs.Bytes.{Bytes, begins}

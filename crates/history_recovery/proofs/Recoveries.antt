@@ -15,7 +15,7 @@ use Rattle.history_model.specs.Bytes.{Bytes}
 use Rattle.history_model.specs.NameStates.{NameState, Absent, is_absent, name_state, packed_text_state}
 use Rattle.history_model.specs.Places.{file_at, packed_place}
 use Rattle.history_model.specs.Recovery.{is_deserted, recovered_files, recovered_names, recovered_node}
-use Rattle.gix_hash_id.specs.declared.kind.Kind.{Kind}
+use Rattle.gix_hash.specs.declared.kind.Kind.{Kind}
 use Rattle.history_model.proofs.RecoveryLemmas.{get-recovered_names, recovery_reads, file_kept}
 use Rattle.history_recovery.specs.Clearing.{is_over, Tells, IsKept, AreKeptBelow, AreAllKept, IsCut, Clears}
 use Rattle.history_recovery.specs.declared.packed.Packed.{Packed}

@@ -15,7 +15,7 @@ use Rattle.gix_ref_file.proofs.Trees.{room_after_insert}
 use Rattle.history_model.specs.Bytes.{Bytes}
 use Rattle.history_model.specs.Places.{file_at, is_log_place}
 use Rattle.history_model.specs.Recovery.{is_deserted, recovered_files, recovered_names}
-use Rattle.gix_hash_id.specs.declared.kind.Kind.{Kind}
+use Rattle.gix_hash.specs.declared.kind.Kind.{Kind}
 use Rattle.history_model.proofs.RecoveryLemmas.{get-recovered_names}
 use Rattle.history_recovery.specs.Clearing.{lock_place, is_over, AreAllKept}
 use Rattle.history_recovery.proofs.Locks.{logs_have_room}

@@ -6,7 +6,7 @@ use Rattle.gix_ref_file.specs.Tree.{Tree}
 use Rattle.gix_ref_file.specs.History.{History, Adds, trees, moment, stood_between}
 use Rattle.gix_ref_file.proofs.Histories.{added_stood}
 use Rattle.gix_ref_file.proofs.Rooted.{adds_now}
-use Rattle.gix_hash_id.specs.declared.kind.Kind.{Kind}
+use Rattle.gix_hash.specs.declared.kind.Kind.{Kind}
 use Rattle.history_model.specs.Places.{Pair}
 use Rattle.history_model.specs.Recovery.{recovered, recovered_names, recovered_objects}
 use Rattle.history_model.proofs.WholeLists.{In}

@@ -10,7 +10,7 @@ use Rattle.history_model.specs.Logs.{whole_lines}
 use Rattle.history_model.specs.Places.{file_at, packed_place, is_log_place, log_name, is_lock_file}
 use Rattle.history_model.specs.NameStates.{NameState, Absent, is_absent, name_state, packed_text_state}
 use Rattle.history_model.specs.Recovery.{recovered_names, recovered_node}
-use Rattle.gix_hash_id.specs.declared.kind.Kind.{Kind}
+use Rattle.gix_hash.specs.declared.kind.Kind.{Kind}
 use Rattle.gix_ref_way.specs.Ways.{above}
 use Rattle.history_recovery.specs.Recovering.{NamesAlike}
 use Rattle.history_recovery.specs.declared.packed.Packed.{Packed}

@@ -7,7 +7,7 @@ use Rattle.gix_ref_file.specs.declared.files.FileError.TheVariants as files
 use Rattle.history_model.specs.Places.{Pair}
 use Rattle.history_model.specs.Recovery.{recovered_names, recovered_objects}
 use Rattle.history_model.specs.Moments.{Moment, IsStepPair}
-use Rattle.gix_hash_id.specs.declared.kind.Kind.{Kind}
+use Rattle.gix_hash.specs.declared.kind.Kind.{Kind}
 use Rattle.history_recovery.specs.declared.recovering.RecoverError.{RecoverError}
 use Rattle.history_recovery.specs.declared.recovering.RecoverError.TheVariants as errors
 

@@ -5,7 +5,7 @@ ghost use Rattle.gix_ref_file.specs.Tree.{node_at, is_folder};
 ghost use Rattle.gix_ref_file.specs.Changes.{is_file_at};
 ghost use Rattle.gix_ref_file.specs.declared.files.FileError.TheVariants.{Failed, Memory};
 ghost use Rattle.history_model.specs.FileMap.{is_below};
-ghost use Rattle.gix_hash_id.specs.declared.kind.Kind.{Kind};
+ghost use Rattle.gix_hash.specs.declared.kind.Kind.{Kind};
 ghost use Rattle.history_recovery.specs.Clearing.{Tells, Clears, IsKept, AreKeptBelow};
 
 use crate::packed::Packed;

@@ -9,7 +9,7 @@ ghost use Rattle.history_model.specs.Forms as forms;
 ghost use Rattle.history_model.specs.NameStates as states;
 ghost use Rattle.history_recovery.specs.Clearing.{Tells, lacks, is_over};
 ghost use Rattle.gix_ref_file.specs.Changes.{is_file_at};
-ghost use Rattle.gix_hash_id.specs.declared.kind.Kind.{Kind};
+ghost use Rattle.gix_hash.specs.declared.kind.Kind.{Kind};
 
 use gix_hash::Kind;
 use gix_object_lines::lines::is_partial_name;

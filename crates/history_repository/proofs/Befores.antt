@@ -5,12 +5,12 @@ use Rattle.std.specs.FinMap.{get, empty, entries, len-entries, len-empty}
 use Rattle.history_model.specs.Bytes.{Bytes, by_bytes}
 use Rattle.history_model.specs.FileMap.{Content}
 use Rattle.history_model.specs.Objects.{Value, CommitValue, StoredCommit, StoredTag, StoredBytes, StoredFolder, folder_id}
-use Rattle.gix_hash_id.specs.Id.{Id, id_of}
+use Rattle.gix_hash.specs.Id.{Id, id_of}
 use Rattle.history_model.specs.Meaning.{files_at}
 use Rattle.history_model.specs.Repository.{HoldsCommit, IsWholeStore, as_commit, peeled}
 use Rattle.history_model.specs.Words.{ReadsAs}
 use Rattle.history_model.proofs.WholeReads.{read_holds}
-use Rattle.gix_hash_id.specs.declared.object_id.ObjectId.{ObjectId}
+use Rattle.gix_hash.specs.declared.object_id.ObjectId.{ObjectId}
 use Rattle.history_repository.specs.Reads.{IsReadingFault, GivesMeant}
 use Rattle.history_repository.specs.declared.stopped.Stopped.{Stopped}
 use Rattle.history_model.specs.Repository as plain

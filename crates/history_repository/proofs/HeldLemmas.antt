@@ -1,9 +1,9 @@
 -- What a name holds, and the commit that it peels to.
 use Rattle.std.proofs.Common.{◌≡◌, true, false, not, unwrap_or, refl, sym, ◌∙◌, ap, Option, Some, None, is_some, option_map, option_and_then}
 use Rattle.std.specs.FinMap.{get}
-use Rattle.gix_hash_id.specs.Id.{Id, id_of}
-use Rattle.gix_hash_id.specs.Order.{id_eq}
-use Rattle.gix_hash_id.specs.declared.object_id.ObjectId.{ObjectId}
+use Rattle.gix_hash.specs.Id.{Id, id_of}
+use Rattle.gix_hash.specs.Order.{id_eq}
+use Rattle.gix_hash.specs.declared.object_id.ObjectId.{ObjectId}
 use Rattle.history_model.specs.Bytes.{Bytes}
 use Rattle.history_model.specs.Objects.{TagValue, Value, StoredBytes, StoredCommit, StoredFolder, StoredTag, object_kind}
 use Rattle.history_model.specs.Repository.{Repository, HasWholeNames, IsWholeStore, id_at, is_tag, peeled, peeled_value, stands}

@@ -4,9 +4,9 @@ use Rattle.std.specs.FinMap.{contains_key, empty, get}
 use Rattle.std.proofs.lemmas.Bool.{and_parts}
 use Rattle.std.proofs.lemmas.List.{append_cancel_left, append_cancel_right, take-append-le, take_all}
 use Rattle.std.proofs.lemmas.Option.{same_Some}
-use Rattle.gix_hash_id.specs.Id.{Id, id_of}
-use Rattle.gix_hash_id.specs.declared.kind.Kind.{Kind}
-use Rattle.gix_hash_id.specs.Kind.{hex_len}
+use Rattle.gix_hash.specs.Id.{Id, id_of}
+use Rattle.gix_hash.specs.declared.kind.Kind.{Kind}
+use Rattle.gix_hash.specs.Kind.{hex_len}
 use Rattle.gix_object_lines.specs.declared.kind.Kind.{Kind as ObjectKind}
 use Rattle.gix_object_lines.specs.declared.kind.Kind.TheVariants as kinds
 use Rattle.gix_ref_file.specs.History.{History}
@@ -23,11 +23,11 @@ use Rattle.history_model.proofs.WholeTexts.{object_same}
 use Rattle.history_model.proofs.IdLemmas.{id_from_hex-hex, length-hex}
 use Rattle.history_layout.specs.TreeHalves.{HoldsValues}
 use Rattle.history_layout.proofs.TreePuts.{halves_stand}
-use Rattle.history_objects.specs.Face.{ids_of_objects}
-use Rattle.history_objects.specs.Ids.{IdSet}
-use Rattle.history_names.specs.Packing.{KeepsRecords}
+use Rattle.history_store.specs.ObjectsFace.{ids_of_objects}
+use Rattle.history_store.specs.Ids.{IdSet}
+use Rattle.history_store.specs.Packing.{KeepsRecords}
 use Rattle.history_check_objects.specs.Flaws.{IsObjectsFlaw}
-use Rattle.history_objects.specs.Opened.{IsOpened, IsOpenedWith}
+use Rattle.history_store.specs.Opened.{IsOpened, IsOpenedWith}
 use Rattle.history_check_objects.specs.Opened.{IsSoundStore, store_of}
 use Rattle.history_check_objects.specs.Stored.{AreFactsOf, Fact, Facts, fact_of}
 use Rattle.history_texts.specs.declared.open_error.OpenError.{OpenError}

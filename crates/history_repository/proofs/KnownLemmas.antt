@@ -8,10 +8,10 @@ use Rattle.std.specs.declared.alloc.Global.{Global}
 use Rattle.std.proofs.lemmas.Option.{same_Some}
 use Rattle.std.specs.Prelude.{option_map, ⊤, MatchOption, Result, Ok, Err}
 use Rattle.std.specs.FinMap.{get as stored_at}
-use Rattle.gix_hash_id.specs.Id.{Id, id_of}
-use Rattle.gix_hash_id.specs.Order.{id_cmp}
-use Rattle.gix_hash_id.specs.OrderLaws.{id_eq-same, id_tied}
-use Rattle.gix_hash_id.specs.declared.object_id.ObjectId.{ObjectId}
+use Rattle.gix_hash.specs.Id.{Id, id_of}
+use Rattle.gix_hash.specs.Order.{id_cmp}
+use Rattle.gix_hash.specs.OrderLaws.{id_eq-same, id_tied}
+use Rattle.gix_hash.specs.declared.object_id.ObjectId.{ObjectId}
 use Rattle.gix_object_lookup.specs.Existing.{Stands}
 use Rattle.gix_object_lookup.specs.Table.{Object}
 use Rattle.gix_object_lines.specs.declared.kind.Kind.TheVariants as kinds

@@ -13,8 +13,8 @@ use Rattle.std.proofs.lemmas.List.{map-append}
 use Rattle.gix_ref_file.specs.History.{History}
 use Rattle.gix_ref_file.specs.declared.files.FileError.{FileError}
 use Rattle.gix_ref_file.specs.declared.files.FileError.TheVariants.{Failed, Memory}
-use Rattle.gix_hash_id.specs.Id.{Id, id_of, null_id}
-use Rattle.gix_hash_id.specs.declared.kind.Kind.{Kind}
+use Rattle.gix_hash.specs.Id.{Id, id_of, null_id}
+use Rattle.gix_hash.specs.declared.kind.Kind.{Kind}
 use Rattle.history_model.specs.Bytes.{Bytes, by_bytes}
 use Rattle.history_model.specs.FileMap.{is_below}
 use Rattle.history_model.specs.Forms.{is_name, is_private, is_reference, IsWritten}
@@ -33,10 +33,10 @@ use Rattle.history_model.specs.declared.Cause.TheVariants.{BadName, PrivateName}
 use Rattle.history_model.proofs.WholeLists.{In}
 use Rattle.history_model.proofs.WholeStores.{in_get}
 use Rattle.history_files.proofs.Lines.{map_twice}
-use Rattle.history_names.specs.AllNames.{ListsAll, id_read}
-use Rattle.history_names.specs.NameLists.{NameIds, name_entry}
-use Rattle.history_names.specs.Packing.{told_id}
-use Rattle.history_names.specs.declared.listed.NamedId.{NamedId}
+use Rattle.history_store.specs.AllNames.{ListsAll, id_read}
+use Rattle.history_store.specs.NameLists.{NameIds, name_entry}
+use Rattle.history_store.specs.Packing.{told_id}
+use Rattle.history_store.specs.declared.listed.NamedId.{NamedId}
 use Rattle.history_repository.specs.Reads.{OnlyAnswers, IsReadingFault}
 use Rattle.history_repository.specs.NameForms.{form_cause}
 use Rattle.history_repository.specs.Face.{names_part}

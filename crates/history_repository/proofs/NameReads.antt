@@ -4,7 +4,7 @@ use Rattle.std.specs.Prelude.{nat_le}
 use Rattle.std.specs.FinMap.{get}
 use Rattle.gix_ref_file.specs.History.{History}
 use Rattle.history_model.specs.Bytes.{Bytes, begins}
-use Rattle.gix_hash_id.specs.Id.{Id, id_of}
+use Rattle.gix_hash.specs.Id.{Id, id_of}
 use Rattle.history_model.specs.Repository.{Repository, Reference, id_at, stands}
 use Rattle.history_model.specs.Forms.{is_name, max_name}
 use Rattle.gix_object_lines.specs.NameTest.{is_partial_name}
@@ -13,8 +13,8 @@ use Rattle.history_model.specs.Places.{Pair, file_at, packed_place, head_place, 
 use Rattle.history_model.specs.NameStates.{NameState, Holds, Symbolic, Absent, Faulty, name_state}
 use Rattle.history_model.specs.StandsFor.{StandsFor}
 use Rattle.history_model.proofs.PlaceLemmas.{texts_apart}
-use Rattle.history_names.specs.Packing.{NameReads, told_id}
-use Rattle.gix_hash_id.specs.declared.object_id.ObjectId.{ObjectId}
+use Rattle.history_store.specs.Packing.{NameReads, told_id}
+use Rattle.gix_hash.specs.declared.object_id.ObjectId.{ObjectId}
 use Rattle.history_repository.specs.Stands.{Stands, pair_of}
 use Rattle.history_repository.specs.Face.{names_part}
 use Rattle.std.proofs.lemmas.Bool.{and_parts}

@@ -1,11 +1,11 @@
 -- What the objects of a whole store name is stored, in the kind that they say.
 use Rattle.std.proofs.Common.{◌≡◌, true, ◌∷◌, [], List, map, refl, sym, ◌∙◌, ap, subst, inl, inr, Some}
 use Rattle.std.specs.FinMap.{get}
-use Rattle.gix_hash_id.specs.Id.{Id}
-use Rattle.gix_hash_id.specs.Kind.{hex_len}
-use Rattle.gix_hash_id.specs.declared.kind.Kind.{Kind}
-use Rattle.gix_object_commit_lines.specs.Commit.{SpellsCommit, commit_text}
-use Rattle.gix_object_commit_lines.proofs.Once.{spells_once}
+use Rattle.gix_hash.specs.Id.{Id}
+use Rattle.gix_hash.specs.Kind.{hex_len}
+use Rattle.gix_hash.specs.declared.kind.Kind.{Kind}
+use Rattle.gix_object_commit.specs.Commit.{SpellsCommit, commit_text}
+use Rattle.gix_object_commit.proofs.Once.{spells_once}
 use Rattle.gix_object_tree.proofs.TreeLaws.{one_tree}
 use Rattle.gix_object_lines.specs.declared.kind.Kind.TheVariants as kinds
 use Rattle.history_files.proofs.Items.{items, items_spelled}

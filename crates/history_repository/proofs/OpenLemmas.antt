@@ -1,7 +1,7 @@
 -- What an opened repository represents.
 use Rattle.std.proofs.Common.{◌≡◌, sym, ap, subst, ◌∙◌, List, Option, None}
 use Rattle.std.specs.FinMap.{contains_key}
-use Rattle.gix_hash_id.specs.declared.kind.Kind.{Kind}
+use Rattle.gix_hash.specs.declared.kind.Kind.{Kind}
 use Rattle.gix_ref_file.specs.History.{History}
 use Rattle.gix_traverse_commit_known.specs.Told.{rows_of}
 use Rattle.gix_traverse_graph.specs.declared.rows.Row.{Row}
@@ -9,11 +9,11 @@ use Rattle.history_model.specs.Places.{Pair}
 use Rattle.history_model.specs.StandsFor.{StandsWhole}
 use Rattle.history_repository.specs.Opened.{IsOpenedAs, trees_of}
 use Rattle.history_repository.specs.declared.folder.OpenedFolder.{OpenedFolder}
-use Rattle.history_names.specs.Face.{files_of_names, kind_of_names}
-use Rattle.history_objects.specs.Face.{files_of_objects, ids_of_objects, kind_of_objects}
-use Rattle.history_names.specs.Packing.{KeepsRecords}
-use Rattle.history_names.specs.declared.names.Names.{Names}
-use Rattle.history_objects.specs.declared.objects.Objects.{Objects}
+use Rattle.history_store.specs.NamesFace.{files_of_names, kind_of_names}
+use Rattle.history_store.specs.ObjectsFace.{files_of_objects, ids_of_objects, kind_of_objects}
+use Rattle.history_store.specs.Packing.{KeepsRecords}
+use Rattle.history_store.specs.declared.names.Names.{Names}
+use Rattle.history_store.specs.declared.objects.Objects.{Objects}
 use Rattle.history_repository.specs.declared.repository.Repository.{Repository}
 use Rattle.history_repository.specs.Face.{names_part, rows_in}
 use Rattle.history_repository.specs.KeptRows.{AgreeRows}

@@ -1,8 +1,8 @@
 -- Rows that agree with what is stored go on doing so.
 use Rattle.std.proofs.Common.{◌≡◌, arith, List, [], Some}
 use Rattle.std.specs.FinMap.{get}
-use Rattle.gix_hash_id.specs.Id.{Id, id_of}
-use Rattle.gix_hash_id.specs.declared.kind.Kind.{Kind}
+use Rattle.gix_hash.specs.Id.{Id, id_of}
+use Rattle.gix_hash.specs.declared.kind.Kind.{Kind}
 use Rattle.gix_traverse_graph.specs.declared.rows.Row.{Row}
 use Rattle.gix_traverse_graph.proofs.Lists.{none_at_nil}
 use Rattle.history_model.specs.Objects.{StoredCommit, Value}

@@ -16,18 +16,18 @@ use Rattle.std.proofs.lemmas.Str.{IsUtf8-from_ascii}
 use Rattle.std.proofs.lemmas.Str.Ascii.{IsAscii-nil, IsAscii-cons}
 use Rattle.hex.specs.Hex.{hex_digit_value, is_hex_digit}
 use Rattle.hex.proofs.HexLemmas.{IsDigits-lower_digits}
-use Rattle.gix_hash_id.specs.Id.{Id, id_of}
-use Rattle.gix_hash_id.specs.Kind.{hex_len}
-use Rattle.gix_hash_id.specs.OrderLaws.{id_total}
-use Rattle.gix_hash_id.specs.Spelling.{hex_character, hex_text, IsHexOf}
-use Rattle.gix_hash_id.specs.declared.kind.Kind.{Kind}
-use Rattle.gix_hash_id.specs.declared.kind.Kind.TheVariants.{Sha1, Sha256}
-use Rattle.gix_hash_id.specs.declared.object_id.ObjectId.{ObjectId}
-use Rattle.gix_hash_id.proofs.LawLemmas.{AreDigits, none, more}
-use Rattle.gix_hash_prefix.specs.Beginnings.{IsBeginningOf}
-use Rattle.gix_hash_prefix.specs.Prefix.{IsTextFault}
-use Rattle.gix_hash_prefix.specs.declared.prefix.from_hex.Error.{Error}
-use Rattle.gix_hash_prefix.specs.declared.prefix.from_hex.Error.TheVariants.{TooShort, TooLong, Invalid}
+use Rattle.gix_hash.specs.Id.{Id, id_of}
+use Rattle.gix_hash.specs.Kind.{hex_len}
+use Rattle.gix_hash.specs.OrderLaws.{id_total}
+use Rattle.gix_hash.specs.Spelling.{hex_character, hex_text, IsHexOf}
+use Rattle.gix_hash.specs.declared.kind.Kind.{Kind}
+use Rattle.gix_hash.specs.declared.kind.Kind.TheVariants.{Sha1, Sha256}
+use Rattle.gix_hash.specs.declared.object_id.ObjectId.{ObjectId}
+use Rattle.gix_hash.proofs.LawLemmas.{AreDigits, none, more}
+use Rattle.gix_hash.specs.Beginnings.{IsBeginningOf}
+use Rattle.gix_hash.specs.Prefix.{IsTextFault}
+use Rattle.gix_hash.specs.declared.prefix.from_hex.Error.{Error}
+use Rattle.gix_hash.specs.declared.prefix.from_hex.Error.TheVariants.{TooShort, TooLong, Invalid}
 use Rattle.gix_ref_file.specs.History.{History}
 use Rattle.gix_ref_file.proofs.Below.{when_lt}
 use Rattle.history_model.specs.Bytes.{Bytes, begins, lower}
@@ -38,17 +38,17 @@ use Rattle.history_model.specs.Repository.{Repository}
 use Rattle.history_model.specs.Words.{id_meaning, is_short_id, matches, only_one}
 use Rattle.history_model.proofs.IdLemmas.{HasKind, digest_is_id, has_kind, same_id_tie}
 use Rattle.history_model.proofs.WholeLists.{In, all_pass, one_passes, pass_all, passes_one}
-use Rattle.history_objects.specs.Face.{kind_of_objects}
-use Rattle.history_objects.specs.Ids.{AreOfKind}
-use Rattle.history_objects.specs.Prefixes.{CanName, IsHit, IsMatch}
-use Rattle.history_objects.specs.declared.prefixes.Hit.TheVariants.{Absent, One, Several}
+use Rattle.history_store.specs.ObjectsFace.{kind_of_objects}
+use Rattle.history_store.specs.Ids.{AreOfKind}
+use Rattle.history_store.specs.Prefixes.{CanName, IsHit, IsMatch}
+use Rattle.history_store.specs.declared.prefixes.Hit.TheVariants.{Absent, One, Several}
 use Rattle.history_repository.specs.Reads.{GivesMeant}
 use Rattle.history_repository.specs.Face.{known_ids}
 use Rattle.history_repository.specs.Meanings.{meaning_of, SpellsPrefix}
 use Rattle.history_repository.specs.Stands.{Stands}
 use Rattle.history_repository.specs.declared.stopped.Stopped.{Stopped}
 use Rattle.history_repository.specs.declared.words.WordMeaning.{WordMeaning}
-use Rattle.gix_hash_prefix.specs.Prefix as prefixes
+use Rattle.gix_hash.specs.Prefix as prefixes
 use Rattle.history_model.specs.Words as model
 use Rattle.history_repository.specs.declared.repository.Repository as own
 

@@ -9,17 +9,17 @@ use Rattle.history_model.specs.Bytes.{Bytes}
 use Rattle.history_model.specs.FileMap.{FileMap, IsFileMap}
 use Rattle.history_model.specs.Forms.{is_commit_form}
 use Rattle.history_model.specs.Objects.{CommitValue, Value, StoredCommit, StoredFolder, object_kind, content_of, value_text, object_text}
-use Rattle.gix_hash_id.specs.Id.{Id}
+use Rattle.gix_hash.specs.Id.{Id}
 use Rattle.history_model.specs.Places.{file_at, object_place}
 use Rattle.history_layout.specs.TreeHalves.{HoldsValues}
 use Rattle.history_model.specs.Repository.{HaveOwnIds}
-use Rattle.gix_hash_id.specs.declared.kind.Kind.{Kind}
+use Rattle.gix_hash.specs.declared.kind.Kind.{Kind}
 use Rattle.history_model.proofs.PlaceLemmas.{values_have_ids}
 use Rattle.history_layout.proofs.TreePuts.{halves_stand, places_tell_values}
 use Rattle.history_model.proofs.WholeTexts.{object_same}
 use Rattle.history_texts.specs.ObjectTexts.{IsNoObject}
 use Rattle.gix_object_lines.specs.declared.kind.Kind.{Kind as ObjectKind}
-use Rattle.history_objects.specs.declared.objects.Object.{Object}
+use Rattle.history_store.specs.declared.objects.Object.{Object}
 use Rattle.history_repository.specs.Reads.{GivesMeant, IsReadingFault}
 use Rattle.history_repository.specs.Face.{objects_part}
 use Rattle.history_repository.specs.Faults.{file_fault}

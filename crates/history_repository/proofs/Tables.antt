@@ -2,7 +2,7 @@
 use Rattle.std.proofs.Common.{◌≡◌, ◌≤◌, ◌<◌, ◌^◌, ℕ, refl, sym, ◌∙◌, ap, subst, arith, Bool, true, false}
 use Rattle.std.specs.Prelude.{Option, Some, None, IsTrue, IsSome, is_some, length, option_map, option_and_then, if◌then◌else◌}
 use Rattle.std.specs.FinMap.{get, contains_key}
-use Rattle.gix_hash_id.specs.Id.{Id}
+use Rattle.gix_hash.specs.Id.{Id}
 use Rattle.gix_ref_file.specs.History.{History}
 use Rattle.gix_object_lookup.specs.Table.{Object, Table}
 use Rattle.history_model.specs.FileMap.{FileMap}
@@ -11,7 +11,7 @@ use Rattle.history_model.specs.Forms.{max_content}
 use Rattle.history_files.specs.Reading.{IsRootOf}
 use Rattle.history_files.specs.Unfolding.{HasTrees}
 use Rattle.history_files.proofs.Stores.{has_trees}
-use Rattle.history_objects.specs.KnownObjects.{object_at, table_of, HoldsKnown}
+use Rattle.history_store.specs.KnownObjects.{object_at, table_of, HoldsKnown}
 use Rattle.history_texts.specs.ObjectTexts.{object_in}
 use Rattle.history_texts.proofs.TextObjects.{object_in-text}
 use Rattle.history_repository.specs.Face.{objects_part, known_ids}

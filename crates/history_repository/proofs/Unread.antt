@@ -1,6 +1,6 @@
 -- A file of packed names can be read.
 use Rattle.std.proofs.Common.{◌≡◌, [], ap, subst, sym, ◌∙◌, true, false, List, Option, Some, None, option_map, unwrap_or, ℕ}
-use Rattle.gix_hash_id.specs.declared.kind.Kind.{Kind}
+use Rattle.gix_hash.specs.declared.kind.Kind.{Kind}
 use Rattle.gix_ref_format.specs.Packed.{Record, packed_records}
 use Rattle.gix_ref_format.specs.PackedBuffer.{FileFault}
 use Rattle.gix_ref_file.specs.History.{History}

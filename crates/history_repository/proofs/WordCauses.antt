@@ -9,7 +9,7 @@ use Rattle.history_model.specs.Words.{WordMeaning, ReadsAs, Unborn, Unknown, Amb
 use Rattle.history_model.specs.declared.Cause.{Cause}
 use Rattle.history_model.specs.declared.Cause.TheVariants.{UnknownWord, AmbiguousWord, UnbornHead, NotACommit}
 use Rattle.history_repository.specs.Meanings.{commit_in, commit_or_cause, is_ambiguous_word, is_not_a_commit, is_unborn_head, is_unknown_word, meaning_of, stands_for, words_cause}
-use Rattle.gix_hash_id.specs.Id.{Id, id_of}
+use Rattle.gix_hash.specs.Id.{Id, id_of}
 use Rattle.history_repository.specs.declared.words.WordMeaning as own
 use Rattle.history_repository.specs.declared.words.WordMeaning.TheVariants as read
 

@@ -7,12 +7,12 @@ use Rattle.history_model.specs.Forms.{is_name, is_private}
 use Rattle.history_model.specs.Repository.{Repository, Reference, id_at, stands}
 use Rattle.history_model.specs.Words.{ReadsAs, Unborn, word_meaning, name_meaning, id_meaning, candidates, head_word}
 use Rattle.gix_ref_file.specs.History.{History}
-use Rattle.history_names.specs.Packing.{NameReads}
-use Rattle.gix_hash_id.specs.declared.object_id.ObjectId.{ObjectId}
+use Rattle.history_store.specs.Packing.{NameReads}
+use Rattle.gix_hash.specs.declared.object_id.ObjectId.{ObjectId}
 use Rattle.history_repository.specs.Stands.{Stands}
 use Rattle.history_repository.specs.Face.{names_part}
 use Rattle.history_repository.proofs.NameReads.{held}
-use Rattle.gix_hash_id.specs.Id.{Id, id_of}
+use Rattle.gix_hash.specs.Id.{Id, id_of}
 use Rattle.history_repository.specs.declared.repository.Repository as own
 
 -- what is before and after a word

@@ -1,7 +1,7 @@
 -- Why a folder isn't opened: what its error says of the two trees.
 use Rattle.std.specs.Prelude.{◌≡◌, ◌⊎◌, option_map}
 use Rattle.std.specs.FinMap.{get}
-use Rattle.gix_hash_id.specs.declared.kind.Kind.{Kind}
+use Rattle.gix_hash.specs.declared.kind.Kind.{Kind}
 use Rattle.history_model.specs.Places.{Pair}
 use Rattle.history_model.specs.Repository.{Values}
 use Rattle.history_check_names.specs.Causes.{HasCause}

@@ -1,9 +1,9 @@
 -- What callers see of a repository.
 use Rattle.std.specs.Prelude.{◌≡◌, Bool, List, Option}
 use Rattle.gix_traverse_graph.specs.declared.rows.Row.{Row}
-use Rattle.history_objects.specs.Ids.{IdSet}
-use Rattle.history_objects.specs.Face.{files_of_objects, ids_of_objects}
-use Rattle.history_names.specs.Face.{files_of_names}
+use Rattle.history_store.specs.Ids.{IdSet}
+use Rattle.history_store.specs.ObjectsFace.{files_of_objects, ids_of_objects}
+use Rattle.history_store.specs.NamesFace.{files_of_names}
 use Rattle.history_repository.specs.declared.repository.Repository.{Repository}
 
 -- the files of the part that holds the objects

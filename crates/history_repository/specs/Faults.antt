@@ -5,7 +5,7 @@ use Rattle.gix_traverse_graph.specs.declared.rows.RowsError.{RowsError}
 use Rattle.history_model.specs.declared.Fault.{Fault}
 use Rattle.history_model.specs.declared.Fault.TheVariants.{Memory, File, IdTaken}
 use Rattle.history_files.specs.declared.error.ReadError.{ReadError}
-use Rattle.history_objects.specs.declared.objects.PutMadeError.{PutMadeError}
+use Rattle.history_store.specs.declared.objects.PutMadeError.{PutMadeError}
 use Rattle.history_walks.specs.declared.error.WalkError.{WalkError}
 use Rattle.history_repository.specs.declared.stopped.Stopped.{Stopped}
 use Rattle.gix_ref_file.specs.declared.files.FileError.TheVariants as file
@@ -13,7 +13,7 @@ use Rattle.gix_object_lookup.specs.declared.find.Error as find
 use Rattle.gix_object_lookup.specs.declared.find.Error.TheVariants as found
 use Rattle.gix_traverse_graph.specs.declared.rows.RowsError.TheVariants as rows
 use Rattle.history_files.specs.declared.error.ReadError.TheVariants as read
-use Rattle.history_objects.specs.declared.objects.PutMadeError.TheVariants as put
+use Rattle.history_store.specs.declared.objects.PutMadeError.TheVariants as put
 use Rattle.history_walks.specs.declared.error.WalkError.TheVariants as walk
 use Rattle.history_repository.specs.declared.stopped.Stopped.TheVariants as stopped
 

@@ -1,7 +1,7 @@
 -- What a name holds, as it was read.
 use Rattle.std.specs.Prelude.{◌≡◌, ⊤, Option, Some, None, MatchOption, option_map, if◌then◌else◌}
-use Rattle.gix_hash_id.specs.Id.{Id, id_of}
-use Rattle.gix_hash_id.specs.Order.{id_eq}
+use Rattle.gix_hash.specs.Id.{Id, id_of}
+use Rattle.gix_hash.specs.Order.{id_eq}
 use Rattle.history_model.specs.Bytes.{Bytes}
 use Rattle.history_model.specs.Repository.{id_at}
 use Rattle.history_model.specs.Meaning.{name_commit}

@@ -1,8 +1,8 @@
 -- Rows that agree with what is stored.
 use Rattle.std.specs.Prelude.{◌≡◌, pos, List, Some, Contains, map}
 use Rattle.std.specs.FinMap.{get}
-use Rattle.gix_hash_id.specs.Id.{id_of}
-use Rattle.gix_hash_id.specs.declared.kind.Kind.{Kind}
+use Rattle.gix_hash.specs.Id.{id_of}
+use Rattle.gix_hash.specs.declared.kind.Kind.{Kind}
 use Rattle.gix_traverse_graph.specs.Rows.{AreRows}
 use Rattle.gix_traverse_graph.specs.declared.rows.Row.{Row}
 use Rattle.history_model.specs.Objects.{CommitValue, StoredCommit, folder_id}

@@ -1,9 +1,9 @@
 -- What a command has read of objects.
 use Rattle.std.specs.Prelude.{◌≡◌, Option, Some}
 use Rattle.std.specs.BTreeMap.{get_by}
-use Rattle.gix_hash_id.specs.Id.{id_of}
-use Rattle.gix_hash_id.specs.Order.{id_cmp}
-use Rattle.gix_hash_id.specs.declared.object_id.ObjectId.{ObjectId}
+use Rattle.gix_hash.specs.Id.{id_of}
+use Rattle.gix_hash.specs.Order.{id_cmp}
+use Rattle.gix_hash.specs.declared.object_id.ObjectId.{ObjectId}
 use Rattle.history_files.specs.Laws.{table_of}
 use Rattle.history_model.specs.Repository.{Repository}
 use Rattle.history_walks.specs.ReadCommits.{AreOf, kept_in}

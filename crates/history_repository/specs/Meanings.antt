@@ -13,12 +13,12 @@ use Rattle.history_repository.specs.declared.words.LookedUp.{LookedUp}
 use Rattle.history_repository.specs.declared.words.Standing.{Standing}
 use Rattle.history_repository.specs.declared.words.WordMeaning.{WordMeaning}
 use Rattle.history_repository.specs.declared.words.WordMeaning.TheVariants.{Commit, NoCommit, Unborn, Unknown, Ambiguous}
-use Rattle.gix_hash_id.specs.declared.kind.Kind.{Kind}
-use Rattle.gix_hash_id.specs.declared.object_id.ObjectId.{ObjectId}
-use Rattle.gix_hash_id.specs.Id.{Id, id_of}
-use Rattle.gix_hash_id.specs.Spelling.{IsHexOf}
+use Rattle.gix_hash.specs.declared.kind.Kind.{Kind}
+use Rattle.gix_hash.specs.declared.object_id.ObjectId.{ObjectId}
+use Rattle.gix_hash.specs.Id.{Id, id_of}
+use Rattle.gix_hash.specs.Spelling.{IsHexOf}
 use Rattle.std.specs.List.{list_any}
-use Rattle.gix_hash_id.specs.Order.{id_eq}
+use Rattle.gix_hash.specs.Order.{id_eq}
 use Rattle.history_model.specs.Words as model
 use Rattle.history_repository.specs.declared.words.LookedUp.TheVariants as looked
 

@@ -1,13 +1,13 @@
 -- What was read of an object, and of the commit that it peels to.
 use Rattle.std.specs.Prelude.{◌≡◌, ⊤, Option, Some, None, MatchOption, option_map}
 use Rattle.std.specs.FinMap.{get}
-use Rattle.gix_hash_id.specs.Id.{Id, id_of}
-use Rattle.gix_hash_id.specs.declared.kind.Kind.{Kind}
-use Rattle.gix_hash_id.specs.declared.object_id.ObjectId.{ObjectId}
+use Rattle.gix_hash.specs.Id.{Id, id_of}
+use Rattle.gix_hash.specs.declared.kind.Kind.{Kind}
+use Rattle.gix_hash.specs.declared.object_id.ObjectId.{ObjectId}
 use Rattle.history_model.specs.Bytes.{Bytes}
 use Rattle.history_model.specs.Objects.{CommitValue, StoredCommit, Value, commit_content, content_of, folder_id, object_kind}
 use Rattle.history_model.specs.Repository.{Repository, peeled}
-use Rattle.history_objects.specs.declared.objects.Object.{Object}
+use Rattle.history_store.specs.declared.objects.Object.{Object}
 use Rattle.history_repository.specs.declared.stored.MeantCommit.{MeantCommit}
 use Rattle.history_repository.specs.declared.stored.PeeledCommit.{PeeledCommit}
 

@@ -1,12 +1,12 @@
 -- What `names` is refused for, and what it shows of a name.
 use Rattle.std.specs.Prelude.{List, Option, None, IsSome, bytes_eq, codes, unwrap_or, if◌then◌else◌}
 use Rattle.std.specs.List.{AllByRecursion}
-use Rattle.gix_hash_id.specs.Id.{id_of, null_id}
+use Rattle.gix_hash.specs.Id.{id_of, null_id}
 use Rattle.history_model.specs.Bytes.{Bytes}
 use Rattle.history_model.specs.Replies.{NameLine}
 use Rattle.history_model.specs.Repository.{peeled}
 use Rattle.history_model.specs.declared.Cause.{Cause}
-use Rattle.history_names.specs.declared.listed.NamedId.{NamedId}
+use Rattle.history_store.specs.declared.listed.NamedId.{NamedId}
 use Rattle.history_repository.specs.NameForms.{form_cause}
 use Rattle.history_repository.specs.Held.{held_commit, held_id}
 use Rattle.history_repository.specs.declared.shown.Shown.{Shown}

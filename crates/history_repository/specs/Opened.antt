@@ -1,14 +1,14 @@
 -- A folder that was opened, and the repository that it is.
 use Rattle.std.specs.Prelude.{◌≡◌}
 use Rattle.std.specs.FinMap.{contains_key}
-use Rattle.gix_hash_id.specs.Id.{Id}
-use Rattle.gix_hash_id.specs.declared.kind.Kind.{Kind}
+use Rattle.gix_hash.specs.Id.{Id}
+use Rattle.gix_hash.specs.declared.kind.Kind.{Kind}
 use Rattle.gix_ref_file.specs.History.{History}
 use Rattle.history_model.specs.Places.{Pair}
 use Rattle.history_model.specs.Repository.{Repository}
 use Rattle.history_model.specs.StandsFor.{StandsWhole}
-use Rattle.history_objects.specs.Face.{ids_of_objects}
-use Rattle.history_names.specs.Packing.{KeepsRecords}
+use Rattle.history_store.specs.ObjectsFace.{ids_of_objects}
+use Rattle.history_store.specs.Packing.{KeepsRecords}
 use Rattle.history_repository.specs.declared.folder.OpenedFolder.{OpenedFolder}
 
 -- the trees of two parts

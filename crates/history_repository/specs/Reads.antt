@@ -14,7 +14,7 @@ use Rattle.history_repository.specs.declared.read_objects.ReadObjects.{ReadObjec
 use Rattle.history_repository.specs.declared.stored.MeantCommit.{MeantCommit}
 use Rattle.history_repository.specs.declared.stopped.Stopped.{Stopped}
 use Rattle.history_repository.specs.declared.stopped.Stopped.TheVariants.{Refused, Fault}
-use Rattle.gix_hash_id.specs.Id.{id_of}
+use Rattle.gix_hash.specs.Id.{id_of}
 use Rattle.history_model.specs.Repository as plain
 use Rattle.history_model.specs.Commands as orders
 use Rattle.history_model.specs.Replies as replies

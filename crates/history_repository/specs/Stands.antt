@@ -7,12 +7,12 @@ use Rattle.history_model.specs.Recovery.{recovered}
 use Rattle.history_repository.specs.declared.repository.Repository.{Repository}
 use Rattle.std.specs.FinMap.{contains_key}
 use Rattle.gix_traverse_commit_known.specs.Told.{rows_of}
-use Rattle.gix_hash_id.specs.Id.{Id}
+use Rattle.gix_hash.specs.Id.{Id}
 use Rattle.history_repository.specs.Face.{objects_part, names_part, known_ids, rows_in}
 use Rattle.history_repository.specs.KeptRows.{AgreeRows}
-use Rattle.history_names.specs.Face.{kind_of_names}
-use Rattle.history_objects.specs.Face.{kind_of_objects}
-use Rattle.history_names.specs.Packing.{KeepsRecords}
+use Rattle.history_store.specs.NamesFace.{kind_of_names}
+use Rattle.history_store.specs.ObjectsFace.{kind_of_objects}
+use Rattle.history_store.specs.Packing.{KeepsRecords}
 use Rattle.history_model.specs.Repository as plain
 
 -- the two trees of its parts

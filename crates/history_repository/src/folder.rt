@@ -4,13 +4,13 @@ ghost use Rattle.std.specs.Prelude.{◌≡◌, IfErr, IfOk, OnOk};
 ghost use Rattle.gix_ref_file.specs.Calls.{Finds};
 ghost use Rattle.history_model.specs.Repository.{Repository};
 ghost use Rattle.history_model.specs.StandsFor.{StandsWhole};
-ghost use Rattle.history_names.specs.Face.{files_of_names, kind_of_names};
-ghost use Rattle.history_objects.specs.Face.{files_of_objects, ids_of_objects, kind_of_objects};
-ghost use Rattle.history_names.specs.Packing.{KeepsRecords};
+ghost use Rattle.history_store.specs.NamesFace.{files_of_names, kind_of_names};
+ghost use Rattle.history_store.specs.ObjectsFace.{files_of_objects, ids_of_objects, kind_of_objects};
+ghost use Rattle.history_store.specs.Packing.{KeepsRecords};
 ghost use Rattle.history_check_names.specs.Causes.{HasCause, IsFault};
 ghost use Rattle.history_check_names.specs.Parts.{IsNamesPart, StandsNames};
 ghost use Rattle.history_check_objects.specs.Stored.{AreFactsOf, facts_in};
-ghost use Rattle.history_objects.specs.Opened.{IsOpenedWith};
+ghost use Rattle.history_store.specs.Opened.{IsOpenedWith};
 ghost use Rattle.history_repository.specs.Causes.{IsOpenCause, IsOpenFault};
 ghost use Rattle.history_repository.specs.Opened.{IsOpenedAs, trees_of};
 
@@ -20,8 +20,7 @@ use gix_ref_file::Files;
 use gix_ref_format::packed::buffer as packed;
 use history_check_names::{NamesError, survey_names};
 use history_check_objects::Stored;
-use history_names::Names;
-use history_objects::{Objects, open_objects};
+use history_store::{Names, Objects, open_objects};
 use std::alloc::Global;
 
 /// A folder that was opened: its objects, its names, and the branch that HEAD names.

@@ -1,8 +1,8 @@
 //! What a name holds.
 
 ghost use Rattle.std.specs.Prelude.{◌≡◌, not, option_map, unwrap_or};
-ghost use Rattle.gix_hash_id.specs.Id.{id_of, null_id};
-ghost use Rattle.gix_hash_id.specs.Order.{id_eq};
+ghost use Rattle.gix_hash.specs.Id.{id_of, null_id};
+ghost use Rattle.gix_hash.specs.Order.{id_eq};
 ghost use Rattle.history_repository.specs.Reads.{ReadsMore};
 ghost use Rattle.history_repository.specs.Held.{IsHeld, held_commit, held_id, held_peeled, tagged_commit};
 ghost use Rattle.history_repository.specs.Stands.{Stands};

@@ -2,7 +2,7 @@
 
 ghost use Rattle.std.specs.Prelude.{◌≡◌, OnOk, Some};
 ghost use Rattle.std.specs.FinMap.{get};
-ghost use Rattle.gix_hash_id.specs.Id.{id_of};
+ghost use Rattle.gix_hash.specs.Id.{id_of};
 ghost use Rattle.history_model.specs.Objects.{CommitValue, StoredCommit};
 ghost use Rattle.history_repository.specs.Meant.{HasContent, IsPeeledBy};
 ghost use Rattle.history_repository.specs.Known.{AreMeant, contents_in, meant_in};

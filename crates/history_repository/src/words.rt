@@ -6,7 +6,7 @@ ghost use Rattle.history_model.specs.Bytes.{begins};
 ghost use Rattle.history_model.specs.Forms.{is_private, refs_front};
 ghost use Rattle.history_model.specs.Words.{is_short_id, ReadsAs, id_meaning, word_meaning};
 ghost use Rattle.history_repository.specs.Meanings.{reads_as, words_cause, commit_in, peeled_in, is_ambiguous_word, is_not_a_commit, is_unborn_head, is_unknown_word, meaning_of, SpellsPrefix, IsFirstStanding, IsLookedUp, IsReadAs};
-ghost use Rattle.gix_hash_id.specs.Id.{id_of};
+ghost use Rattle.gix_hash.specs.Id.{id_of};
 ghost use Rattle.history_repository.specs.Stands.{Stands};
 ghost use Rattle.history_repository.specs.Reads.{GivesMeant, ReadsMeant, ReadsMore};
 ghost use Rattle.history_model.specs.Objects.{Value};

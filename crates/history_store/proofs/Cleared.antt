@@ -8,7 +8,7 @@ use Rattle.gix_ref_file.specs.declared.files.Place.TheVariants.{Absent}
 use Rattle.gix_ref_file.proofs.Trees.{get_inserted, room_after_insert}
 use Rattle.history_model.specs.Bytes.{Bytes}
 use Rattle.history_model.specs.Places.{head_place, unfinished_place}
-use Rattle.history_names.specs.References.{head_lock}
+use Rattle.history_store.specs.References.{head_lock}
 use Rattle.history_texts.specs.Parts.{may_hold_folder, IsClearAt, IsClear}
 use Rattle.history_texts.specs.declared.parts.Part.{Part}
 use Rattle.history_texts.specs.declared.parts.Part.TheVariants.{Objects, Names}

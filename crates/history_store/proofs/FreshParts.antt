@@ -7,7 +7,7 @@ use Rattle.history_model.specs.Laws.{IsFresh}
 use Rattle.history_model.specs.Places.{file_at, head_place}
 use Rattle.history_model.specs.Repository.{fresh}
 use Rattle.history_model.specs.StandsFor.{StandsFor, StandsWhole, head_text}
-use Rattle.gix_hash_id.specs.declared.kind.Kind.{Kind}
+use Rattle.gix_hash.specs.declared.kind.Kind.{Kind}
 use Rattle.history_model.proofs.FreshLemmas.{fresh_stands}
 use Rattle.history_store.specs.Creation.{IsNew}
 

@@ -11,7 +11,7 @@ use Rattle.history_model.specs.Bytes.{Bytes}
 use Rattle.history_model.specs.Repository.{first_branch}
 use Rattle.history_model.specs.StandsFor.{head_text}
 use Rattle.history_model.specs.Places.{file_at, head_place, unfinished_place}
-use Rattle.history_names.specs.References.{head_lock}
+use Rattle.history_store.specs.References.{head_lock}
 use Rattle.history_store.specs.Creation.{HasHead, IsCleared, IsNew, LeftoverMayGo, HeadMayStand}
 use Rattle.gix_ref_way.specs.Ways.{ChangesOneFile, SameFolders}
 use Rattle.history_texts.specs.Parts.{IsClear}

@@ -10,10 +10,10 @@ use Rattle.history_model.specs.Bytes.{Bytes}
 use Rattle.history_model.specs.Repository.{first_branch}
 use Rattle.history_model.specs.StandsFor.{head_text}
 use Rattle.history_model.specs.Places.{file_at, head_place, unfinished_place}
-use Rattle.history_names.specs.References.{head_lock}
+use Rattle.history_store.specs.References.{head_lock}
 use Rattle.history_store.specs.Creation.{IsCleared, HasHead}
 use Rattle.gix_ref_way.proofs.Stored.{apart_from_inserted, apart_from_removed}
-use Rattle.history_names.proofs.Beside.{file_removed}
+use Rattle.history_store.proofs.Beside.{file_removed}
 
 no_file : (o : Option Node) → Absent ≡ place_of o → bytes_of o ≡ None
 no_file None is = refl

@@ -9,7 +9,7 @@ use Rattle.history_model.specs.Bytes.{Bytes}
 use Rattle.history_model.specs.Places.{file_at, head_place, unfinished_place}
 use Rattle.history_store.specs.Creation.{HasHead, IsCleared, IsNew}
 use Rattle.gix_ref_way.specs.Ways.{SameFolders}
-use Rattle.history_names.specs.References.{head_lock}
+use Rattle.history_store.specs.References.{head_lock}
 use Rattle.history_texts.specs.Parts.{may_hold_folder, IsClearAt, IsClear, IsStrayAt}
 use Rattle.history_texts.specs.declared.parts.Part.{Part}
 use Rattle.history_texts.specs.declared.parts.Part.TheVariants.{Objects, Names}

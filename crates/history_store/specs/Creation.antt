@@ -8,11 +8,11 @@ use Rattle.history_model.specs.Bytes.{Bytes}
 use Rattle.history_model.specs.Repository.{first_branch}
 use Rattle.history_model.specs.Places.{file_at, head_place, unfinished_place, is_object_folder, is_name_folder}
 use Rattle.history_model.specs.StandsFor.{head_text}
-use Rattle.history_objects.specs.Stores.{KeepsFiles}
+use Rattle.history_store.specs.Stores.{KeepsFiles}
 use Rattle.history_store.specs.declared.creation.CreateError.{CreateError}
 use Rattle.history_store.specs.declared.creation.CreateError.TheVariants as errors
 use Rattle.gix_ref_way.specs.Ways.{SameFolders}
-use Rattle.history_names.specs.References.{head_lock}
+use Rattle.history_store.specs.References.{head_lock}
 
 -- `objects/unfinished` is gone, and each other file as before
 pub record IsCleared (old new : Tree) : Type 0 where

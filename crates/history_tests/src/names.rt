@@ -4,7 +4,7 @@ use crate::common::{INPUT, KINDS, REPLIES, made_id, parts_after};
 use gix_ref_file::MemoryFiles;
 use history_check_names::{NamesError, survey_names};
 use history_check_objects::whole_objects;
-use history_names::Names;
+use history_store::Names;
 use std::test::Fail;
 
 #[test]

@@ -19,7 +19,7 @@ use Rattle.gix_object_lines.proofs.TimeLemmas.{seconds_written}
 use Rattle.gix_object_lines.proofs.ActorLemmas.{time_lacks}
 use Rattle.gix_object_lines.specs.Person.{Person, actor_line}
 use Rattle.history_texts.specs.Actors.{plain_actor, IsFormed, IsNoTime, IsTimeOf}
-use Rattle.gix_object_commit_lines.specs.Commit.{IsPerson}
+use Rattle.gix_object_commit.specs.Commit.{IsPerson}
 use Rattle.history_texts.specs.Formats.{actor_of, person_of}
 use Rattle.history_texts.specs.declared.actor.Actor as actors
 use Rattle.history_texts.proofs.Offsets.{OffsetTold, offset_told}

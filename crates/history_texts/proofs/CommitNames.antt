@@ -4,11 +4,11 @@ use Rattle.std.specs.Prelude.{IsFalse, IsTrue, MatchOption, Option, None, Some, 
 use Rattle.std.specs.declared.alloc.Global.{Global}
 use Rattle.std.specs.FinMap.{empty}
 use Rattle.std.specs.List.{list_all}
-use Rattle.gix_hash_id.specs.Id.{Id, id_of}
-use Rattle.gix_hash_id.specs.Kind.{hex_len}
-use Rattle.gix_hash_id.specs.Order.{id_eq}
-use Rattle.gix_hash_id.specs.declared.kind.Kind.{Kind}
-use Rattle.gix_object_commit_lines.specs.Commit.{Parts, SpellsCommit, commit_text}
+use Rattle.gix_hash.specs.Id.{Id, id_of}
+use Rattle.gix_hash.specs.Kind.{hex_len}
+use Rattle.gix_hash.specs.Order.{id_eq}
+use Rattle.gix_hash.specs.declared.kind.Kind.{Kind}
+use Rattle.gix_object_commit.specs.Commit.{Parts, SpellsCommit, commit_text}
 use Rattle.history_model.specs.Bytes.{Bytes, has_twice}
 use Rattle.history_model.specs.Forms.{is_actor, is_commit_form, is_id, max_parents, max_title, title}
 use Rattle.history_model.specs.Objects.{CommitValue}

@@ -4,13 +4,13 @@ use Rattle.std.specs.Prelude.{All, IfNone, IsTrue, MatchOption, Option, None, So
 use Rattle.std.specs.Char.{is_ascii_hexdigit}
 use Rattle.std.specs.List.{flat_map, list_all}
 use Rattle.std.proofs.lemmas.List.Elements.{All-nil, All-cons}
-use Rattle.gix_hash_id.specs.Id.{Id, id_of}
-use Rattle.gix_hash_id.specs.Kind.{hex_len}
-use Rattle.gix_hash_id.specs.Order.{id_eq}
-use Rattle.gix_hash_id.specs.Spelling.{hex_character, hex_text}
-use Rattle.gix_hash_id.specs.declared.kind.Kind.{Kind}
+use Rattle.gix_hash.specs.Id.{Id, id_of}
+use Rattle.gix_hash.specs.Kind.{hex_len}
+use Rattle.gix_hash.specs.Order.{id_eq}
+use Rattle.gix_hash.specs.Spelling.{hex_character, hex_text}
+use Rattle.gix_hash.specs.declared.kind.Kind.{Kind}
 use Rattle.gix_object_lines.specs.HexLine.{IsHex, hex_line, is_hex}
-use Rattle.gix_object_commit_lines.specs.Commit.{Parts, SpellsCommit, commit_text}
+use Rattle.gix_object_commit.specs.Commit.{Parts, SpellsCommit, commit_text}
 use Rattle.history_model.specs.Bytes.{Bytes, has_twice, line}
 use Rattle.history_model.specs.Forms.{is_id, is_actor, is_commit_form, title, max_parents, max_title}
 use Rattle.history_model.specs.Objects.{Actor, CommitValue, hex, actor_text, commit_content, folder_id, tree_text, root}

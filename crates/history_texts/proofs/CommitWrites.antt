@@ -5,15 +5,15 @@ use Rattle.std.specs.Fmt.{signed_decimal}
 use Rattle.std.specs.List.{list_all}
 use Rattle.std.specs.declared.alloc.Global.{Global}
 use Rattle.std.proofs.lemmas.Bool.Decides.{Decides-eqb, Decides-ltb}
-use Rattle.gix_hash_id.specs.Id.{id_of}
-use Rattle.gix_hash_id.specs.Kind.{hex_len}
-use Rattle.gix_hash_id.specs.declared.kind.Kind.{Kind}
-use Rattle.gix_hash_id.specs.declared.object_id.ObjectId.{ObjectId}
+use Rattle.gix_hash.specs.Id.{id_of}
+use Rattle.gix_hash.specs.Kind.{hex_len}
+use Rattle.gix_hash.specs.declared.kind.Kind.{Kind}
+use Rattle.gix_hash.specs.declared.object_id.ObjectId.{ObjectId}
 use Rattle.gix_object_lines.specs.Time.{offset_text}
 use Rattle.gix_object_lines.specs.Writes.{Refusal}
 use Rattle.gix_object_lines.specs.declared.write.Error as write
 use Rattle.gix_object_lines.specs.declared.lines.actor.Actor as lines
-use Rattle.gix_object_commit_lines.specs.Commit.{Parts, SpellsCommit, commit_text}
+use Rattle.gix_object_commit.specs.Commit.{Parts, SpellsCommit, commit_text}
 use Rattle.gix_object_commit.specs.OwnedText.{is_own_person, is_whole_offset, own_digits, own_field, own_parts, own_person_piece, own_refusal}
 use Rattle.gix_object_commit.specs.Writable.{IsPlainPerson}
 use Rattle.gix_object_commit.specs.Writing.{encoding_pieces, header_pieces, holds, id_pieces, is_plain, message_pieces, person_piece, refused_unless}

@@ -2,18 +2,18 @@
 use Rattle.std.proofs.Common.{◌≡◌, ◌∙◌, ap, refl, sym, subst, [], Option, None, Some, Result, Ok, Err, inl, inr}
 use Rattle.std.specs.Prelude.{IsTrue, MatchOption, codes}
 use Rattle.std.specs.Result.{result_ok}
-use Rattle.gix_hash_id.specs.Id.{Id, id_of}
-use Rattle.gix_hash_id.specs.Kind.{hex_len}
-use Rattle.gix_hash_id.specs.declared.kind.Kind.{Kind}
-use Rattle.gix_hash_id.specs.declared.object_id.ObjectId.{ObjectId}
-use Rattle.gix_hash_id.proofs.LawLemmas.{hex_text-IsHexOf}
+use Rattle.gix_hash.specs.Id.{Id, id_of}
+use Rattle.gix_hash.specs.Kind.{hex_len}
+use Rattle.gix_hash.specs.declared.kind.Kind.{Kind}
+use Rattle.gix_hash.specs.declared.object_id.ObjectId.{ObjectId}
+use Rattle.gix_hash.proofs.LawLemmas.{hex_text-IsHexOf}
 use Rattle.gix_object_lines.specs.declared.decode.Error.{Error}
-use Rattle.gix_object_commit_tokens.specs.ReadingOn.{TakesTree, tree_given}
-use Rattle.gix_object_commit_tokens.specs.Tokens.{GivesToken, IsIdLine, Place, Tree, id_told, start}
-use Rattle.gix_object_commit_tokens.specs.declared.ref_iter.Stage.TheVariants as at
-use Rattle.gix_object_commit_tokens.specs.declared.ref_iter.Token.{Token}
-use Rattle.gix_object_commit_tokens.specs.declared.ref_iter.Token.TheVariants as token
-use Rattle.gix_object_commit_tokens.proofs.OnePart.{one_part}
+use Rattle.gix_object_commit.specs.ReadingOn.{TakesTree, tree_given}
+use Rattle.gix_object_commit.specs.Tokens.{GivesToken, IsIdLine, Place, Tree, id_told, start}
+use Rattle.gix_object_commit.specs.declared.ref_iter.Stage.TheVariants as at
+use Rattle.gix_object_commit.specs.declared.ref_iter.Token.{Token}
+use Rattle.gix_object_commit.specs.declared.ref_iter.Token.TheVariants as token
+use Rattle.gix_object_commit.proofs.OnePart.{one_part}
 use Rattle.history_model.specs.Bytes.{Bytes}
 use Rattle.history_model.specs.Forms.{is_commit_form}
 use Rattle.history_model.specs.Objects.{CommitValue, hex, commit_content, folder_id}

@@ -3,9 +3,9 @@
 use Rattle.std.proofs.Common.{◌≡◌, ◌∙◌, ap, refl, sym, subst, arith, tests, ℕ, true, false, ◌&&◌, ◌||◌, ◌==◌, nat_eq, [], ◌∷◌, ◌++◌}
 use Rattle.std.specs.Prelude.{codes, decimal}
 use Rattle.std.proofs.lemmas.Bool.{or_parts}
-use Rattle.gix_hash_id.specs.Kind.{hex_len}
-use Rattle.gix_object_commit_lines.specs.Commit.{Parts}
-use Rattle.gix_object_commit_lines.proofs.Once.{spells_once}
+use Rattle.gix_hash.specs.Kind.{hex_len}
+use Rattle.gix_object_commit.specs.Commit.{Parts}
+use Rattle.gix_object_commit.proofs.Once.{spells_once}
 use Rattle.gix_object_lines.specs.Actor.{SpellsActor}
 use Rattle.gix_object_lines.specs.declared.kind.Kind.TheVariants as kinds
 use Rattle.gix_object_lines.proofs.ActorLemmas.{one_cut}

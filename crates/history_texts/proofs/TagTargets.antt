@@ -2,13 +2,13 @@
 use Rattle.std.proofs.Common.{◌≡◌, ◌∙◌, ap, refl, sym, subst, [], ◌++◌, Option, None, Some, Result, Ok, Err}
 use Rattle.std.specs.Prelude.{IsTrue, MatchOption, codes}
 use Rattle.std.specs.Result.{result_ok}
-use Rattle.gix_hash_id.specs.Id.{Id, id_of}
-use Rattle.gix_hash_id.specs.Kind.{hex_len}
-use Rattle.gix_hash_id.specs.declared.kind.Kind.{Kind}
-use Rattle.gix_hash_id.specs.declared.object_id.ObjectId.{ObjectId}
-use Rattle.gix_hash_id.proofs.LawLemmas.{hex_text-IsHexOf}
+use Rattle.gix_hash.specs.Id.{Id, id_of}
+use Rattle.gix_hash.specs.Kind.{hex_len}
+use Rattle.gix_hash.specs.declared.kind.Kind.{Kind}
+use Rattle.gix_hash.specs.declared.object_id.ObjectId.{ObjectId}
+use Rattle.gix_hash.proofs.LawLemmas.{hex_text-IsHexOf}
 use Rattle.gix_object_lines.specs.declared.decode.Error.{Error}
-use Rattle.gix_object_commit_lines.proofs.Once.{hex_once}
+use Rattle.gix_object_commit.proofs.Once.{hex_once}
 use Rattle.gix_object_tag.specs.ReadingOn.{TakesTarget, target_given}
 use Rattle.gix_object_tag.specs.Tokens.{GivesToken, IsIdLine, Place, Target, start}
 use Rattle.gix_object_tag.specs.declared.tag.ref_iter.Stage.TheVariants as at
@@ -53,7 +53,7 @@ tells kind content before result found begins (given, after, gives, is) found_is
 one_target : (kind : Kind) (content : Bytes) (a b : Id) (rest other : Bytes) → IsIdLine kind content a rest → IsIdLine kind content b other → a ≡ b
 one_target kind content a b rest other x y =
     let same = hex_once (codes "object") x.digits y.digits rest other (x.spelled.hex.0 ∙ sym y.spelled.hex.0) (sym x.spelled.spelled ∙ y.spelled.spelled) in
-    one_id x.digits a b x.id_spelled (subst (λ digits. Rattle.gix_hash_id.specs.Views.IsHexOfId digits b) (sym same.0) y.id_spelled)
+    one_id x.digits a b x.id_spelled (subst (λ digits. Rattle.gix_hash.specs.Views.IsHexOfId digits b) (sym same.0) y.id_spelled)
 
 -- the first line of a value's content names what the tag is of
 value_names : (kind : Kind) (value : TagValue) → IsTrue (is_tag_form kind value) → (rest : Bytes) × IsIdLine kind (tag_content value) value.target rest

@@ -3,12 +3,12 @@ use Rattle.std.specs.Prelude.{◌≡◌, Bool, ◌&&◌, List, [], None, map, Is
 use Rattle.std.specs.List.{list_all}
 use Rattle.history_model.specs.Forms.{is_id, is_actor}
 use Rattle.history_model.specs.Objects.{Actor, CommitValue, folder_id}
-use Rattle.gix_hash_id.specs.declared.kind.Kind.{Kind}
-use Rattle.gix_object_commit_lines.specs.Commit.{Parts}
+use Rattle.gix_hash.specs.declared.kind.Kind.{Kind}
+use Rattle.gix_object_commit.specs.Commit.{Parts}
 use Rattle.gix_object_commit.specs.declared.commit.owned.Commit.{Commit}
 use Rattle.history_texts.specs.Actors.{HasActorForm}
 use Rattle.history_texts.specs.Formats.{own_actor, plain_parts}
-use Rattle.gix_hash_id.specs.Id.{Id, id_of}
+use Rattle.gix_hash.specs.Id.{Id, id_of}
 
 -- the ids that the commit names are of this kind
 abbrev pub has_ids_of : Kind → Commit → Bool

@@ -2,8 +2,8 @@
 use Rattle.std.specs.Prelude.{List, [], ◌∷◌, ◌++◌, map, decimal, None}
 use Rattle.history_model.specs.Bytes.{Bytes}
 use Rattle.history_model.specs.Objects.{hex}
-use Rattle.gix_hash_id.specs.Id.{Id, id_of}
-use Rattle.gix_object_commit_lines.specs.Commit.{Parts}
+use Rattle.gix_hash.specs.Id.{Id, id_of}
+use Rattle.gix_object_commit.specs.Commit.{Parts}
 use Rattle.gix_object_commit.specs.declared.commit.owned.Commit.{Commit}
 use Rattle.gix_object_lines.specs.declared.lines.actor.Actor as lines
 use Rattle.gix_object_lines.specs.Person.{Person}

@@ -1,9 +1,9 @@
 -- Why a commit or a tag in no written form is refused: its time is before 1970, or it is no
 -- commit's tag.
 use Rattle.std.specs.Prelude.{◌≡◌, Bool, ◌||◌, ◌∷◌, ◌++◌, codes, IsTrue}
-use Rattle.gix_hash_id.specs.Kind.{hex_len}
-use Rattle.gix_hash_id.specs.declared.kind.Kind.{Kind}
-use Rattle.gix_object_commit_lines.specs.Commit.{Parts, SpellsCommit}
+use Rattle.gix_hash.specs.Kind.{hex_len}
+use Rattle.gix_hash.specs.declared.kind.Kind.{Kind}
+use Rattle.gix_object_commit.specs.Commit.{Parts, SpellsCommit}
 use Rattle.gix_object_lines.specs.Actor.{SpellsActor}
 use Rattle.gix_object_lines.specs.Bytes.{Lacks}
 use Rattle.gix_object_lines.specs.declared.kind.Kind.{Kind as ObjectKind}

@@ -3,10 +3,10 @@ use Rattle.std.specs.Prelude.{◌≡◌, ◌≢◌, Bool, true, false, ◌&&◌,
 use Rattle.std.specs.Option.{option_or}
 use Rattle.history_model.specs.Bytes.{Bytes}
 use Rattle.history_model.specs.Objects.{digest, object_text, empty_tree_id}
-use Rattle.gix_hash_id.specs.Id.{Id, id_of, null_id}
-use Rattle.gix_hash_id.specs.Order.{id_eq}
-use Rattle.gix_hash_id.specs.declared.kind.Kind.{Kind}
-use Rattle.gix_hash_id.specs.declared.object_id.ObjectId.{ObjectId}
+use Rattle.gix_hash.specs.Id.{Id, id_of, null_id}
+use Rattle.gix_hash.specs.Order.{id_eq}
+use Rattle.gix_hash.specs.declared.kind.Kind.{Kind}
+use Rattle.gix_hash.specs.declared.object_id.ObjectId.{ObjectId}
 use Rattle.gix_object_lines.specs.declared.kind.Kind.{Kind as ObjectKind}
 use Rattle.gix_object_lines.specs.declared.kind.Kind.TheVariants as kinds
 use Rattle.gix_object_lookup.specs.Table.{Object}

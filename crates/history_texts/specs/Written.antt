@@ -2,8 +2,8 @@
 -- (git-fsck reports other trees; git-mktree, git-commit-tree and git-mktag write these).
 use Rattle.std.specs.Prelude.{◌≡◌, ◌≢◌, ◌≤◌, List, [], ◌∷◌, ◌++◌, codes, length, map, IsTrue, IsFalse, if◌then◌else◌}
 use Rattle.std.specs.List.{All}
-use Rattle.gix_hash_id.specs.Id.{Id, id_of}
-use Rattle.gix_hash_id.specs.declared.kind.Kind.{Kind}
+use Rattle.gix_hash.specs.Id.{Id, id_of}
+use Rattle.gix_hash.specs.declared.kind.Kind.{Kind}
 use Rattle.gix_object_lines.specs.Bytes.{Lacks}
 use Rattle.gix_object_lines.specs.declared.kind.Kind.{Kind as ObjectKind}
 use Rattle.gix_object_lines.specs.declared.kind.Kind.TheVariants as kinds
@@ -14,7 +14,7 @@ use Rattle.gix_object_tree.specs.Order.{is_tree}
 use Rattle.gix_object_tree.specs.WellFormed.{IsWellFormed}
 use Rattle.gix_object_tree.specs.Writing.{tree_text}
 use Rattle.gix_object_tree.specs.declared.tree.mode.EntryKind.TheVariants as modes
-use Rattle.gix_object_commit_lines.specs.Commit.{Parts, commit_text}
+use Rattle.gix_object_commit.specs.Commit.{Parts, commit_text}
 use Rattle.history_model.specs.Bytes.{Bytes, is_empty}
 use Rattle.history_model.specs.Forms.{is_id, is_actor, is_commit_form, is_tag_form, is_tag_name, title, max_title}
 use Rattle.history_model.specs.Objects.{Actor, CommitValue, TagValue, actor_text, empty_tree_id, tag_content}

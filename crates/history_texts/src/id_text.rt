@@ -1,6 +1,6 @@
 //! Ids as Git's texts spell them: in lower-case hexadecimal, and read in either letter case.
 ghost use Rattle.std.specs.Prelude.{◌≡◌, ◌≢◌, MatchOption, IsTrue};
-ghost use Rattle.gix_hash_id.specs.Id.{Id, id_of};
+ghost use Rattle.gix_hash.specs.Id.{Id, id_of};
 ghost use Rattle.history_model.specs.Forms.{is_id};
 ghost use Rattle.history_model.specs.Objects.{hex};
 

@@ -2,7 +2,7 @@
 ghost use Rattle.std.specs.Prelude.{◌≡◌, ◌≤◌, length, drop, IfSome, IfNone};
 ghost use Rattle.history_model.specs.Objects.{digest, object_text};
 ghost use Rattle.history_texts.specs.ObjectTexts.{IsNoObject, IsIdOf};
-ghost use Rattle.gix_hash_id.specs.Id.{id_of};
+ghost use Rattle.gix_hash.specs.Id.{id_of};
 
 use gix_hash::hasher::hasher;
 use gix_hash::{Kind, ObjectId};

@@ -1,6 +1,6 @@
 //! Where the files of objects are.
 ghost use Rattle.std.specs.Prelude.{◌≡◌, IfOk};
-ghost use Rattle.gix_hash_id.specs.Id.{id_of};
+ghost use Rattle.gix_hash.specs.Id.{id_of};
 ghost use Rattle.history_model.specs.Places.{object_place};
 
 use crate::id_text::hex_digits;

@@ -1,7 +1,7 @@
 //! Tags of the store, which are `gix_object`'s: the commits that they are of, and their contents.
 ghost use Rattle.std.specs.Prelude.{◌≡◌, ◌≢◌, List, [], ℕ, None, IfOk, IsTrue, MatchOption};
-ghost use Rattle.gix_hash_id.specs.Id.{Id, id_of};
-ghost use Rattle.gix_hash_id.specs.declared.kind.Kind as hash;
+ghost use Rattle.gix_hash.specs.Id.{Id, id_of};
+ghost use Rattle.gix_hash.specs.declared.kind.Kind as hash;
 ghost use Rattle.gix_object_lines.specs.declared.kind.Kind.TheVariants as objects;
 ghost use Rattle.gix_object_tag.specs.OwnedText.{is_bad_actor, own_parts};
 ghost use Rattle.gix_object_tag.specs.TagText.{tag_refusal, tag_text};

@@ -1,8 +1,8 @@
 -- The errors of walks, in the words of a list of commits.
 use Rattle.std.proofs.Common.{◌≡◌, ap, sym, subst, List, inl, inr, Option, Some, None, option_map, take}
 use Rattle.std.specs.Prelude.{Contains}
-use Rattle.gix_hash_id.specs.Id.{id_of}
-use Rattle.gix_hash_id.specs.declared.object_id.ObjectId.{ObjectId}
+use Rattle.gix_hash.specs.Id.{id_of}
+use Rattle.gix_hash.specs.declared.object_id.ObjectId.{ObjectId}
 use Rattle.gix_object_lookup.specs.Table.{Table, kind_at}
 use Rattle.gix_object_lookup.specs.declared.find.Error.TheVariants as lookup
 use Rattle.gix_object_lookup.specs.declared.find.existing_iter.Error as existing_iter

@@ -3,8 +3,8 @@ use Rattle.std.proofs.Common.{◌≡◌, ◌∙◌, ◌≤◌, ◌+◌, ℕ, zer
 use Rattle.std.specs.Prelude.{Contains, fold, ◌⊎◌}
 use Rattle.std.specs.FinMap.{len, keys, entries, len-entries}
 use Rattle.std.proofs.lemmas.List.{length-map}
-use Rattle.gix_hash_id.specs.Id.{Id, id_of}
-use Rattle.gix_hash_id.specs.declared.object_id.ObjectId.{ObjectId}
+use Rattle.gix_hash.specs.Id.{Id, id_of}
+use Rattle.gix_hash.specs.declared.object_id.ObjectId.{ObjectId}
 use Rattle.history_model.specs.Answers.{generation, generation_within, parents_at}
 use Rattle.history_model.specs.Objects.{CommitValue}
 use Rattle.history_model.specs.Repository.{Repository}

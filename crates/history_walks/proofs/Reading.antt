@@ -3,8 +3,8 @@ use Rattle.std.proofs.Common.{◌≡◌, ◌∙◌, refl, sym, subst, true, fals
 use Rattle.std.specs.Prelude.{Contains, IfOk, IfErr, IfSome}
 use Rattle.std.specs.BTreeMap.{Updates}
 use Rattle.std.specs.declared.alloc.Global.{Global}
-use Rattle.gix_hash_id.specs.Id.{Id, id_of}
-use Rattle.gix_hash_id.specs.declared.object_id.ObjectId.{ObjectId}
+use Rattle.gix_hash.specs.Id.{Id, id_of}
+use Rattle.gix_hash.specs.declared.object_id.ObjectId.{ObjectId}
 use Rattle.gix_object_lookup.specs.Existing as object
 use Rattle.gix_object_lookup.specs.Table.{Table}
 use Rattle.gix_object_lines.specs.declared.kind.Kind.TheVariants as kinds

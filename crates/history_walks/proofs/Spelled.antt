@@ -3,19 +3,19 @@ use Rattle.std.proofs.Common.{◌≡◌, ◌∙◌, ap, refl, sym, subst, ℕ, �
 use Rattle.std.specs.Prelude.{filter_map}
 use Rattle.std.proofs.lemmas.List.{take-map}
 use Rattle.std.proofs.lemmas.List.Elements.{filter_map-append}
-use Rattle.gix_hash_id.specs.Id.{Id, id_of}
-use Rattle.gix_hash_id.specs.declared.kind.Kind as hash
-use Rattle.gix_hash_id.specs.declared.object_id.ObjectId.{ObjectId}
+use Rattle.gix_hash.specs.Id.{Id, id_of}
+use Rattle.gix_hash.specs.declared.kind.Kind as hash
+use Rattle.gix_hash.specs.declared.object_id.ObjectId.{ObjectId}
 use Rattle.gix_object_lines.specs.Person.{Person}
 use Rattle.gix_object_lines.specs.Time.{SpellsTime}
 use Rattle.gix_object_lines.specs.declared.decode.Error as decode
 use Rattle.gix_object_lines.specs.declared.lines.time.Time.{Time}
 use Rattle.gix_object_lines.proofs.TimeLemmas.{time_once}
-use Rattle.gix_object_commit_tokens.specs.ReadingOn.{Reads, TellsFirst, TellsNone, committer_told, parent_told}
-use Rattle.gix_object_commit_tokens.specs.Tokens.{Part, Tree, Parent, Author, Committer, Encoding, Header, Message, IsPartAt, Place, LacksPart, start}
-use Rattle.gix_object_commit_tokens.specs.Whole.{parent_tokens}
-use Rattle.gix_object_commit_tokens.proofs.Left.{no_part}
-use Rattle.gix_object_commit_tokens.proofs.OnePart.{one_next}
+use Rattle.gix_object_commit.specs.ReadingOn.{Reads, TellsFirst, TellsNone, committer_told, parent_told}
+use Rattle.gix_object_commit.specs.Tokens.{Part, Tree, Parent, Author, Committer, Encoding, Header, Message, IsPartAt, Place, LacksPart, start}
+use Rattle.gix_object_commit.specs.Whole.{parent_tokens}
+use Rattle.gix_object_commit.proofs.Left.{no_part}
+use Rattle.gix_object_commit.proofs.OnePart.{one_next}
 use Rattle.gix_traverse_graph.specs.Commits.{Commit}
 use Rattle.gix_traverse_commit_known.specs.Fetching.{LacksParents}
 use Rattle.gix_traverse_commit_known.specs.Told.{beyond_told, IsPastParents, TellsCommit, TellsParents, TellsSeconds}

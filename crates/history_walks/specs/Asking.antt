@@ -1,6 +1,6 @@
 -- A request for commits, and which lists are right for it.
 use Rattle.std.specs.Prelude.{true, ℤ, List, Option, None}
-use Rattle.gix_hash_id.specs.declared.object_id.ObjectId.{ObjectId}
+use Rattle.gix_hash.specs.declared.object_id.ObjectId.{ObjectId}
 use Rattle.gix_object_lookup.specs.Table.{Table}
 use Rattle.gix_traverse_graph.specs.Commits.{Commits, WalkRequest}
 use Rattle.gix_traverse_commit_known.specs.Told.{AreTold}

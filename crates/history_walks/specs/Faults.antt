@@ -1,9 +1,9 @@
 -- Why commits aren't listed: `may_fail` says that a store's lookups may fail.
 use Rattle.std.specs.Prelude.{ℕ, ◌⊎◌, ⊤, List}
-use Rattle.gix_hash_id.specs.Id.{id_of}
-use Rattle.gix_hash_id.specs.declared.object_id.ObjectId.{ObjectId}
-use Rattle.gix_object_commit_tokens.specs.ReadingOn.{TellsNone, committer_told}
-use Rattle.gix_object_commit_tokens.specs.Tokens.{start}
+use Rattle.gix_hash.specs.Id.{id_of}
+use Rattle.gix_hash.specs.declared.object_id.ObjectId.{ObjectId}
+use Rattle.gix_object_commit.specs.ReadingOn.{TellsNone, committer_told}
+use Rattle.gix_object_commit.specs.Tokens.{start}
 use Rattle.gix_object_lookup.specs.Existing.{Stands}
 use Rattle.gix_object_lookup.specs.Table.{Table}
 use Rattle.gix_object_lookup.specs.declared.find.Error as looking_up

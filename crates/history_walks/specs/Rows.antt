@@ -1,6 +1,6 @@
 -- The rows of a walk, in the words of the plain repository.
 use Rattle.std.specs.Prelude.{◌≡◌, pos, List, length, map, Contains}
-use Rattle.gix_hash_id.specs.Id.{id_of}
+use Rattle.gix_hash.specs.Id.{id_of}
 use Rattle.gix_traverse_graph.specs.declared.rows.Row.{Row}
 use Rattle.history_model.specs.Answers as model
 

@@ -1,6 +1,6 @@
 -- Why a walk ends early whose commits each come after their children.
 use Rattle.std.specs.Prelude.{◌≡◌, ◌⊎◌, List, Option, Some}
-use Rattle.gix_hash_id.specs.declared.object_id.ObjectId.{ObjectId}
+use Rattle.gix_hash.specs.declared.object_id.ObjectId.{ObjectId}
 use Rattle.gix_traverse_graph.specs.Commits.{Commits, Listed}
 use Rattle.gix_traverse_graph.specs.declared.parents.Parents.{Parents}
 use Rattle.gix_traverse_topo.specs.Standing.{all_accepted, topo_request}

@@ -1,7 +1,7 @@
 -- What is said of commits.
 use Rattle.std.specs.Prelude.{◌≡◌, ⊤, pos, List, [], ◌∷◌, Some, map, Contains}
-use Rattle.gix_hash_id.specs.Id.{Id, id_of}
-use Rattle.gix_hash_id.specs.declared.object_id.ObjectId.{ObjectId}
+use Rattle.gix_hash.specs.Id.{Id, id_of}
+use Rattle.gix_hash.specs.declared.object_id.ObjectId.{ObjectId}
 use Rattle.history_model.specs.Objects.{CommitValue, folder_id}
 use Rattle.history_model.specs.Repository.{Repository, HoldsCommit, commit_at}
 use Rattle.history_walks.specs.declared.told.Told.{Told}

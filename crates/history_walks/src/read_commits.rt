@@ -1,8 +1,8 @@
 //! Commits that were read from a store.
 
 ghost use Rattle.std.specs.Prelude.{◌≡◌, ◌++◌, ⊤, true, List, None, Contains, IfOk, IfErr, MatchOption, OnOk};
-ghost use Rattle.gix_hash_id.specs.Id.{Id, id_of};
-ghost use Rattle.gix_hash_id.specs.declared.object_id.ObjectId.{ObjectId};
+ghost use Rattle.gix_hash.specs.Id.{Id, id_of};
+ghost use Rattle.gix_hash.specs.declared.object_id.ObjectId.{ObjectId};
 ghost use Rattle.gix_object_lines.specs.declared.kind.Kind.TheVariants as kinds;
 ghost use Rattle.gix_object_lookup.specs.Existing.{Stands};
 ghost use Rattle.gix_object_lookup.specs.Table.{Table};

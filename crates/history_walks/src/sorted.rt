@@ -1,7 +1,7 @@
 //! Lists by date and in topological order.
 
 ghost use Rattle.std.specs.Prelude.{◌≡◌, ◌⊎◌, true, [], List, Option, Some, IfOk, IfErr};
-ghost use Rattle.gix_hash_id.specs.declared.object_id.ObjectId.{ObjectId};
+ghost use Rattle.gix_hash.specs.declared.object_id.ObjectId.{ObjectId};
 ghost use Rattle.gix_traverse_graph.specs.Commits.{Commits};
 ghost use Rattle.gix_traverse_commit_known.specs.Told.{rows_of};
 ghost use Rattle.gix_traverse_graph.specs.declared.rows.Row.{Row};

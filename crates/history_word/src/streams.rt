@@ -3,7 +3,7 @@
 ghost use Rattle.std.specs.Prelude.{◌≡◌, ℕ, List, Option, Bool, true, ◌<◌, length, IfOk, OnOk, OnErr, is_err};
 ghost use Rattle.std.specs.Io.{ReadsAtMost, WritesAtMost};
 ghost use Rattle.std.specs.Io.KnownBytes.{ReadConsumes, WriteAppends, Appends};
-ghost use Rattle.gix_hash_id.specs.Writes.{AppendsFewer};
+ghost use Rattle.gix_hash.specs.Writes.{AppendsFewer};
 ghost use Rattle.gix_object_lines.specs.Counts.{one_more};
 
 /// A source or a sink has failed, and fails from then on.

@@ -2,21 +2,21 @@
 
 ghost use Rattle.std.specs.Prelude.{ℕ, List, ◌≡◌, ◌++◌, ◌∷◌, ◌⊎◌, map, flat_map, All, IfOk, IfErr, MatchResult, codes};
 ghost use Rattle.bstr.specs.BStr.{bstr_bytes};
-ghost use Rattle.gix_hash_id.specs.Kind.{hex_len};
+ghost use Rattle.gix_hash.specs.Kind.{hex_len};
 ghost use Rattle.gix_object_lines.specs.Bytes.{IsBeginningOf};
 ghost use Rattle.gix_object_lines.specs.HexLine.{hex_line, IsHex};
 ghost use Rattle.gix_object_lines.specs.declared.decode.Error.TheVariants.{Memory};
-ghost use Rattle.gix_object_commit_lines.specs.Commit.{Field, Parts, field_text, IsField, SpellsCommit};
-ghost use Rattle.gix_object_commit_lines.specs.Faults.{ParentFault, HeadersFault, HasTwoParents, HasHeader, CommitFault};
-ghost use Rattle.gix_object_commit_lines.specs.Views.{field_of};
+ghost use Rattle.gix_object_commit.specs.Commit.{Field, Parts, field_text, IsField, SpellsCommit};
+ghost use Rattle.gix_object_commit.specs.Faults.{ParentFault, HeadersFault, HasTwoParents, HasHeader, CommitFault};
+ghost use Rattle.gix_object_commit.specs.LineViews.{field_of};
 ghost use Rattle.gix_object_commit.specs.Views.{parts_of};
 
 use crate::commit::CommitRef;
+use crate::encoding::read_encoding;
+use crate::header::{HeaderRef, read_header};
+use crate::person::read_person;
 use bstr::BStr;
 use gix_hash::Kind;
-use gix_object_commit_lines::encoding::read_encoding;
-use gix_object_commit_lines::header::{HeaderRef, read_header};
-use gix_object_commit_lines::person::read_person;
 use gix_object_lines::cut::{starts_with, strip_prefix};
 use gix_object_lines::decode::Error;
 use gix_object_lines::hex_line::read_hex_line;

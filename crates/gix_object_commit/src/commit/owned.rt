@@ -6,9 +6,9 @@ ghost use Rattle.bstr.specs.BStr.{bstr_bytes};
 ghost use Rattle.gix_object_lines.specs.Actor.{TellsTime};
 ghost use Rattle.gix_object_lines.specs.declared.decode.Error.TheVariants.{HexDigits, InvalidTime, Memory};
 ghost use Rattle.gix_object_lines.specs.Person.{person_of, IsActorOf};
-ghost use Rattle.gix_object_commit_lines.specs.HeaderViews.{own_header, headers_of};
+ghost use Rattle.gix_object_commit.specs.HeaderViews.{own_header, headers_of};
 ghost use Rattle.gix_object_commit.specs.Owned.{IsOwnId, IsHeaderOf, IsCommitOf, SpellsNoId, OwningFault};
-ghost use Rattle.gix_object_commit_lines.specs.Views.{field_of};
+ghost use Rattle.gix_object_commit.specs.LineViews.{field_of};
 ghost use Rattle.gix_object_commit.specs.Views.{parts_of};
 
 use crate::commit::{CommitRef, ExtraHeader, ExtraHeaders, HeaderRef};

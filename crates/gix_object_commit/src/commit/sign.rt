@@ -6,7 +6,7 @@ ghost use Rattle.gix_object_lines.specs.declared.write.Error as write;
 ghost use Rattle.gix_object_signature.specs.Run.{Answers};
 ghost use Rattle.gix_object_signature.specs.Signing.{Signs};
 ghost use Rattle.gix_object_signature.specs.declared.sign.Error.TheVariants.{Encode, Memory};
-ghost use Rattle.gix_object_commit_lines.specs.Signature.{signature_name};
+ghost use Rattle.gix_object_commit.specs.Signature.{signature_name};
 ghost use Rattle.gix_object_commit.specs.Signing as spec;
 ghost use Rattle.gix_object_commit.specs.Signing.{IsAsBefore, IsWithHeaders, SignsCommit, SignsParts, unsigned, unsigned_fault};
 ghost use Rattle.gix_object_commit.specs.Views.{parts_of};

@@ -4,9 +4,9 @@ ghost use Rattle.std.specs.Prelude.{◌≡◌, Option, List, ℕ, map};
 ghost use Rattle.std.specs.Option.{option_map};
 ghost use Rattle.bstr.specs.BStr.{bstr_bytes};
 ghost use Rattle.gix_object_lines.specs.Person.{person_of};
-ghost use Rattle.gix_object_commit_lines.specs.Commit.{Field};
+ghost use Rattle.gix_object_commit.specs.Commit.{Field};
 ghost use Rattle.gix_object_commit.specs.OwnedText.{is_whole_offset as is_spellable_offset, is_own_person as is_spellable_own_person};
-ghost use Rattle.gix_object_commit_lines.specs.Views.{field_of};
+ghost use Rattle.gix_object_commit.specs.LineViews.{field_of};
 ghost use Rattle.gix_object_commit.specs.Writing.{unspellable_unless, holds as holds_byte, is_id_like as is_hex_id_like, is_plain as is_plain_text, is_person as is_spellable_person, is_folded as is_folded_text, is_word, is_field as is_spellable_field, is_encoding_first as is_named_first, encoding_cause as cause_of_encoding};
 
 use crate::commit::HeaderRef;

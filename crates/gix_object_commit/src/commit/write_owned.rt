@@ -3,11 +3,11 @@
 ghost use Rattle.std.specs.Prelude.{◌+◌, ◌^◌, ◌≤◌, ◌≡◌, ◌==◌, List, [], ◌∷◌, map, length, count_by, codes, MatchOption};
 ghost use Rattle.gix_object_lines.specs.HexLine.{hex_line};
 ghost use Rattle.gix_object_lines.specs.declared.kind.Kind.TheVariants as kinds;
-ghost use Rattle.gix_object_commit_lines.specs.Commit.{Field, commit_text, field_text, folded};
+ghost use Rattle.gix_object_commit.specs.Commit.{Field, commit_text, field_text, folded};
 ghost use Rattle.gix_object_commit.specs.OwnedText.{own_digits, own_field, own_front_pieces, own_parts, own_person_piece, own_refusal, text_piece};
 ghost use Rattle.gix_object_commit.specs.Writing.{tree_piece, parent_piece, field_piece, id_pieces, header_pieces, is_encoding_first as is_named_first};
 ghost use Rattle.gix_object_lines.specs.Pieces.{WritesPieces, pieces_text};
-ghost use Rattle.gix_object_commit_lines.specs.Headers.{is_named};
+ghost use Rattle.gix_object_commit.specs.Headers.{is_named};
 
 use crate::commit::spelling::{is_name, is_own_person, unless};
 use crate::commit::write::{

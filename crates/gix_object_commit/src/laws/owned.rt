@@ -2,9 +2,9 @@
 
 ghost use Rattle.std.specs.Prelude.{◌≡◌, None, FitsSigned};
 ghost use Rattle.std.specs.Int.{w64};
-ghost use Rattle.gix_hash_id.specs.Id.{id_of};
-ghost use Rattle.gix_hash_id.specs.Kind.{hex_len};
-ghost use Rattle.gix_object_commit_lines.specs.Commit.{SpellsCommit, commit_text};
+ghost use Rattle.gix_hash.specs.Id.{id_of};
+ghost use Rattle.gix_hash.specs.Kind.{hex_len};
+ghost use Rattle.gix_object_commit.specs.Commit.{SpellsCommit, commit_text};
 ghost use Rattle.gix_object_commit.specs.OwnedText.{own_parts, own_refusal};
 
 use crate::commit::Commit;

@@ -1,7 +1,7 @@
 //! What follows for commits that are signed.
 
 ghost use Rattle.std.specs.Prelude.{◌≡◌, ◌∷◌, ◌++◌, ℕ, List, None};
-ghost use Rattle.gix_object_commit_lines.specs.Commit.{commit_text, field_text};
+ghost use Rattle.gix_object_commit.specs.Commit.{commit_text, field_text};
 ghost use Rattle.gix_object_commit.specs.OwnedText.{own_field, own_parts, own_refusal};
 ghost use Rattle.gix_object_commit.specs.Signing.{IsSignedBy, IsWithHeaders, signature_header, unsigned, unsigned_fault, unsigned_text};
 ghost use Rattle.gix_object_commit.specs.declared.commit.owned.Commit.{Commit};

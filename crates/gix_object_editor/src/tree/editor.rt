@@ -2,7 +2,7 @@
 
 ghost use Rattle.std.specs.Prelude.{◌≡◌, map, option_map, IfOk, IfErr, OnOk, OnErr, Err, ⊤};
 ghost use Rattle.std.specs.Borrow.{sem};
-ghost use Rattle.gix_hash_id.specs.Id.{id_of};
+ghost use Rattle.gix_hash.specs.Id.{id_of};
 ghost use Rattle.gix_object_tree.specs.Entry.{item_of, own_item};
 ghost use Rattle.gix_object_nodes.specs.Files.{IsEmptyTree, NamesAreFull, HasSomeBelow, no_trees};
 ghost use Rattle.gix_object_nodes.specs.Nodes.{slots_of, entry_at};

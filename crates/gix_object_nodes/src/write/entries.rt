@@ -2,7 +2,7 @@
 
 ghost use Rattle.std.specs.Prelude.{◌≡◌, ◌<◌, ℕ, Some, length, map, IfOk};
 ghost use Rattle.std.specs.Option.{option_map};
-ghost use Rattle.gix_hash_id.specs.Id.{id_of};
+ghost use Rattle.gix_hash.specs.Id.{id_of};
 ghost use Rattle.gix_object_tree.specs.Entry.{own_item};
 ghost use Rattle.gix_object_nodes.specs.Files.{Bytes, through};
 ghost use Rattle.gix_object_nodes.specs.Nodes.{slot_in, child_of};

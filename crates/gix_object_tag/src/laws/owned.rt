@@ -2,7 +2,7 @@
 
 ghost use Rattle.std.specs.Prelude.{◌≡◌, None, IfSome, FitsSigned};
 ghost use Rattle.std.specs.Int.{w64};
-ghost use Rattle.gix_hash_id.specs.Id.{id_of};
+ghost use Rattle.gix_hash.specs.Id.{id_of};
 ghost use Rattle.gix_object_lines.specs.Writes.{cause_of};
 ghost use Rattle.gix_object_tag.specs.OwnedText.{own_parts, is_bad_actor};
 ghost use Rattle.gix_object_tag.specs.Tag.{SpellsTag};

@@ -2,7 +2,7 @@
 
 ghost use Rattle.std.specs.Prelude.{ℕ, List, ◌≡◌, IfOk, IfErr, IsOkAnd, option_map};
 ghost use Rattle.std.specs.Iterator.{at_most};
-ghost use Rattle.gix_hash_id.specs.Id.{id_of};
+ghost use Rattle.gix_hash.specs.Id.{id_of};
 ghost use Rattle.gix_object_tag.specs.TokenFaults.{IsFaultAt};
 ghost use Rattle.gix_object_tag.specs.Tokens.{Part, part_of, id_told, IsPartAt, GivesToken, tokens_left};
 ghost use Rattle.gix_object_tag.specs.Tokens.{place_of, start, stage_after as after};

@@ -10,8 +10,8 @@ ghost use Rattle.gix_object_lines.specs.HexLine.{is_id};
 ghost use Rattle.gix_object_tag.specs.Pieces.{first_refusal};
 ghost use Rattle.gix_object_tag.specs.TagText.{head_text, name_line, name_refusal, pieces_of, tagger_line, tagger_refusal, unspellable_unless, tag_text, tag_refusal};
 ghost use Rattle.gix_object_tag.specs.NameTest.{name_fault};
-ghost use Rattle.gix_hash_id.specs.Id.{id_of};
-ghost use Rattle.gix_hash_id.specs.Spelling.{hex_text};
+ghost use Rattle.gix_hash.specs.Id.{id_of};
+ghost use Rattle.gix_hash.specs.Spelling.{hex_text};
 ghost use Rattle.gix_object_lines.specs.Kind.{kind_word};
 
 use crate::tag::Tag;

@@ -3,7 +3,7 @@
 ghost use Rattle.std.specs.Prelude.{◌≡◌, ◌<◌, ◌↔◌, length, map, IsTrue, IfSome, IfNone};
 ghost use Rattle.std.specs.List.{All, Contains, HoldsAt};
 ghost use Rattle.bstr.specs.BStr.{bstr_bytes};
-ghost use Rattle.gix_hash_id.specs.Order.{digits_cmp};
+ghost use Rattle.gix_hash.specs.Order.{digits_cmp};
 ghost use Rattle.gix_object_tree.specs.Entry.{item_of};
 ghost use Rattle.gix_object_tree.specs.Order.{git_key, item_key};
 ghost use Rattle.gix_object_tree.specs.WellFormed.{IsInOrder, IsNamed};

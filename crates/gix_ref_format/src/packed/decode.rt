@@ -5,7 +5,7 @@ ghost use Rattle.gix_object_lines.specs.Bytes.{is_among};
 ghost use Rattle.gix_object_lines.specs.NameTest.{begins};
 ghost use Rattle.std.specs.List.{slice_split};
 ghost use Rattle.std.specs.Prelude.{◌==◌, option_map};
-ghost use Rattle.gix_hash_id.specs.Id.{id_of};
+ghost use Rattle.gix_hash.specs.Id.{id_of};
 ghost use Rattle.gix_ref_name.specs.Names.{name_of};
 ghost use Rattle.gix_ref_format.specs.Packed.{header_of, header_line, header_by, peeled_by, without_peel, record_text, record_line, peel_text, peel_line};
 ghost use Rattle.gix_ref_format.specs.Packed as spec;

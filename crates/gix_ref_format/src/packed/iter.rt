@@ -2,7 +2,7 @@
 
 ghost use Rattle.std.specs.Prelude.{◌≡◌, ◌≢◌, ◌∷◌, [], false, Some, None, Err, MatchResult, option_map};
 ghost use Rattle.std.specs.Iterator.{YieldsFirstBy, item_count};
-ghost use Rattle.gix_hash_id.specs.Id.{id_of};
+ghost use Rattle.gix_hash.specs.Id.{id_of};
 ghost use Rattle.gix_ref_format.specs.Lines.{lines};
 ghost use Rattle.gix_ref_format.specs.Packed.{items, item_view, Bad, next_number, packed_items, peel_line, HasPeel, IsHeaderFault};
 ghost use Rattle.gix_ref_format.specs.PackedIter.{items_left};

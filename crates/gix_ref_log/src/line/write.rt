@@ -2,11 +2,11 @@
 
 ghost use Rattle.std.specs.Prelude.{◌≡◌, ◌++◌, ◌∷◌, ◌↔◌, [], IsTrue, OnOk, OnErr, IsErrOf};
 ghost use Rattle.std.specs.Io.KnownBytes.{Appends};
-ghost use Rattle.gix_hash_id.specs.Id.{id_of};
-ghost use Rattle.gix_hash_id.specs.Spelling.{hex_text};
+ghost use Rattle.gix_hash.specs.Id.{id_of};
+ghost use Rattle.gix_hash.specs.Spelling.{hex_text};
 ghost use Rattle.gix_object_lines.specs.Actor.{IsPlain, IsSpellable, actor_text};
 ghost use Rattle.gix_object_lines.specs.Time.{IsSpellableOffset};
-ghost use Rattle.gix_hash_id.specs.Writes.{AppendsFewer};
+ghost use Rattle.gix_hash.specs.Writes.{AppendsFewer};
 ghost use Rattle.gix_ref_log.specs.LogOwned.{WritesLogLine, written_text};
 ghost use Rattle.gix_ref_log.specs.declared.line.write.Error.TheVariants.{MessageWithNewlines, Unspellable};
 

@@ -1,8 +1,8 @@
 //! The steps of a walk: it begins, takes the commit whose turn it is, and meets its parents.
 
 ghost use Rattle.std.specs.Prelude.{◌≡◌, ◌⊎◌, ◌↔◌, ◌≤◌, ◌+◌, List, Contains, [], ◌∷◌, ◌++◌, length, IfOk, IfErr, IfSome, IfNone, IsNone, IsOk, IsSome, OnOk, None, true, false};
-ghost use Rattle.gix_hash_id.specs.Id.{Id, id_of};
-ghost use Rattle.gix_hash_id.specs.declared.object_id.ObjectId.{ObjectId};
+ghost use Rattle.gix_hash.specs.Id.{Id, id_of};
+ghost use Rattle.gix_hash.specs.declared.object_id.ObjectId.{ObjectId};
 ghost use Rattle.gix_traverse_graph.specs.Commits.{Commits, asked_parents};
 ghost use Rattle.gix_traverse_commit_known.specs.Ending.{times_in};
 ghost use Rattle.gix_traverse_commit_known.specs.Fetching.{TimeIsTold};

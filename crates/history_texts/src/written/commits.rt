@@ -1,7 +1,7 @@
 //! Commits in written form.
 ghost use Rattle.std.specs.Prelude.{◌≡◌, ◌&&◌, ◌∷◌, IfOk, List, MatchOption, length, map, nat_le, not};
-ghost use Rattle.gix_hash_id.specs.Id.{id_of};
-ghost use Rattle.gix_hash_id.specs.Order.{id_eq};
+ghost use Rattle.gix_hash.specs.Id.{id_of};
+ghost use Rattle.gix_hash.specs.Order.{id_eq};
 ghost use Rattle.gix_object_commit.specs.Views as views;
 ghost use Rattle.gix_object_lines.specs.declared.kind.Kind.TheVariants as kinds;
 ghost use Rattle.history_model.specs.Bytes.{has_twice};

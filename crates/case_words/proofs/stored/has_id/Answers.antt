@@ -1,6 +1,6 @@
 use Rattle.std.proofs.Common.{◌∙◌, ap}
-use Rattle.gix_hash_id.specs.Order.{id_eq}
-use Rattle.gix_hash_id.specs.Views.{viewed_id}
+use Rattle.gix_hash.specs.Order.{id_eq}
+use Rattle.gix_hash.specs.Views.{viewed_id}
 use Rattle.case_words.proofs.Listed.{same_test}
 use Rattle.case_words.proofs.stored.has_id.Goals as goal
 

@@ -1,9 +1,9 @@
 use Rattle.std.proofs.Common.{rules, tests}
 use Rattle.std.proofs.lemmas.Iterator.{YieldsList-from_slice}
 use Rattle.std.proofs.lemmas.Iterator.Search.{find_from_yields_List}
-use Rattle.gix_hash_id.specs.Id.{id_of}
-use Rattle.gix_hash_id.specs.Order.{id_eq}
-use Rattle.gix_hash_id.specs.Views.{viewed_id}
+use Rattle.gix_hash.specs.Id.{id_of}
+use Rattle.gix_hash.specs.Order.{id_eq}
+use Rattle.gix_hash.specs.Views.{viewed_id}
 use Rattle.case_words.proofs.stored.stored_at.Goals as goal
 
 pub returns : goal.returns

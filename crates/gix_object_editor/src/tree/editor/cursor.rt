@@ -2,7 +2,7 @@
 
 ghost use Rattle.std.specs.Prelude.{◌≡◌, ◌≢◌, ◌+◌, ◌++◌, [], option_map, IfOk, IfErr, OnOk, Err, None, ⊤};
 ghost use Rattle.std.specs.Borrow.{sem};
-ghost use Rattle.gix_hash_id.specs.Id.{id_of};
+ghost use Rattle.gix_hash.specs.Id.{id_of};
 ghost use Rattle.gix_object_tree.specs.Entry.{item_of};
 ghost use Rattle.gix_object_nodes.specs.Files.{Path, Trees, IsEmptyTree, NamesAreFull, HasSomeBelow, no_trees};
 ghost use Rattle.gix_object_editor.specs.Stored.{HasStored};

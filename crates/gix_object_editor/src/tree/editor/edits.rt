@@ -1,7 +1,7 @@
 //! Edits below an opened tree.
 
 ghost use Rattle.std.specs.Prelude.{◌≡◌, ◌<◌, ◌+◌, ◌⊎◌, length, IfErr, OnOk, IfOk, Some, None, true, [], ⊤};
-ghost use Rattle.gix_hash_id.specs.Id.{id_of};
+ghost use Rattle.gix_hash.specs.Id.{id_of};
 ghost use Rattle.gix_object_nodes.specs.Files.{Path, IsEmptyTree, NamesAreFull};
 ghost use Rattle.gix_object_nodes.specs.Nodes.{slots_of, Way, onto, LeadsTo};
 ghost use Rattle.gix_object_editor.specs.Editor.{names_of, leaf_of_kind};

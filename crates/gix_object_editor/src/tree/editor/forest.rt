@@ -1,7 +1,7 @@
 //! Walking down opened trees, and opening more of them.
 
 ghost use Rattle.std.specs.Prelude.{◌≡◌, ◌<◌, ◌≤◌, ◌+◌, ◌∷◌, ◌++◌, ◌⊎◌, ℕ, length, drop, slice_index_or, if◌then◌else◌, is_ok, IfOk, IfErr, OnOk, OnErr, IsSome, Some, None, [], false};
-ghost use Rattle.gix_hash_id.specs.Id.{Id};
+ghost use Rattle.gix_hash.specs.Id.{Id};
 ghost use Rattle.gix_object_nodes.specs.Files.{Bytes, Path, Trees};
 ghost use Rattle.gix_object_editor.specs.Stored.{HasStored};
 ghost use Rattle.gix_object_nodes.specs.Nodes.{slot_in, slots_of, child_of, IsFolderAt, IsNoFolder, IsStoppedAt, Way, onto, LeadsTo};

@@ -2,7 +2,7 @@
 
 ghost use Rattle.std.specs.Prelude.{◌≡◌, ◌≢◌, ◌<◌, ◌≤◌, ◌+◌, ◌++◌, ◌∷◌, ◌⊎◌, ℕ, length, map, drop, slice_index_or, IfOk, OnOk, OnErr, Some, None, [], true};
 ghost use Rattle.std.specs.List.{All, Contains};
-ghost use Rattle.gix_hash_id.specs.Id.{id_of};
+ghost use Rattle.gix_hash.specs.Id.{id_of};
 ghost use Rattle.gix_object_nodes.specs.declared.node.Slot.{Slot};
 ghost use Rattle.gix_object_nodes.specs.Files.{Bytes, Path, Trees, SameFiles, is_null, put, cleared, behind};
 ghost use Rattle.gix_object_editor.specs.Asked.{front_of};

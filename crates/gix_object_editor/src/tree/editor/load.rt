@@ -1,7 +1,7 @@
 //! Opening stored trees.
 
 ghost use Rattle.std.specs.Prelude.{◌≡◌, map, None, IfOk, IfErr};
-ghost use Rattle.gix_hash_id.specs.Id.{id_of};
+ghost use Rattle.gix_hash.specs.Id.{id_of};
 ghost use Rattle.gix_object_lines.specs.declared.kind.Kind.TheVariants as kinds;
 ghost use Rattle.gix_object_tree.specs.Entry.{item_of};
 ghost use Rattle.gix_object_tree.specs.WellFormed.{IsWellFormed};

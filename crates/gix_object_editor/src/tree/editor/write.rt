@@ -1,7 +1,7 @@
 //! Writing the trees of an editor.
 
 ghost use Rattle.std.specs.Prelude.{◌<◌, [], length, IfOk, IfErr};
-ghost use Rattle.gix_hash_id.specs.Id.{id_of};
+ghost use Rattle.gix_hash.specs.Id.{id_of};
 ghost use Rattle.gix_object_nodes.specs.Files.{Path};
 ghost use Rattle.gix_object_nodes.specs.Nodes.{slots_of, Way, onto};
 ghost use Rattle.gix_object_editor.specs.Written.{WriteFault, Writes};

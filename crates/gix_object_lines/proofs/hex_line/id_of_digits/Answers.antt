@@ -1,5 +1,5 @@
-use Rattle.gix_hash_id.specs.Id.{id_of}
-use Rattle.gix_hash_id.specs.Views.{IsHexOfId}
+use Rattle.gix_hash.specs.Id.{id_of}
+use Rattle.gix_hash.specs.Views.{IsHexOfId}
 use Rattle.gix_object_lines.proofs.HexDigits.{id_is_read}
 use Rattle.gix_object_lines.proofs.hex_line.id_of_digits.Goals as goal
 

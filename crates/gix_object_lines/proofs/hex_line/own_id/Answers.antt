@@ -1,8 +1,8 @@
 use Rattle.std.proofs.Common.{subst, refl}
 use Rattle.hex.specs.Hex.{hex_digit_value}
 use Rattle.bstr.specs.BStr.{bstr_bytes}
-use Rattle.gix_hash_id.specs.Id.{id_of}
-use Rattle.gix_hash_id.specs.Views.{IsFaultOf, IsHexOfId}
+use Rattle.gix_hash.specs.Id.{id_of}
+use Rattle.gix_hash.specs.Views.{IsFaultOf, IsHexOfId}
 use Rattle.gix_object_lines.proofs.HexDigits.{id_of_spelled, not_refused}
 use Rattle.gix_object_lines.proofs.hex_line.own_id.Goals as goal
 

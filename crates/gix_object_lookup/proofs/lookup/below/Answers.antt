@@ -1,7 +1,7 @@
 use Rattle.std.proofs.Common.{subst, true, rules, ◌≡◌}
 use Rattle.std.specs.Prelude.{option_map}
 use Rattle.std.proofs.lemmas.Result.{err_from_is_err_and, IfOk-weaker, IfErr-weaker}
-use Rattle.gix_hash_id.specs.Views.{viewed_id}
+use Rattle.gix_hash.specs.Views.{viewed_id}
 use Rattle.gix_object_lines.specs.declared.kind.Kind.TheVariants as kinds
 use Rattle.gix_object_tree.specs.Entry.{own_item}
 use Rattle.gix_object_tree.specs.Order.{is_tree}

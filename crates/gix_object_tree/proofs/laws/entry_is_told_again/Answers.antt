@@ -1,5 +1,5 @@
 use Rattle.std.proofs.Common.{subst}
-use Rattle.gix_hash_id.specs.Views.{IsBytesOf, viewed_id}
+use Rattle.gix_hash.specs.Views.{IsBytesOf, viewed_id}
 use Rattle.gix_object_tree.proofs.Written.{raw_of}
 use Rattle.gix_object_tree.proofs.laws.entry_is_told_again.Goals as goal
 

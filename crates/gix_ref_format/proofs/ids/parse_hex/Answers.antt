@@ -1,8 +1,8 @@
 use Rattle.std.proofs.Common.{◌≡◌, ◌∙◌, sym, rules, Result, Ok, ap, subst}
 use Rattle.std.specs.Prelude.{MatchResult}
-use Rattle.gix_hash_id.specs.Id.{id_of}
-use Rattle.gix_hash_id.specs.Kind.{hex_len}
-use Rattle.gix_hash_id.specs.Views.{IsHexOfId}
+use Rattle.gix_hash.specs.Id.{id_of}
+use Rattle.gix_hash.specs.Kind.{hex_len}
+use Rattle.gix_hash.specs.Views.{IsHexOfId}
 use Rattle.gix_ref_format.proofs.IdLemmas.{id_from_hex-reads}
 use Rattle.gix_ref_format.proofs.ids.parse_hex.Goals as goal
 

@@ -1,7 +1,7 @@
 use Rattle.std.proofs.Common.{◌∙◌, sym, refl}
-use Rattle.gix_hash_id.specs.Id.{id_of}
-use Rattle.gix_hash_id.proofs.ByteLists.{id-digits_len}
-use Rattle.gix_hash_id.proofs.KindLemmas.{hex_len-byte_len}
+use Rattle.gix_hash.specs.Id.{id_of}
+use Rattle.gix_hash.proofs.ByteLists.{id-digits_len}
+use Rattle.gix_hash.proofs.KindLemmas.{hex_len-byte_len}
 use Rattle.gix_ref_format.proofs.WrittenLemmas.{id_reads}
 use Rattle.gix_ref_format.proofs.laws.written_id_is_read.Goals as goal
 

@@ -1,5 +1,5 @@
 use Rattle.std.proofs.Common.{◌≡◌, ◌++◌, map, drop}
-use Rattle.gix_ref_packed.specs.Edited.{lines_of}
+use Rattle.gix_ref_format.specs.Edited.{lines_of}
 use Rattle.gix_ref_lock.specs.RecordEdits.{line_in}
 use Rattle.gix_ref_lock.proofs.packed.lent.Given as goal
 

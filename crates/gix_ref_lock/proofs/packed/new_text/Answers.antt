@@ -2,7 +2,7 @@ use Rattle.std.proofs.Common.{◌≡◌, ◌∙◌, ap, subst, map, Some, List}
 use Rattle.std.proofs.lemmas.Result.{IfOk-weaker}
 use Rattle.gix_ref_format.specs.Packed.{record_of, packed_records}
 use Rattle.gix_ref_format.specs.declared.packed.Reference.{Reference}
-use Rattle.gix_ref_packed.specs.Written.{packed_text, AllHaveKind}
+use Rattle.gix_ref_format.specs.Written.{packed_text, AllHaveKind}
 use Rattle.gix_ref_lock.proofs.packed.new_text.Goals as goal
 
 pub returns : goal.returns

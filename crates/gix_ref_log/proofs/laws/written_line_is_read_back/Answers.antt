@@ -1,4 +1,4 @@
-use Rattle.gix_hash_id.specs.Id.{id_of}
+use Rattle.gix_hash.specs.Id.{id_of}
 use Rattle.gix_ref_log.proofs.LogWriteLemmas.{digits_are_id, written_spells}
 use Rattle.gix_ref_log.proofs.laws.written_line_is_read_back.Goals as goal
 

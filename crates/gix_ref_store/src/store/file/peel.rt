@@ -2,8 +2,8 @@
 
 ghost use Rattle.std.specs.Prelude.{◌≡◌, IfErr, IfOk, IsSome, Contains, MatchOption, MatchResult, None, Some, unwrap_or};
 ghost use Rattle.std.specs.List.{list_any};
-ghost use Rattle.gix_hash_id.specs.Id.{id_of};
-ghost use Rattle.gix_hash_id.specs.Order.{id_eq};
+ghost use Rattle.gix_hash.specs.Id.{id_of};
+ghost use Rattle.gix_hash.specs.Order.{id_eq};
 ghost use Rattle.gix_ref_store.specs.Follows.{IsGiven};
 ghost use Rattle.gix_ref_store.specs.Peels.{TagNames, IsPlain, PeelsTo, TagFault, StepFault, Peels, PeelFault, MayTell};
 ghost use Rattle.gix_ref_store.specs.Searches.{reads_in};

@@ -1,7 +1,7 @@
 //! What a reference leads to in its store: its log, the next reference, and the object at the end.
 
 ghost use Rattle.std.specs.Prelude.{◌≡◌, is_some, IfErr, IfOk, IfSome, MatchResult, None, Some};
-ghost use Rattle.gix_hash_id.specs.Id.{id_of};
+ghost use Rattle.gix_hash.specs.Id.{id_of};
 ghost use Rattle.gix_ref_name.specs.Names.{name_of};
 ghost use Rattle.gix_ref_name.specs.Targets.{ToObject, target_view};
 ghost use Rattle.gix_ref_store.specs.Finds.{OnExisting};

@@ -15,9 +15,9 @@ use Rattle.gix_ref_transaction.specs.Errors.{Counts}
 use Rattle.gix_ref_transaction.specs.Locking.{ArePaths, IsLockable}
 use Rattle.std.specs.Prelude.{IsTrue, Err}
 use Rattle.gix_ref_transaction.specs.declared.error.PrepareError.TheVariants.{LockAcquire}
-use Rattle.gix_ref_moves.specs.Moments.{SameButLocks}
-use Rattle.gix_ref_moves.proofs.FileMoves.{now_of}
-use Rattle.gix_ref_moves.proofs.LockPaths.{locks_joined, one_lock}
+use Rattle.gix_ref_lock.specs.Moments.{SameButLocks}
+use Rattle.gix_ref_lock.proofs.FileMoves.{now_of}
+use Rattle.gix_ref_lock.proofs.LockPaths.{locks_joined, one_lock}
 use Rattle.gix_ref_transaction.specs.Plans.{IsTested}
 use Rattle.gix_object_lines.specs.NameTest.{is_full_name}
 use Rattle.gix_ref_transaction.specs.LogLines.{has_log, line_in, logging}

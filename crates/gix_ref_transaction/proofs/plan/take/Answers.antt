@@ -5,8 +5,8 @@ use Rattle.gix_ref_file.specs.History.{HasRisen}
 use Rattle.gix_ref_file.specs.Tree.{is_path, bytes_of}
 use Rattle.gix_ref_file.proofs.Histories.{adds_weaker}
 use Rattle.gix_ref_lock.specs.Locks.{lock_of, OthersStay, KeepsHeld, IsTaken}
-use Rattle.gix_ref_moves.proofs.FileMoves.{now_of, same_now}
-use Rattle.gix_ref_moves.proofs.LockPaths.{locks_joined, one_lock, same_files}
+use Rattle.gix_ref_lock.proofs.FileMoves.{now_of, same_now}
+use Rattle.gix_ref_lock.proofs.LockPaths.{locks_joined, one_lock, same_files}
 use Rattle.gix_ref_way.proofs.Rooms.{only_now, onlys_joined, onlys_same}
 use Rattle.gix_ref_transaction.specs.Errors.{of_file}
 use Rattle.gix_ref_transaction.specs.declared.error.PrepareError.TheVariants.{LockAcquire}

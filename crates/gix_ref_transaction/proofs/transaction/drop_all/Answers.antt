@@ -1,6 +1,6 @@
 use Rattle.std.proofs.Common.{◌∙◌, sym}
 use Rattle.gix_ref_lock.proofs.LockLemmas.{folders_joined}
-use Rattle.gix_ref_moves.proofs.LockPaths.{locks_joined}
+use Rattle.gix_ref_lock.proofs.LockPaths.{locks_joined}
 use Rattle.gix_ref_transaction.specs.Rollback.{AllGone}
 use Rattle.gix_ref_transaction.proofs.Counting.{counts_after, is_after, left_or, other_after, worse_done}
 use Rattle.gix_ref_transaction.proofs.Givings.{both_risen, both_same}

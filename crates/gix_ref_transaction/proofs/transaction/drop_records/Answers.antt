@@ -3,8 +3,8 @@ use Rattle.gix_ref_file.specs.History.{HasRisen}
 use Rattle.gix_ref_file.specs.Tree.{node_at}
 use Rattle.gix_ref_file.proofs.Histories.{adds_weaker}
 use Rattle.gix_ref_lock.specs.Locks.{OthersStay}
-use Rattle.gix_ref_moves.proofs.FileMoves.{now_of}
-use Rattle.gix_ref_moves.proofs.LockPaths.{one_lock}
+use Rattle.gix_ref_lock.proofs.FileMoves.{now_of}
+use Rattle.gix_ref_lock.proofs.LockPaths.{one_lock}
 use Rattle.gix_ref_transaction.proofs.Givings.{commit_done, commit_failed, commit_unfailed}
 use Rattle.gix_ref_transaction.proofs.Rollbacks.{none_gone, records_gone, records_held, records_others}
 use Rattle.gix_ref_transaction.proofs.transaction.drop_records.Goals as goal

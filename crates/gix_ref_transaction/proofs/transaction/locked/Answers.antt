@@ -14,17 +14,17 @@ use Rattle.gix_ref_store.specs.RefStates.{state_among}
 use Rattle.gix_ref_store.specs.Stores.{base_of}
 use Rattle.gix_ref_way.specs.Ways.{FoldersOnlyOf}
 use Rattle.gix_ref_way.proofs.Rooms.{only_now, onlys_joined, onlys_same}
-use Rattle.gix_ref_moves.specs.Moments.{SameButLocks}
-use Rattle.gix_ref_moves.specs.Needs.{AreBeside, CanCommit}
-use Rattle.gix_ref_moves.specs.declared.act.Move.{Move}
-use Rattle.gix_ref_moves.proofs.FileMoves.{now_of}
-use Rattle.gix_ref_moves.proofs.LockPaths.{locks_joined}
+use Rattle.gix_ref_lock.specs.Moments.{SameButLocks}
+use Rattle.gix_ref_lock.specs.Needs.{AreBeside, CanCommit}
+use Rattle.gix_ref_lock.specs.declared.act.Move.{Move}
+use Rattle.gix_ref_lock.proofs.FileMoves.{now_of}
+use Rattle.gix_ref_lock.proofs.LockPaths.{locks_joined}
 use Rattle.gix_ref_lock.specs.Locks.{lock_of, OthersStay}
 use Rattle.gix_ref_lock.specs.declared.packed.Transaction.{Transaction as Packed}
-use Rattle.gix_ref_repacking.specs.Modes.{objects_in, removes}
-use Rattle.gix_ref_repacking.specs.Repacking.{AreRepacked}
-use Rattle.gix_ref_repacking.specs.Resolving.{IfUnresolved, PackFault, SomeChangeFault}
-use Rattle.gix_ref_moves.specs.Moves.{Once, lock_paths}
+use Rattle.gix_ref_transaction.specs.Modes.{objects_in, removes}
+use Rattle.gix_ref_transaction.specs.Repacking.{AreRepacked}
+use Rattle.gix_ref_transaction.specs.Resolving.{IfUnresolved, PackFault, SomeChangeFault}
+use Rattle.gix_ref_lock.specs.Moves.{Once, lock_paths}
 use Rattle.gix_ref_transaction.specs.Causes.{SomeEditFault}
 use Rattle.gix_ref_transaction.specs.Errors.{Counts, MayBeLeft}
 use Rattle.gix_ref_transaction.specs.Locking.{AreHeld, IsLockable}

@@ -4,7 +4,7 @@ use Rattle.gix_ref_file.proofs.Histories.{adds_nothing, adds_weaker}
 use Rattle.gix_ref_store.specs.Finds.{records_in}
 use Rattle.gix_ref_store.specs.Lookups.{reads_with}
 use Rattle.std.specs.Prelude.{Contains, IsTrue, Err}
-use Rattle.gix_ref_moves.specs.Moves.{LocksHeld, Once, lock_paths}
+use Rattle.gix_ref_lock.specs.Moves.{LocksHeld, Once, lock_paths}
 use Rattle.gix_ref_transaction.specs.declared.error.PrepareError.TheVariants.{LockAcquire}
 use Rattle.gix_ref_transaction.proofs.Takings.{err_same}
 use Rattle.std.specs.List.{AllByRecursion, list_all}
@@ -16,13 +16,13 @@ use Rattle.gix_ref_way.proofs.Rooms.{only_now, only_weaker, onlys_joined}
 use Rattle.gix_ref_store.specs.Places.{Base, place}
 use Rattle.gix_ref_store.specs.RefStates.{RefState, state_among}
 use Rattle.gix_ref_store.specs.Stores.{base_of}
-use Rattle.gix_ref_moves.specs.Contents.{lock_path_of, place_of}
-use Rattle.gix_ref_moves.specs.Moments.{SameButLocks}
-use Rattle.gix_ref_moves.proofs.PathLists.{all_append}
-use Rattle.gix_ref_moves.proofs.FileMoves.{now_of}
-use Rattle.gix_ref_moves.proofs.LockPaths.{locks_joined}
+use Rattle.gix_ref_lock.specs.Contents.{lock_path_of, place_of}
+use Rattle.gix_ref_lock.specs.Moments.{SameButLocks}
+use Rattle.gix_ref_lock.proofs.PathLists.{all_append}
+use Rattle.gix_ref_lock.proofs.FileMoves.{now_of}
+use Rattle.gix_ref_lock.proofs.LockPaths.{locks_joined}
 use Rattle.gix_ref_transaction.specs.LogLines.{line_in, logging}
-use Rattle.gix_ref_repacking.specs.Modes.{removes}
+use Rattle.gix_ref_transaction.specs.Modes.{removes}
 use Rattle.gix_ref_transaction.specs.Plans.{IsTested, IsPlanOf}
 use Rattle.gix_ref_transaction.proofs.Plannings.{LinedIn, among_alike, keeps_joined, zipping_begins, testing_begins, one_zipped, one_tested, zipping_ends, testing_ends, holding_ends, is_among, lined_alike, fault_alike}
 use Rattle.gix_ref_transaction.specs.Errors.{Counts}

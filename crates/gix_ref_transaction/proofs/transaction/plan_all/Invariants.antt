@@ -4,16 +4,16 @@ use Rattle.std.specs.List.{AllByRecursion, list_all}
 use Rattle.gix_ref_file.specs.Changes.{may_hold_file}
 use Rattle.gix_ref_file.specs.Tree.{is_path}
 use Rattle.gix_ref_way.specs.Ways.{FoldersOnlyOf, file_at}
-use Rattle.gix_ref_moves.specs.Contents.{lock_path_of, place_of}
-use Rattle.gix_ref_moves.specs.Needs.{AreBeside}
-use Rattle.gix_ref_moves.specs.Moves.{LocksHeld, Once, lock_paths}
+use Rattle.gix_ref_lock.specs.Contents.{lock_path_of, place_of}
+use Rattle.gix_ref_lock.specs.Needs.{AreBeside}
+use Rattle.gix_ref_lock.specs.Moves.{LocksHeld, Once, lock_paths}
 use Rattle.gix_ref_transaction.specs.Paths.{name_paths, places_of}
 use Rattle.gix_ref_file.specs.History.{Adds}
 use Rattle.gix_ref_store.specs.Lookups.{reads_with}
 use Rattle.gix_ref_store.specs.Stores.{base_of}
-use Rattle.gix_ref_moves.specs.Moments.{SameButLocks}
+use Rattle.gix_ref_lock.specs.Moments.{SameButLocks}
 use Rattle.gix_ref_transaction.specs.LogLines.{logging}
-use Rattle.gix_ref_repacking.specs.Modes.{removes}
+use Rattle.gix_ref_transaction.specs.Modes.{removes}
 use Rattle.gix_ref_transaction.specs.Plans.{IsPlanOf, KeepsFiles}
 use Rattle.gix_ref_transaction.specs.Rollback.{MoreFilesAt}
 use Rattle.gix_ref_transaction.proofs.Plannings.{ZippedSoFar, TestedSoFar, LinedIn}

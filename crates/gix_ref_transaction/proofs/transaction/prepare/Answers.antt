@@ -6,8 +6,8 @@ use Rattle.gix_ref_store.specs.Lookups.{reads_with}
 use Rattle.gix_ref_store.specs.RefStates.{RefState, packed_text_in, ref_state}
 use Rattle.gix_ref_store.specs.Stores.{base_of}
 use Rattle.gix_ref_transaction.specs.Causes.{GivenFault, IfUnresolved}
-use Rattle.gix_ref_repacking.specs.Modes.{objects_in}
-use Rattle.gix_ref_repacking.specs.Resolving.{PackFault}
+use Rattle.gix_ref_transaction.specs.Modes.{objects_in}
+use Rattle.gix_ref_transaction.specs.Resolving.{PackFault}
 use Rattle.gix_ref_transaction.specs.LogLines.{AllLined, logging}
 use Rattle.gix_ref_transaction.proofs.Plannings.{given_reads, tested_alike, split_alike, lent_keeps}
 use Rattle.gix_ref_transaction.proofs.Readies.{open_counts, open_fault, open_no_records, open_resolves}

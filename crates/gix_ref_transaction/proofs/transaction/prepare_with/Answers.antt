@@ -5,12 +5,12 @@ use Rattle.std.specs.declared.alloc.Global.{Global}
 use Rattle.gix_ref_file.proofs.Histories.{adds_nothing, adds_weaker}
 use Rattle.gix_ref_edit.specs.Names.{AllOnce, names_of}
 use Rattle.gix_ref_edit.specs.declared.change.RefEdit.{RefEdit}
-use Rattle.gix_ref_moves.specs.Moments.{SameButLocks}
-use Rattle.gix_ref_moves.proofs.FileMoves.{now_of}
+use Rattle.gix_ref_lock.specs.Moments.{SameButLocks}
+use Rattle.gix_ref_lock.proofs.FileMoves.{now_of}
 use Rattle.gix_ref_store.specs.Lookups.{reads_with}
 use Rattle.gix_ref_store.specs.Stores.{base_of}
-use Rattle.gix_ref_repacking.specs.Modes.{objects_in, removes}
-use Rattle.gix_ref_repacking.specs.Resolving.{PackFault}
+use Rattle.gix_ref_transaction.specs.Modes.{objects_in, removes}
+use Rattle.gix_ref_transaction.specs.Resolving.{PackFault}
 use Rattle.gix_ref_transaction.specs.Locking.{HaveRoom, are_known}
 use Rattle.gix_ref_transaction.specs.Paths.{edit_paths, has_twice}
 use Rattle.gix_ref_transaction.specs.Plans.{AreSplit}

@@ -1,7 +1,7 @@
 use Rattle.std.proofs.Common.{refl, List, [], get_or, true}
 use Rattle.std.proofs.lemmas.Option.{slice_get-get_or}
-use Rattle.gix_hash_id.specs.declared.object_id.ObjectId.{ObjectId}
-use Rattle.gix_hash_id.specs.declared.object_id.ObjectId.TheVariants.{Sha1}
+use Rattle.gix_hash.specs.declared.object_id.ObjectId.{ObjectId}
+use Rattle.gix_hash.specs.declared.object_id.ObjectId.TheVariants.{Sha1}
 use Rattle.gix_traverse_commit_known.specs.Nodes.{is_hidden}
 use Rattle.gix_traverse_commit_known.specs.Painting.{every}
 use Rattle.gix_traverse_commit_known.proofs.Keeping.{kept_meet, kept_start}

@@ -1,6 +1,6 @@
 use Rattle.std.proofs.Common.{◌≡◌, ◌∙◌, sym, ap, refl, subst, inl, inr, List, [], ◌∷◌, ◌++◌, append_assoc, true, false}
 use Rattle.std.specs.Prelude.{Contains}
-use Rattle.gix_hash_id.specs.declared.object_id.ObjectId.{ObjectId}
+use Rattle.gix_hash.specs.declared.object_id.ObjectId.{ObjectId}
 use Rattle.gix_traverse_commit_known.specs.Nodes.{Node, is_hidden, is_met}
 use Rattle.gix_traverse_commit_known.specs.declared.nodes.Marks.{Marks}
 use Rattle.gix_traverse_commit_known.proofs.Pending.{in_head, in_tail}

@@ -1,8 +1,8 @@
 use Rattle.std.proofs.Common.{◌∙◌, sym, ap, refl, subst, inl, inr, List, [], take, get_or, false}
 use Rattle.std.specs.Prelude.{Contains}
 use Rattle.std.proofs.lemmas.Option.{slice_get-get_or}
-use Rattle.gix_hash_id.specs.declared.object_id.ObjectId.{ObjectId}
-use Rattle.gix_hash_id.specs.declared.object_id.ObjectId.TheVariants.{Sha1}
+use Rattle.gix_hash.specs.declared.object_id.ObjectId.{ObjectId}
+use Rattle.gix_hash.specs.declared.object_id.ObjectId.TheVariants.{Sha1}
 use Rattle.gix_traverse_commit_known.specs.Nodes.{is_hidden}
 use Rattle.gix_traverse_commit_known.specs.declared.nodes.Marks.{Marks}
 use Rattle.gix_traverse_commit_known.proofs.Chosen.{take_all}

@@ -2,7 +2,7 @@ use Rattle.std.proofs.Common.{rules, ◌≡◌, ◌∙◌, ap, sym, subst, List,
 use Rattle.gix_object_lines.specs.declared.decode.Error.{Error}
 use Rattle.gix_object_lines.specs.declared.lines.time.Time.{Time}
 use Rattle.bstr.specs.BStr.{bstr_bytes}
-use Rattle.gix_object_commit_tokens.specs.Tokens.{place_of}
+use Rattle.gix_object_commit.specs.Tokens.{place_of}
 use Rattle.gix_object_lines.specs.Time.{SpellsTime}
 use Rattle.gix_object_lines.specs.Person.{Person, person_of}
 use Rattle.gix_traverse_commit_known.proofs.Told.{committer_time}

@@ -1,7 +1,7 @@
 use Rattle.std.proofs.lemmas.Result.{err_from_is_err_and}
 use Rattle.std.proofs.Common.{ap, map}
-use Rattle.gix_hash_id.specs.Id.{id_of}
-use Rattle.gix_object_commit_tokens.specs.Tokens.{place_of}
+use Rattle.gix_hash.specs.Id.{id_of}
+use Rattle.gix_object_commit.specs.Tokens.{place_of}
 use Rattle.gix_traverse_commit_known.proofs.Told.{front_tree, front_parent, first_parent, reads_all, past_other, lacks_parents}
 use Rattle.gix_traverse_commit_known.proofs.fetch.read_parents.Goals as goal
 

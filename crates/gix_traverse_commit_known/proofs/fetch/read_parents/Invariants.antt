@@ -1,6 +1,6 @@
 use Rattle.std.proofs.Common.{◌≡◌, [], map}
-use Rattle.gix_hash_id.specs.Id.{id_of}
-use Rattle.gix_object_commit_tokens.specs.Tokens.{place_of}
+use Rattle.gix_hash.specs.Id.{id_of}
+use Rattle.gix_object_commit.specs.Tokens.{place_of}
 use Rattle.gix_traverse_commit_known.specs.Told.{TellsFront}
 use Rattle.gix_traverse_graph.specs.declared.parents.Parents.TheVariants.{First}
 use Rattle.gix_traverse_commit_known.proofs.fetch.read_parents.Given as goal

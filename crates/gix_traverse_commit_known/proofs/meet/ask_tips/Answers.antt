@@ -1,8 +1,8 @@
 use Rattle.std.proofs.Common.{◌∙◌, refl, cond, false, sym, subst, List, [], ◌∷◌, ◌++◌, take, get_or, Bool}
 use Rattle.std.proofs.lemmas.Option.{slice_get-get_or}
-use Rattle.gix_hash_id.specs.Id.{Id}
-use Rattle.gix_hash_id.specs.declared.object_id.ObjectId.{ObjectId}
-use Rattle.gix_hash_id.specs.declared.object_id.ObjectId.TheVariants.{Sha1}
+use Rattle.gix_hash.specs.Id.{Id}
+use Rattle.gix_hash.specs.declared.object_id.ObjectId.{ObjectId}
+use Rattle.gix_hash.specs.declared.object_id.ObjectId.TheVariants.{Sha1}
 use Rattle.std.specs.Prelude.{Contains}
 use Rattle.gix_traverse_commit_known.specs.Nodes.{is_asked}
 use Rattle.gix_traverse_graph.specs.Order.{IsListOf}

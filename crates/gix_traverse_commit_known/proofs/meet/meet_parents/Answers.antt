@@ -1,9 +1,9 @@
 use Rattle.std.proofs.Common.{refl, cond, ◌∷◌, List, [], ◌++◌, get_or, ◌∙◌, ◌≡◌, ◌≤◌, length, subst, Some, slice_get, sym, ap, Bool}
 use Rattle.std.specs.Prelude.{not, ◌&&◌}
 use Rattle.std.proofs.lemmas.Option.{slice_get-get_or}
-use Rattle.gix_hash_id.specs.Id.{Id, id_of}
-use Rattle.gix_hash_id.specs.declared.object_id.ObjectId.{ObjectId}
-use Rattle.gix_hash_id.specs.declared.object_id.ObjectId.TheVariants.{Sha1}
+use Rattle.gix_hash.specs.Id.{Id, id_of}
+use Rattle.gix_hash.specs.declared.object_id.ObjectId.{ObjectId}
+use Rattle.gix_hash.specs.declared.object_id.ObjectId.TheVariants.{Sha1}
 use Rattle.gix_traverse_commit_known.specs.Nodes.{is_hidden, is_met}
 use Rattle.gix_traverse_commit_known.specs.Ending.{times_in}
 use Rattle.gix_traverse_commit_known.proofs.Ending.{and_not, gains_more, gains_none, gains_queued}

@@ -1,7 +1,7 @@
 use Rattle.std.proofs.Common.{take, ◌≡◌, List, ◌++◌, length, Bool, true, false}
 use Rattle.std.specs.Prelude.{not, ◌&&◌}
-use Rattle.gix_hash_id.specs.Id.{id_of}
-use Rattle.gix_hash_id.specs.declared.object_id.ObjectId.{ObjectId}
+use Rattle.gix_hash.specs.Id.{id_of}
+use Rattle.gix_hash.specs.declared.object_id.ObjectId.{ObjectId}
 use Rattle.gix_traverse_commit_known.specs.Known.{turns_of}
 use Rattle.gix_traverse_commit_known.specs.Ending.{NoneGains, times_in}
 use Rattle.gix_traverse_commit_known.specs.Keeping.{Kept}

@@ -1,8 +1,8 @@
 use Rattle.std.proofs.Common.{refl, List, [], get_or, ◌∙◌, sym, ap, subst}
 use Rattle.std.specs.Prelude.{not}
 use Rattle.std.proofs.lemmas.Option.{slice_get-get_or}
-use Rattle.gix_hash_id.specs.declared.object_id.ObjectId.{ObjectId}
-use Rattle.gix_hash_id.specs.declared.object_id.ObjectId.TheVariants.{Sha1}
+use Rattle.gix_hash.specs.declared.object_id.ObjectId.{ObjectId}
+use Rattle.gix_hash.specs.declared.object_id.ObjectId.TheVariants.{Sha1}
 use Rattle.gix_traverse_commit_known.specs.Nodes.{is_hidden, is_met}
 use Rattle.gix_traverse_commit_known.specs.Ending.{times_in}
 use Rattle.gix_traverse_commit_known.proofs.Ending.{gains_more, gains_none, gains_queued}

@@ -1,6 +1,6 @@
 use Rattle.std.proofs.Common.{◌≡◌, List, Bool, true, false, take}
 use Rattle.std.specs.Prelude.{Contains, not}
-use Rattle.gix_hash_id.specs.declared.object_id.ObjectId.{ObjectId}
+use Rattle.gix_hash.specs.declared.object_id.ObjectId.{ObjectId}
 use Rattle.gix_traverse_commit_known.specs.Known.{turns_of}
 use Rattle.gix_traverse_commit_known.specs.Ending.{NoneGains, times_in}
 use Rattle.gix_traverse_commit_known.specs.Keeping.{Kept}

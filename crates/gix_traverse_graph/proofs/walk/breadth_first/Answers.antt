@@ -1,6 +1,6 @@
 use Rattle.std.proofs.lemmas.Result.{err_from_is_err_and}
 use Rattle.std.proofs.Common.{inl, inr, sym, List, [], subst}
-use Rattle.gix_hash_id.specs.declared.object_id.ObjectId.{ObjectId}
+use Rattle.gix_hash.specs.declared.object_id.ObjectId.{ObjectId}
 use Rattle.gix_traverse_graph.specs.Commits.{asked_parents, Reached, Listed}
 use Rattle.gix_traverse_graph.specs.Standing.{NotIn, Paints, IsMissing, plain_request}
 use Rattle.gix_traverse_graph.specs.Rows.{Holds}

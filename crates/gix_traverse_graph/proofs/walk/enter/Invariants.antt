@@ -1,5 +1,5 @@
 use Rattle.std.proofs.Common.{List, ◌++◌, length}
-use Rattle.gix_hash_id.specs.declared.object_id.ObjectId.{ObjectId}
+use Rattle.gix_hash.specs.declared.object_id.ObjectId.{ObjectId}
 use Rattle.gix_traverse_graph.specs.Numbered.{same_id}
 use Rattle.std.specs.HashSet.{contains}
 use Rattle.gix_traverse_graph.specs.Commits.{asked_parents}

@@ -1,7 +1,7 @@
 use Rattle.std.proofs.Common.{◌≡◌, ◌++◌, ◌-◌, length}
 use Rattle.std.specs.Prelude.{Contains}
 use Rattle.std.specs.HashSet.{contains}
-use Rattle.gix_hash_id.specs.declared.object_id.ObjectId.{ObjectId}
+use Rattle.gix_hash.specs.declared.object_id.ObjectId.{ObjectId}
 use Rattle.gix_traverse_graph.specs.Commits.{asked_parents}
 use Rattle.gix_traverse_graph.specs.Numbered.{same_id}
 use Rattle.gix_traverse_graph.specs.RowCommits.{commits_of}

@@ -2,7 +2,7 @@ use Rattle.std.proofs.Common.{◌≡◌, ◌∙◌, sym, inl, List, Option, subs
 use Rattle.std.proofs.lemmas.Result.{err_from_is_err_and}
 use Rattle.gix_traverse_commit_known.specs.Meeting.{CountsAll}
 use Rattle.gix_traverse_graph.specs.Rows.{AllHeld, Holds}
-use Rattle.gix_hash_id.specs.declared.object_id.ObjectId.{ObjectId}
+use Rattle.gix_hash.specs.declared.object_id.ObjectId.{ObjectId}
 use Rattle.gix_traverse_commit_known.specs.Told.{rows_of}
 use Rattle.gix_traverse_graph.specs.declared.rows.Row.{Row}
 use Rattle.gix_traverse_topo.specs.Walking.{Walking}

@@ -1,7 +1,7 @@
 use Rattle.std.proofs.Common.{◌≡◌, ◌∙◌, sym, ap, subst, map, length, ◌<◌, [], List, ℕ, Bor, get_or}
 use Rattle.std.specs.Prelude.{option_map}
 use Rattle.std.proofs.lemmas.Result.{err_from_is_err_and}
-use Rattle.gix_hash_id.specs.Id.{id_of}
+use Rattle.gix_hash.specs.Id.{id_of}
 use Rattle.gix_object_lookup.specs.Path.{Path}
 use Rattle.gix_traverse_tree.specs.AtPaths.{names_of, TellsEach}
 use Rattle.gix_traverse_tree.specs.Known.{known, item_named, ReadsBelow, StopsReading}

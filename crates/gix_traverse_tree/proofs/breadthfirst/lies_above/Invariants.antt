@@ -1,6 +1,6 @@
 use Rattle.std.proofs.Common.{◌≡◌, ◌<◌, ℕ, suc, List, Option, Some, None, length}
 use Rattle.std.specs.Prelude.{IfSome}
-use Rattle.gix_hash_id.specs.Id.{Id, id_of}
+use Rattle.gix_hash.specs.Id.{Id, id_of}
 use Rattle.gix_traverse_tree.specs.Nodes.{IsWayUp}
 use Rattle.gix_traverse_tree.specs.Trees.{is_among}
 use Rattle.gix_traverse_tree.proofs.breadthfirst.lies_above.Given as goal

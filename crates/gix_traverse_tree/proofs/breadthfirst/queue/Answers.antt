@@ -1,5 +1,5 @@
 use Rattle.std.proofs.Common.{[], ◌∷◌, ap}
-use Rattle.gix_hash_id.specs.Id.{Id}
+use Rattle.gix_hash.specs.Id.{Id}
 use Rattle.gix_traverse_tree.proofs.breadthfirst.queue.Goals as goal
 
 pub returns-clause-queued : goal.returns-clause-queued

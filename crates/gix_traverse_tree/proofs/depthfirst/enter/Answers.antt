@@ -2,8 +2,8 @@ use Rattle.std.proofs.Common.{◌∙◌, sym, ap, refl, inr, ◌<◌, ◌^◌, L
 use Rattle.std.specs.Prelude.{reverse}
 use Rattle.std.specs.List.{list_any}
 use Rattle.std.proofs.lemmas.Result.{err_from_is_err_and}
-use Rattle.gix_hash_id.specs.Id.{id_of}
-use Rattle.gix_hash_id.specs.Order.{id_eq}
+use Rattle.gix_hash.specs.Id.{id_of}
+use Rattle.gix_hash.specs.Order.{id_eq}
 use Rattle.gix_traverse_tree.specs.declared.depthfirst.Open.{Open}
 use Rattle.gix_traverse_tree.proofs.Opening.{among_open, reverse_push}
 use Rattle.gix_traverse_tree.proofs.Ways.{among_from_contains}

@@ -2,7 +2,7 @@ use Rattle.std.proofs.Common.{◌≡◌, ◌∙◌, sym, ap, subst, refl, inl, �
 use Rattle.std.specs.Prelude.{reverse}
 use Rattle.std.proofs.lemmas.List.{nil_from_length, length-reverse}
 use Rattle.std.proofs.lemmas.Result.{err_from_is_err_and}
-use Rattle.gix_hash_id.specs.Id.{id_of}
+use Rattle.gix_hash.specs.Id.{id_of}
 use Rattle.gix_traverse_tree.specs.Opened.{ShowsNext, HasNoNext, IsAtEnd, IsResumed, ids_of}
 use Rattle.gix_traverse_tree.specs.Trees.{failed, TreeFault}
 use Rattle.gix_traverse_tree.specs.declared.depthfirst.Open.{Open}

@@ -1,6 +1,6 @@
 use Rattle.std.proofs.Common.{◌≡◌, ◌∙◌, sym, ap, subst, refl, inr, ℕ, List, Some, Ok, Err, ◌-◌, length, drop}
 use Rattle.std.proofs.lemmas.Result.{err_from_is_err_and}
-use Rattle.gix_hash_id.specs.Id.{id_of}
+use Rattle.gix_hash.specs.Id.{id_of}
 use Rattle.gix_object_tree.specs.Entry.{item_of, SpellsEntry}
 use Rattle.gix_object_tree.specs.Reading.{Place, Steps, place_of, start}
 use Rattle.gix_traverse_tree.specs.Opened.{left_of}

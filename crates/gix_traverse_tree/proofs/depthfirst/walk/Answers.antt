@@ -1,7 +1,7 @@
 use Rattle.std.proofs.Common.{◌≡◌, sym, ap, subst, Bool, List}
 use Rattle.std.specs.Prelude.{reverse}
 use Rattle.std.proofs.lemmas.Result.{err_from_is_err_and}
-use Rattle.gix_hash_id.specs.Id.{id_of}
+use Rattle.gix_hash.specs.Id.{id_of}
 use Rattle.gix_traverse_tree.specs.Opened.{IsAtEnd, IsGood, WalksIn, WhereTrue, ids_of}
 use Rattle.gix_traverse_tree.specs.Trees.{failed, TreeFault}
 use Rattle.gix_traverse_tree.specs.declared.depthfirst.Open.{Open}

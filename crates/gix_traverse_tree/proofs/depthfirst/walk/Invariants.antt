@@ -1,5 +1,5 @@
 use Rattle.std.specs.Prelude.{reverse}
-use Rattle.gix_hash_id.specs.Id.{id_of}
+use Rattle.gix_hash.specs.Id.{id_of}
 use Rattle.gix_traverse_tree.specs.Opened.{weight, IsGood, WalksIn, WhereTrue}
 use Rattle.gix_traverse_tree.proofs.Walking.{Walking, steps_left}
 use Rattle.gix_traverse_tree.proofs.depthfirst.walk.Given as goal

@@ -1,4 +1,4 @@
-use Rattle.gix_hash_id.specs.Id.{id_of}
+use Rattle.gix_hash.specs.Id.{id_of}
 use Rattle.history.proofs.ChangeLemmas.{id_told}
 use Rattle.history.proofs.changing.id_text.Goals as goal
 

@@ -1,8 +1,8 @@
 use Rattle.std.proofs.lemmas.Result.{err_from_is_err_and}
 use Rattle.std.proofs.Common.{◌≡◌, refl, Err, [], ◌∷◌, ◌⊎◌, ap, inl, inr, arith, ◌∙◌, sym}
-use Rattle.history_objects.specs.KeptIds.{kept}
+use Rattle.history_store.specs.KeptIds.{kept}
 use Rattle.history.proofs.Puts.{folders_now, value_passes, value_stored, value_free, value_taken, value_known, put_stopped}
-use Rattle.history_objects.proofs.ObjectParts.{values_are_objects}
+use Rattle.history_store.proofs.ObjectParts.{values_are_objects}
 use Rattle.history.proofs.Told.{put_counts, same_fault}
 use Rattle.history_repository.specs.Faults.{fault_of_put}
 use Rattle.history.proofs.commit.put.Goals as goal

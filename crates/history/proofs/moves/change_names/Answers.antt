@@ -1,6 +1,6 @@
 use Rattle.std.proofs.Common.{◌⊎◌, inl, inr, ◌∙◌, refl, ap, Err, arith}
 use Rattle.history_model.specs.Meaning.{after}
-use Rattle.history_names.specs.Changing.{HoldNamesOf}
+use Rattle.history_store.specs.Changing.{HoldNamesOf}
 use Rattle.history.proofs.MoveFaults.{met_fault}
 use Rattle.history.proofs.NamesChanged.{edits_passed, may_change, names_changed}
 use Rattle.history.proofs.Told.{file_counts}

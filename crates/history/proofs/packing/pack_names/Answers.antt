@@ -1,8 +1,8 @@
 use Rattle.std.proofs.Common.{◌⊎◌, inl, inr, ◌∙◌, refl, sym, ap, subst, Err, arith}
 use Rattle.gix_ref_file.specs.History.{Adds}
-use Rattle.history_names.specs.Packed.{AllOfKind, ArePacked, MayPack}
-use Rattle.history_names.proofs.NamesPacked.{kinds_told, packs_moments, packs_names}
-use Rattle.history_names.proofs.Removals.{same_folders_now}
+use Rattle.history_store.specs.Packed.{AllOfKind, ArePacked, MayPack}
+use Rattle.history_store.proofs.NamesPacked.{kinds_told, packs_moments, packs_names}
+use Rattle.history_store.proofs.Removals.{same_folders_now}
 use Rattle.history.proofs.PackLemmas.{packed_room}
 use Rattle.history_plans.proofs.PackedLines.{all_records}
 use Rattle.history_layout.specs.PackSteps.{PacksNames}

@@ -1,5 +1,5 @@
 use Rattle.std.proofs.Common.{◌≡◌, false}
-use Rattle.gix_hash_id.specs.declared.kind.Kind.{Kind}
+use Rattle.gix_hash.specs.declared.kind.Kind.{Kind}
 use Rattle.history_check_names.specs.Packed.{has_name}
 use Rattle.history_check_names.specs.PackedRead.{ReadsPacked}
 use Rattle.history_check_names.proofs.Folders.{AreBefore}

@@ -1,6 +1,6 @@
 use Rattle.std.proofs.Common.{◌≡◌, ◌∙◌, ap, arith, inl, inr, refl, sym, subst, rules, false, true}
 use Rattle.std.proofs.lemmas.Result.{err_from_is_err_and}
-use Rattle.gix_hash_id.specs.Id.{id_of}
+use Rattle.gix_hash.specs.Id.{id_of}
 use Rattle.history_check_names.specs.Causes.{IsCollision}
 use Rattle.history_check_names.specs.Sound.{IsApart}
 use Rattle.history_check_objects.specs.Stored.{facts_in}

@@ -1,5 +1,5 @@
 use Rattle.std.proofs.Common.{◌∙◌, sym}
-use Rattle.gix_hash_id.specs.Id.{id_of}
+use Rattle.gix_hash.specs.Id.{id_of}
 use Rattle.history_check_names.proofs.LooseTexts.{endless_read, symbolic_read, id_read, none_read}
 use Rattle.history_check_names.proofs.loose.read_loose.Goals as goal
 

@@ -1,5 +1,5 @@
 use Rattle.std.proofs.Common.{[], List, subst}
-use Rattle.gix_hash_id.specs.declared.object_id.ObjectId.{ObjectId}
+use Rattle.gix_hash.specs.declared.object_id.ObjectId.{ObjectId}
 use Rattle.history_check_objects.specs.Listing.{Gathers}
 use Rattle.history_check_objects.proofs.Listings.{root_listed}
 use Rattle.history_check_objects.proofs.listing.list_objects.Goals as goal

@@ -1,6 +1,6 @@
 use Rattle.std.proofs.Common.{◌≡◌, ◌∙◌, ◌++◌, ◌-◌, sym, ap, take, drop, length, length-drop, arith, rules, List, ℕ}
 use Rattle.history_check_objects.proofs.Steps.{take_whole}
-use Rattle.gix_hash_id.specs.Id.{id_of}
+use Rattle.gix_hash.specs.Id.{id_of}
 use Rattle.history_check_objects.proofs.Listings.{other_place}
 use Rattle.history_check_objects.proofs.listing.placed_id.Goals as goal
 

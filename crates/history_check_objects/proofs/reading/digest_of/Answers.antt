@@ -1,6 +1,6 @@
 use Rattle.std.proofs.Common.{◌≡◌, ◌∙◌, List, ℕ, refl}
-use Rattle.gix_hash_id.specs.Hasher.{id_of_message}
-use Rattle.gix_hash_id.specs.declared.kind.Kind.{Kind}
+use Rattle.gix_hash.specs.Hasher.{id_of_message}
+use Rattle.gix_hash.specs.declared.kind.Kind.{Kind}
 use Rattle.history_model.specs.Objects.{digest}
 use Rattle.history_check_objects.proofs.reading.digest_of.Goals as goal
 

@@ -1,5 +1,5 @@
 use Rattle.std.proofs.Common.{◌≡◌, ◌∙◌, ◌-◌, ◌<◌, ◌≤◌, ap, sym, arith, drop, take, length, length-drop}
-use Rattle.gix_hash_id.specs.Id.{id_of}
+use Rattle.gix_hash.specs.Id.{id_of}
 use Rattle.history_model.specs.Forms.{max_content}
 use Rattle.history_model.specs.Objects.{digest, object_text}
 use Rattle.history_model.proofs.IdLemmas.{one_id}

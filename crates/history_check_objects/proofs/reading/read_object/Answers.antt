@@ -1,5 +1,5 @@
 use Rattle.std.proofs.Common.{◌∙◌, ap, sym, arith}
-use Rattle.gix_hash_id.specs.Id.{id_of}
+use Rattle.gix_hash.specs.Id.{id_of}
 use Rattle.gix_ref_file.specs.Tree.{node_at, place_of}
 use Rattle.history_check_objects.proofs.Texts.{too_long_file}
 use Rattle.history_check_objects.proofs.reading.read_object.Goals as goal

@@ -1,7 +1,7 @@
 use Rattle.std.proofs.Common.{◌∙◌, ap, sym, subst, map, arith}
 use Rattle.std.specs.List.{list_any}
 use Rattle.std.proofs.lemmas.Result.{err_from_is_err_and}
-use Rattle.gix_hash_id.specs.Id.{id_of}
+use Rattle.gix_hash.specs.Id.{id_of}
 use Rattle.gix_object_editor.specs.Asked.{CountsUp}
 use Rattle.gix_object_editor.specs.Editor.{asked_by, files_of}
 use Rattle.gix_object_editor.specs.Entries.{PassesDown}

@@ -1,7 +1,7 @@
 use Rattle.std.proofs.Common.{◌≡◌, ◌∙◌, ap, sym, subst, refl, [], ◌∷◌, ◌++◌, map, Vec, Global}
 use Rattle.std.proofs.lemmas.Fn.{chained_keeps}
-use Rattle.gix_hash_id.specs.Id.{id_of}
-use Rattle.gix_hash_id.specs.declared.kind.Kind.{Kind}
+use Rattle.gix_hash.specs.Id.{id_of}
+use Rattle.gix_hash.specs.declared.kind.Kind.{Kind}
 use Rattle.gix_object_tree.specs.Entry.{own_item}
 use Rattle.gix_object_tree.specs.declared.tree.owned.Tree.{Tree}
 use Rattle.history_files.specs.Handing.{AreKept, IsTextOf}

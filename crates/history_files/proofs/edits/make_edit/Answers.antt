@@ -1,5 +1,5 @@
 use Rattle.std.proofs.Common.{◌∙◌, ap, subst, sym, false, ◌||◌, [], ◌∷◌, length}
-use Rattle.gix_hash_id.specs.Id.{id_of}
+use Rattle.gix_hash.specs.Id.{id_of}
 use Rattle.gix_object_nodes.specs.Files as unfolded
 use Rattle.gix_object_nodes.specs.Files.{Path, Leaf, SameFiles, HasNoneBelow, IsEmptyTree}
 use Rattle.gix_object_editor.specs.Asked.{CountsUp, front_of}

@@ -15,7 +15,7 @@ use Rattle.history_files.proofs.Standing.{change_in, stands_deeper, stands_inner
 use Rattle.history_files.proofs.Parsed.{has_stored, trees_in}
 use Rattle.history_model.specs.FileMap.{components}
 use Rattle.history_files.specs.Edits.{IsEdit, name_count}
-use Rattle.gix_hash_id.specs.declared.object_id.ObjectId.TheVariants.{Sha1}
+use Rattle.gix_hash.specs.declared.object_id.ObjectId.TheVariants.{Sha1}
 use Rattle.history_model.specs.declared.FileKind.TheVariants.{File as PlainFile}
 use Rattle.history_files.specs.declared.edits.Change.TheVariants.{Put}
 use Rattle.history_files.specs.declared.edits.Edit.{Edit}

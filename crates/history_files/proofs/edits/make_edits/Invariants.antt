@@ -1,6 +1,6 @@
 use Rattle.std.proofs.Common.{◌≡◌, ◌≤◌, ◌<◌, ◌+◌, ◌^◌, List, [], drop, take}
 use Rattle.std.specs.List.{AllByRecursion}
-use Rattle.gix_hash_id.specs.declared.kind.Kind.{Kind}
+use Rattle.gix_hash.specs.declared.kind.Kind.{Kind}
 use Rattle.gix_object_nodes.specs.Files.{Trees}
 use Rattle.gix_object_editor.specs.Stored.{HasStored}
 use Rattle.gix_object_editor.specs.Editor.{EachEntryHas, IsAsRead, asked_by, files_of}

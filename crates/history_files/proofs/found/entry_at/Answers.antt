@@ -1,6 +1,6 @@
 use Rattle.std.proofs.Common.{◌∙◌, ◌+◌, ap, sym, subst, Bor, List, ℕ, [], drop, get_or, refl}
 use Rattle.std.proofs.lemmas.Result.{err_from_is_err_and}
-use Rattle.gix_hash_id.specs.Id.{id_of}
+use Rattle.gix_hash.specs.Id.{id_of}
 use Rattle.history_model.specs.Objects.{entry_at}
 use Rattle.history_files.specs.Reading.{StepsBelow}
 use Rattle.history_files.specs.declared.found.Found.TheVariants.{Folder}

@@ -1,6 +1,6 @@
 use Rattle.std.proofs.Common.{◌∙◌, ap, map}
 use Rattle.std.specs.Prelude.{option_and_then}
-use Rattle.gix_hash_id.specs.Id.{id_of}
+use Rattle.gix_hash.specs.Id.{id_of}
 use Rattle.gix_object_tree.specs.Entry.{item_of}
 use Rattle.gix_object_nodes.specs.Files.{named}
 use Rattle.history_files.specs.Reading.{named_by}

@@ -1,5 +1,5 @@
 use Rattle.std.proofs.Common.{◌∙◌, ap, map, sym, subst}
-use Rattle.gix_hash_id.specs.Id.{id_of}
+use Rattle.gix_hash.specs.Id.{id_of}
 use Rattle.history_files.specs.Reading.{OwnFault, told_entry}
 use Rattle.history_files.proofs.SeveralPaths.{each_told, own_at}
 use Rattle.history_files.proofs.found_each.entries_at.Goals as goal

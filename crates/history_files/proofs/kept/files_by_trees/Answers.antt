@@ -1,5 +1,5 @@
 use Rattle.std.proofs.Common.{subst, sym}
-use Rattle.gix_hash_id.specs.Id.{id_of}
+use Rattle.gix_hash.specs.Id.{id_of}
 use Rattle.gix_object_lookup.specs.Table.{Table}
 use Rattle.history_files.specs.Reading.{IsRootOf}
 use Rattle.history_files.proofs.TreesKept.{kept_same}

@@ -1,6 +1,6 @@
 use Rattle.std.proofs.Common.{◌∙◌, ap, sym, Some}
 use Rattle.gix_object_lookup.specs.Table.{content_at, kind_at}
-use Rattle.gix_hash_id.specs.Id.{id_of}
+use Rattle.gix_hash.specs.Id.{id_of}
 use Rattle.history_files.proofs.TreesKept.{one_kept, tree_stands}
 use Rattle.history_files.proofs.kept.read_tree.Goals as goal
 

@@ -1,7 +1,7 @@
 use Rattle.std.proofs.Common.{ap, sym, subst, Result}
 use Rattle.gix_traverse_tree.specs.declared.recorder.Recorder.{Recorder}
 use Rattle.history_files.specs.declared.error.ReadError.{ReadError}
-use Rattle.gix_hash_id.specs.Id.{id_of}
+use Rattle.gix_hash.specs.Id.{id_of}
 use Rattle.history_files.specs.Reading.{OwnFault, StopsBelow}
 use Rattle.history_files.proofs.Breaks.{below_failed, from_err, stops_below}
 use Rattle.history_files.proofs.Lines.{recorded_lines, own_fault}

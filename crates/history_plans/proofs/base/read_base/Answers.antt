@@ -7,7 +7,7 @@ use Rattle.std.specs.declared.alloc.Global.{Global}
 use Rattle.std.proofs.lemmas.Result.{err_from_is_err_and}
 use Rattle.history_model.specs.Forms.{is_name}
 use Rattle.history_model.specs.declared.Fault.TheVariants.{Memory}
-use Rattle.gix_hash_id.specs.Id.{Id, id_of}
+use Rattle.gix_hash.specs.Id.{Id, id_of}
 use Rattle.history_plans.specs.Bases.{IsCommitBase, IsHeldSource, IsRootedSource, expected_meanings, parents_cause}
 use Rattle.history_repository.specs.Meanings.{words_cause, commit_or_cause, meaning_of, peeled_in}
 use Rattle.history_repository.specs.Meant.{HasRoot, peeled_id}

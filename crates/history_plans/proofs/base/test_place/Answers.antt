@@ -4,7 +4,7 @@ use Rattle.std.specs.Prelude.{⊤}
 use Rattle.history_model.specs.Bytes.{Bytes}
 use Rattle.history_model.specs.Forms.{is_name}
 use Rattle.history_model.specs.Meaning.{branch_or_name}
-use Rattle.history_names.specs.AllNames.{TellsMeeting}
+use Rattle.history_store.specs.AllNames.{TellsMeeting}
 use Rattle.history_plans.specs.CommitCauses.{place_causes}
 use Rattle.history_repository.specs.Face.{names_part}
 use Rattle.history_repository.specs.Held.{IsHeld}

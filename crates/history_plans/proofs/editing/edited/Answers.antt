@@ -1,7 +1,7 @@
 use Rattle.std.proofs.Common.{◌≡◌, refl, sym, ◌∙◌, ap, subst, map, Bor}
 use Rattle.std.specs.Prelude.{Option, Some, None, Result, option_copied, option_map}
-use Rattle.gix_hash_id.specs.Id.{id_of}
-use Rattle.gix_hash_id.specs.declared.object_id.ObjectId.{ObjectId}
+use Rattle.gix_hash.specs.Id.{id_of}
+use Rattle.gix_hash.specs.declared.object_id.ObjectId.{ObjectId}
 use Rattle.history_files.specs.Editing.{NameEdits, root_id}
 use Rattle.history_files.specs.Laws.{table_of}
 use Rattle.history_plans.specs.Files.{TellsEdited, edit_parts}

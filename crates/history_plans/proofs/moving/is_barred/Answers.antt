@@ -2,7 +2,7 @@ use Rattle.std.proofs.Common.{◌≡◌, ◌∙◌, ap, subst, sym, Err}
 use Rattle.std.proofs.lemmas.Result.{err_from_is_err_and}
 use Rattle.history_model.specs.Bytes.{Bytes}
 use Rattle.history_model.specs.Forms.{is_name}
-use Rattle.history_names.specs.AllNames.{TellsMeeting}
+use Rattle.history_store.specs.AllNames.{TellsMeeting}
 use Rattle.history_repository.specs.Face.{names_part}
 use Rattle.history_plans.specs.Moving.{bars}
 use Rattle.history_plans.proofs.LineLemmas.{file_fails, new_bars, standing_bars}

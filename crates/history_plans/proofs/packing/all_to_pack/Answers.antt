@@ -3,8 +3,8 @@ use Rattle.std.specs.Prelude.{IfSome, IfNone}
 use Rattle.std.proofs.lemmas.Iterator.Adapters.{YieldsList-from_vec}
 use Rattle.std.proofs.lemmas.Iterator.Consumers.{YieldsList-end, YieldsList-turn}
 use Rattle.gix_object_lines.specs.NameTest.{is_full_name}
-use Rattle.history_names.specs.Packed.{record_of_name, records_of}
-use Rattle.history_names.specs.declared.packs.PackedName.{PackedName}
+use Rattle.history_store.specs.Packed.{record_of_name, records_of}
+use Rattle.history_store.specs.declared.packs.PackedName.{PackedName}
 use Rattle.history_repository.specs.NamesShown.{shown_name}
 use Rattle.history_plans.specs.Packing.{AreFull, line_record}
 use Rattle.history_repository.specs.declared.shown.Shown.{Shown}

@@ -1,5 +1,5 @@
 use Rattle.std.proofs.Common.{◌≡◌, map}
-use Rattle.history_names.specs.Packed.{records_of}
+use Rattle.history_store.specs.Packed.{records_of}
 use Rattle.history_repository.specs.NamesShown.{shown_name}
 use Rattle.history_plans.specs.Packing.{AreFull, line_record}
 use Rattle.history_plans.proofs.packing.all_to_pack.Given as goal

@@ -2,7 +2,7 @@ use Rattle.std.proofs.Common.{sym, ◌∙◌, ap, subst, Err}
 use Rattle.std.specs.Prelude.{ℕ, Ok, Vec}
 use Rattle.std.specs.declared.alloc.Global.{Global}
 use Rattle.std.proofs.lemmas.Result.{err_from_is_err_and}
-use Rattle.gix_hash_id.specs.Id.{null_id, id_of}
+use Rattle.gix_hash.specs.Id.{null_id, id_of}
 use Rattle.history_model.specs.Forms.{title}
 use Rattle.history_model.specs.Meaning.{new_commit}
 use Rattle.history_texts.specs.Formats.{actor_of}

@@ -8,7 +8,7 @@ use Rattle.history_model.specs.Commands as commands
 use Rattle.history_model.specs.FileMap as model
 use Rattle.history_model.specs.Meaning.{parents_of, put_bytes}
 use Rattle.history_model.specs.Repository as plain
-use Rattle.history_objects.specs.Stores.{AreObjectsOf}
+use Rattle.history_store.specs.Stores.{AreObjectsOf}
 use Rattle.history_word.specs.Commands.{AreEdits}
 use Rattle.history_word.specs.declared.command.Edit.{Edit}
 use Rattle.history_plans.specs.Files.{AreChangesOf, AreReadAs, TellsEdited, kept_edit}

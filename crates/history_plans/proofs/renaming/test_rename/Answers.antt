@@ -1,11 +1,11 @@
 use Rattle.std.proofs.Common.{◌≡◌, [], ◌∷◌, ◌∙◌, ap, cond, None, Some, subst, sym, Err, is_some, option_map, true}
 use Rattle.std.proofs.lemmas.Result.{err_from_is_err_and}
-use Rattle.gix_hash_id.specs.Id.{id_of}
+use Rattle.gix_hash.specs.Id.{id_of}
 use Rattle.history_model.specs.Bytes.{Bytes}
 use Rattle.history_model.specs.Repository.{id_at}
 use Rattle.history_model.specs.Forms.{is_name}
 use Rattle.history_model.specs.declared.Cause.TheVariants.{Collides}
-use Rattle.history_names.specs.AllNames.{TellsMeeting}
+use Rattle.history_store.specs.AllNames.{TellsMeeting}
 use Rattle.history_repository.specs.Face.{names_part}
 use Rattle.history_plans.specs.Moving.{names_cause}
 use Rattle.history_plans.proofs.PlaceLemmas.{collision_told}

@@ -2,7 +2,7 @@ use Rattle.std.proofs.Common.{◌≡◌, ◌∙◌, ap, option_map, subst, sym, 
 use Rattle.std.specs.Prelude.{Vec, ℕ}
 use Rattle.std.specs.declared.alloc.Global.{Global}
 use Rattle.std.proofs.lemmas.Result.{err_from_is_err_and}
-use Rattle.gix_hash_id.specs.Id.{id_of, null_id}
+use Rattle.gix_hash.specs.Id.{id_of, null_id}
 use Rattle.history_model.specs.Forms.{max_content, title}
 use Rattle.history_model.specs.Meaning.{tag_rest}
 use Rattle.history_model.specs.declared.Cause.TheVariants.{BadName}

@@ -2,10 +2,10 @@ use Rattle.std.proofs.Common.{◌≡◌, ◌∙◌, ◌++◌, ap, not, subst, sy
 use Rattle.std.proofs.lemmas.Result.{err_from_is_err_and}
 use Rattle.history_model.specs.Bytes.{Bytes}
 use Rattle.history_model.specs.Commands.{Tag}
-use Rattle.gix_hash_id.specs.Id.{id_of}
+use Rattle.gix_hash.specs.Id.{id_of}
 use Rattle.history_model.specs.Forms.{is_name}
 use Rattle.history_model.specs.declared.Cause.TheVariants.{Collides}
-use Rattle.history_names.specs.AllNames.{TellsMeeting}
+use Rattle.history_store.specs.AllNames.{TellsMeeting}
 use Rattle.history_plans.specs.Bases.{expected_meanings}
 use Rattle.history_plans.specs.CommitCauses.{held_causes, place_causes, word_causes}
 use Rattle.history_repository.specs.Face.{names_part}

@@ -1,6 +1,6 @@
 use Rattle.std.proofs.Common.{◌∙◌, ap, sym, subst, map, option_map}
 use Rattle.std.specs.List.{AllByRecursion}
-use Rattle.gix_hash_id.specs.Id.{id_of}
+use Rattle.gix_hash.specs.Id.{id_of}
 use Rattle.history_files.specs.Reading.{entry_of}
 use Rattle.history_model.specs.Repository.{HoldsCommit}
 use Rattle.history_repository.proofs.Befores.{first_of, none_of}

@@ -1,6 +1,6 @@
 use Rattle.std.proofs.Common.{◌≡◌, filter, map, take}
 use Rattle.std.specs.Prelude.{IfSome}
-use Rattle.gix_hash_id.specs.Id.{id_of}
+use Rattle.gix_hash.specs.Id.{id_of}
 use Rattle.history_model.specs.Answers.{differs_at}
 use Rattle.history_model.specs.Repository as plain
 use Rattle.history_repository.specs.Stands.{Stands}

@@ -1,4 +1,4 @@
-use Rattle.gix_hash_id.specs.Id.{id_of}
+use Rattle.gix_hash.specs.Id.{id_of}
 use Rattle.history_repository.proofs.Tables.{holds_known, root_of}
 use Rattle.history_repository.proofs.ReadingFaults.{read_told}
 use Rattle.history_queries.proofs.differing.found_each.Goals as goal

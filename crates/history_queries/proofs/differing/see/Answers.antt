@@ -1,5 +1,5 @@
 use Rattle.std.proofs.Common.{ap}
-use Rattle.gix_hash_id.specs.Id.{id_of}
+use Rattle.gix_hash.specs.Id.{id_of}
 use Rattle.history_repository.proofs.ReadingFaults.{fault_told}
 use Rattle.history_queries.proofs.DifferingLemmas.{seen_so, told_root}
 use Rattle.history_queries.proofs.differing.see.Goals as goal

@@ -1,6 +1,6 @@
 use Rattle.std.proofs.Common.{◌∙◌, sym, subst, Option}
 use Rattle.std.specs.Prelude.{IfSome}
-use Rattle.gix_hash_id.specs.Id.{id_of}
+use Rattle.gix_hash.specs.Id.{id_of}
 use Rattle.history_model.proofs.IdLemmas.{one_id}
 use Rattle.history_queries.specs.Seen.{IsSeen}
 use Rattle.history_queries.specs.declared.differing.Seen.{Seen}

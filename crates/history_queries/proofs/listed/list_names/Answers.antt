@@ -2,7 +2,7 @@ use Rattle.std.proofs.Common.{◌≡◌, None, Err, refl, sym, ◌∙◌, ap, su
 use Rattle.std.specs.Prelude.{option_copied, map}
 use Rattle.history_model.specs.Commands.{Names}
 use Rattle.history_model.specs.Replies.{NamesAre, reply_text}
-use Rattle.history_names.specs.AllNames.{ListsAll}
+use Rattle.history_store.specs.AllNames.{ListsAll}
 use Rattle.history_repository.specs.NamesShown.{folder_cause, shown_name, told_name}
 use Rattle.history_repository.specs.Face.{names_part}
 use Rattle.history_queries.proofs.Answered.{handed_on, reading_fault}

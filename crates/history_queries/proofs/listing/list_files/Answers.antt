@@ -6,7 +6,7 @@ use Rattle.history_model.specs.Commands.{Files}
 use Rattle.history_model.specs.Replies.{FilesAre, reply_text}
 use Rattle.history_queries.proofs.Answered.{reading_fault, unread, handed_on, files_refused, reads_commit, files_answered, root_at}
 use Rattle.history_queries.proofs.listing.list_files.Goals as goal
-use Rattle.gix_hash_id.specs.Id.{id_of}
+use Rattle.gix_hash.specs.Id.{id_of}
 
 pub returns-in_err-commit : goal.returns-in_err-commit
 returns-in_err-commit g c = λ r s.

@@ -1,5 +1,5 @@
 use Rattle.std.proofs.Common.{◌≡◌, ◌∙◌, ◌==◌, ap, sym, subst, filter, map, length, true, false}
-use Rattle.gix_hash_id.specs.Id.{id_of}
+use Rattle.gix_hash.specs.Id.{id_of}
 use Rattle.history_model.specs.Answers.{differs_at, kept}
 use Rattle.history_model.specs.Commands.{Log}
 use Rattle.history_model.specs.Replies.{LogIs, reply_text}

@@ -1,5 +1,5 @@
 use Rattle.std.proofs.Common.{◌≡◌, ◌∷◌, ◌++◌, [], map, take}
-use Rattle.gix_hash_id.specs.Id.{id_of}
+use Rattle.gix_hash.specs.Id.{id_of}
 use Rattle.history_model.specs.Objects.{hex}
 use Rattle.history_model.specs.Spelling.{Line, parts_text}
 use Rattle.history_queries.proofs.logs.log_text.Given as goal

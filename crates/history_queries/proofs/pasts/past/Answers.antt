@@ -3,7 +3,7 @@ use Rattle.history_model.specs.Bytes.{Bytes}
 use Rattle.history_model.specs.Commands.{Past}
 use Rattle.history_model.specs.Repository.{moves_at}
 use Rattle.history_model.proofs.WholeForms.{moves_formed}
-use Rattle.history_names.specs.Packing.{NameReads}
+use Rattle.history_store.specs.Packing.{NameReads}
 use Rattle.history_repository.specs.NameForms.{form_cause}
 use Rattle.history_repository.specs.Face.{names_part}
 use Rattle.history_queries.proofs.Answered.{handed_on}

@@ -1,4 +1,4 @@
-use Rattle.gix_hash_id.specs.Id.{id_of}
+use Rattle.gix_hash.specs.Id.{id_of}
 use Rattle.history_queries.proofs.CommitsWalked.{content_so}
 use Rattle.history_queries.proofs.reading.commit_kept.Goals as goal
 

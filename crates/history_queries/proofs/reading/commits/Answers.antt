@@ -1,6 +1,6 @@
 use Rattle.std.proofs.Common.{sym, subst}
-use Rattle.gix_hash_id.specs.Id.{id_of}
-use Rattle.gix_hash_id.specs.Packed.{object_id_of, object_id_of-id_of}
+use Rattle.gix_hash.specs.Id.{id_of}
+use Rattle.gix_hash.specs.Packed.{object_id_of, object_id_of-id_of}
 use Rattle.gix_object_lookup.specs.Table.{Table}
 use Rattle.history_model.specs.Answers.{commits_of}
 use Rattle.history_walks.specs.Asking.{request_of}

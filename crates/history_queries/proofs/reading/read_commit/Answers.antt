@@ -1,5 +1,5 @@
 use Rattle.std.proofs.Common.{◌∙◌, refl}
-use Rattle.gix_hash_id.specs.Id.{id_of}
+use Rattle.gix_hash.specs.Id.{id_of}
 use Rattle.history_model.specs.Objects.{StoredCommit}
 use Rattle.history_repository.proofs.ReadingFaults.{fault_told}
 use Rattle.history_queries.proofs.reading.read_commit.Goals as goal

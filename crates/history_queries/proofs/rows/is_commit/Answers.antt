@@ -1,5 +1,5 @@
 use Rattle.std.proofs.Common.{◌∙◌, Some, ap, sym}
-use Rattle.gix_hash_id.specs.Id.{id_of}
+use Rattle.gix_hash.specs.Id.{id_of}
 use Rattle.history_files.specs.Laws.{table_of}
 use Rattle.history_queries.specs.Indexing.{front_of}
 use Rattle.history_repository.proofs.KnownLemmas.{content_there}

@@ -1,7 +1,7 @@
 use Rattle.std.proofs.Common.{◌≡◌, ◌∙◌, ap, arith, drop, length, sym, subst, take, unwrap_or, ◌++◌, [], List, ℕ}
 use Rattle.std.specs.Prelude.{Err}
 use Rattle.std.proofs.lemmas.List.{take_at}
-use Rattle.gix_hash_id.specs.Id.{id_of}
+use Rattle.gix_hash.specs.Id.{id_of}
 use Rattle.gix_ref_file.specs.Tree.{bytes_at, bytes_of, node_at, overwritten, part}
 use Rattle.history_model.specs.Objects.{value_text}
 use Rattle.history_repository.specs.Face.{objects_part}

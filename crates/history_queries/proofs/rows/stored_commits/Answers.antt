@@ -1,7 +1,7 @@
 use Rattle.std.proofs.Common.{◌∙◌, sym, subst, List}
-use Rattle.gix_hash_id.specs.Id.{id_of}
-use Rattle.gix_hash_id.specs.declared.object_id.ObjectId.{ObjectId}
-use Rattle.history_objects.specs.KeptIds.{left}
+use Rattle.gix_hash.specs.Id.{id_of}
+use Rattle.gix_hash.specs.declared.object_id.ObjectId.{ObjectId}
+use Rattle.history_store.specs.KeptIds.{left}
 use Rattle.history_queries.proofs.AllTold.{AreSoFar, all_so_far, commit_holds, next_stands, none_held, none_so_far, one_kept, one_passed}
 use Rattle.history_queries.proofs.CommitsWalked.{none_read}
 use Rattle.history_repository.proofs.ReadingFaults.{fault_told}

@@ -1,5 +1,5 @@
 use Rattle.history_model.specs.Repository as plain
-use Rattle.history_objects.specs.KeptIds.{left}
+use Rattle.history_store.specs.KeptIds.{left}
 use Rattle.history_repository.specs.Stands.{Stands}
 use Rattle.history_queries.specs.Walked.{AreRead}
 use Rattle.history_queries.proofs.AllTold.{AreSoFar}

@@ -1,7 +1,7 @@
 use Rattle.std.proofs.Common.{subst, List, []}
 use Rattle.std.proofs.lemmas.List.{take_all}
-use Rattle.gix_hash_id.specs.declared.object_id.ObjectId.{ObjectId}
-use Rattle.gix_hash_id.specs.declared.object_id.ObjectId.TheVariants.{Sha1}
+use Rattle.gix_hash.specs.declared.object_id.ObjectId.{ObjectId}
+use Rattle.gix_hash.specs.declared.object_id.ObjectId.TheVariants.{Sha1}
 use Rattle.history_repository.proofs.ReadingFaults.{fault_told}
 use Rattle.history_queries.specs.Indexing.{AreToldOf}
 use Rattle.history_queries.proofs.AllTold.{told_added}

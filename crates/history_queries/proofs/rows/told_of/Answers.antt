@@ -3,7 +3,7 @@ use Rattle.std.specs.Prelude.{FitsSigned}
 use Rattle.std.specs.Int.{w64}
 use Rattle.std.proofs.lemmas.Int.{to_z-of_z}
 use mir.Val.{to_z, of_z}
-use Rattle.gix_hash_id.specs.Id.{id_of}
+use Rattle.gix_hash.specs.Id.{id_of}
 use Rattle.history_walks.specs.declared.told.Told.{Told}
 use Rattle.history_repository.proofs.Befores.{held_commit}
 use Rattle.history_repository.proofs.ReadingFaults.{fault_told}

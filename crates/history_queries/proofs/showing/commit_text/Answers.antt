@@ -7,7 +7,7 @@ use Rattle.history_model.specs.Spelling.{Line, Field, parent_part, actor_parts, 
 use Rattle.history_texts.specs.Formats.{own_actor}
 use Rattle.history_queries.proofs.ReplyTexts.{pieces, same_line}
 use Rattle.history_queries.proofs.showing.commit_text.Goals as goal
-use Rattle.gix_hash_id.specs.Id.{id_of}
+use Rattle.gix_hash.specs.Id.{id_of}
 use Rattle.history_files.proofs.Lines.{map_twice}
 
 pub returns : goal.returns

@@ -4,8 +4,8 @@ use Rattle.history_model.specs.Objects.{hex}
 use Rattle.history_model.specs.Spelling.{parent_part}
 use Rattle.history_queries.proofs.ReplyTexts.{one_more, same_line}
 use Rattle.history_queries.proofs.showing.parent_lines.Goals as goal
-use Rattle.gix_hash_id.specs.Id.{id_of}
-use Rattle.gix_hash_id.specs.declared.object_id.ObjectId.TheVariants.{Sha1}
+use Rattle.gix_hash.specs.Id.{id_of}
+use Rattle.gix_hash.specs.declared.object_id.ObjectId.TheVariants.{Sha1}
 
 pub loop-parent-preserved : goal.loop-parent-preserved
 loop-parent-preserved c =

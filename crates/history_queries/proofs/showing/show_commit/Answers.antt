@@ -2,7 +2,7 @@ use Rattle.std.proofs.Common.{None}
 use Rattle.history_model.specs.Commands.{Show}
 use Rattle.history_queries.proofs.Answered.{reading_fault, handed_on, reads_commit, commit_answered}
 use Rattle.history_queries.proofs.showing.show_commit.Goals as goal
-use Rattle.gix_hash_id.specs.Id.{id_of}
+use Rattle.gix_hash.specs.Id.{id_of}
 
 pub returns-in_err-commit : goal.returns-in_err-commit
 returns-in_err-commit g c = λ r word s reads has.

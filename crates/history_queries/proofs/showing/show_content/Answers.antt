@@ -9,7 +9,7 @@ use Rattle.history_queries.proofs.Answered.{IsFound, reading_fault, handed_on, r
 use Rattle.history_queries.specs.Shown.{shown_content}
 use Rattle.history_repository.proofs.FieldLemmas.{whole_path}
 use Rattle.history_queries.proofs.showing.show_content.Goals as goal
-use Rattle.gix_hash_id.specs.Id.{id_of}
+use Rattle.gix_hash.specs.Id.{id_of}
 
 pub returns-then-is_bad_path : goal.returns-then-is_bad_path
 returns-then-is_bad_path g c = λ r word bytes s reads has kept.

@@ -1,9 +1,9 @@
 use Rattle.std.proofs.Common.{IfOk, subst, sym}
-use Rattle.gix_hash_id.specs.declared.kind.Kind.{Kind}
+use Rattle.gix_hash.specs.declared.kind.Kind.{Kind}
 use Rattle.history_model.specs.Repository.{Repository}
-use Rattle.history_objects.specs.Face.{ids_of_objects, kind_of_objects}
+use Rattle.history_store.specs.ObjectsFace.{ids_of_objects, kind_of_objects}
 use Rattle.history_check_objects.specs.Stored.{facts_in}
-use Rattle.history_objects.specs.Opened.{IsOpenedWith}
+use Rattle.history_store.specs.Opened.{IsOpenedWith}
 use Rattle.history_repository.specs.Opened.{IsOpenedAs, trees_of}
 use Rattle.history_repository.proofs.Joined.{fault_of_objects}
 use Rattle.history_repository.proofs.folder.open_folder.Goals as goal

@@ -1,8 +1,8 @@
 use Rattle.std.proofs.Common.{◌≡◌, ◌∙◌, subst, sym}
 use Rattle.history_check_names.specs.Parts.{StandsNames}
 use Rattle.history_check_objects.specs.Stored.{facts_in}
-use Rattle.history_objects.specs.Face.{ids_of_objects}
-use Rattle.history_names.specs.Packing.{KeepsRecords}
+use Rattle.history_store.specs.ObjectsFace.{ids_of_objects}
+use Rattle.history_store.specs.Packing.{KeepsRecords}
 use Rattle.history_repository.specs.Causes.{IsOpenCause, IsOpenFault}
 use Rattle.history_repository.specs.Opened.{trees_of}
 use Rattle.history_repository.proofs.Joined.{cause_of, facts_as, names_cause, names_fault, of_kind, opened_as, opened_as_one, part_of, stands_names}

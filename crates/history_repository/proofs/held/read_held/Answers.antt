@@ -1,6 +1,6 @@
 use Rattle.std.proofs.Common.{◌≡◌, ◌∙◌, ap, option_map, sym, subst, MatchOption, Option}
 use Rattle.std.specs.Prelude.{⊤}
-use Rattle.gix_hash_id.specs.Id.{id_of}
+use Rattle.gix_hash.specs.Id.{id_of}
 use Rattle.history_repository.specs.Meant.{HasRoot, peeled_id}
 use Rattle.history_repository.specs.declared.stored.PeeledCommit.{PeeledCommit}
 use Rattle.history_repository.proofs.HeldLemmas.{held_stored, never_unpeeled, none_held, some_held}

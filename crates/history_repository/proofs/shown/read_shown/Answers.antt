@@ -2,9 +2,9 @@ use Rattle.std.specs.Prelude.{IsSome, is_some}
 use Rattle.std.proofs.Common.{◌≡◌, ◌∙◌, List, ap, arith, length, map, map-id, option_map, refl, subst, sym}
 use Rattle.std.proofs.lemmas.Iterator.Adapters.{YieldsList-from_vec}
 use Rattle.std.proofs.lemmas.Iterator.Consumers.{YieldsList-end, YieldsList-turn}
-use Rattle.gix_hash_id.specs.Id.{id_of}
+use Rattle.gix_hash.specs.Id.{id_of}
 use Rattle.history_model.specs.Repository.{peeled}
-use Rattle.history_names.specs.declared.listed.NamedId.{NamedId}
+use Rattle.history_store.specs.declared.listed.NamedId.{NamedId}
 use Rattle.history_repository.specs.Meant.{peeled_id}
 use Rattle.history_repository.specs.NamesShown.{shown_name, told_name}
 use Rattle.history_repository.proofs.HeldLemmas.{peeled_stored}

@@ -3,7 +3,7 @@ use Rattle.std.specs.Prelude.{Err}
 use Rattle.history_repository.proofs.StoredValues.{text_stands, object_told, object_found, error_told}
 use Rattle.history_repository.proofs.stored.content.Goals as goal
 use Rattle.history_repository.proofs.stored.content.Goals.{in_default-via-in-Some+else-eq, in_default-via-in_default}
-use Rattle.gix_hash_id.specs.Id.{id_of}
+use Rattle.gix_hash.specs.Id.{id_of}
 
 pub returns-in_err-object : goal.returns-in_err-object
 returns-in_err-object g c r value stands at word = error_told _ _ c.from_residual.result c.in_err-object.field-0.0 c.from_residual.ensures.1 (λ same. c.in_err-object.ensures.failed (ap Err same))

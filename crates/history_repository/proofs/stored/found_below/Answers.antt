@@ -1,7 +1,7 @@
 use Rattle.history_repository.proofs.Tables.{holds_known, root_of}
 use Rattle.history_repository.proofs.ReadingFaults.{read_told}
 use Rattle.history_repository.proofs.stored.found_below.Goals as goal
-use Rattle.gix_hash_id.specs.Id.{id_of}
+use Rattle.gix_hash.specs.Id.{id_of}
 
 pub returns : goal.returns
 returns g c = λ r below stands at.

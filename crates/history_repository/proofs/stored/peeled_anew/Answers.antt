@@ -1,5 +1,5 @@
 use Rattle.std.proofs.Common.{IfSome, Option, Some, sym, subst}
-use Rattle.gix_hash_id.specs.Id.{id_of}
+use Rattle.gix_hash.specs.Id.{id_of}
 use Rattle.history_repository.specs.Meant.{IsMeantBy, IsPeeledBy}
 use Rattle.history_repository.specs.declared.stored.PeeledCommit.{PeeledCommit}
 use Rattle.history_repository.proofs.Befores.{peels_to_commit}

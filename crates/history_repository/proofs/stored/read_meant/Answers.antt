@@ -1,6 +1,6 @@
 use Rattle.std.proofs.Common.{◌∙◌, ap, sym, Some}
 use Rattle.std.proofs.lemmas.Option.{same_Some}
-use Rattle.gix_hash_id.specs.Id.{id_of}
+use Rattle.gix_hash.specs.Id.{id_of}
 use Rattle.history_model.specs.Objects.{StoredCommit, content_of}
 use Rattle.history_repository.proofs.HeldLemmas.{peeled_blob, peeled_commit, peeled_tag, peeled_tree}
 use Rattle.history_repository.proofs.ReadingFaults.{fault_told}

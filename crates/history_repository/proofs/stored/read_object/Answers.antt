@@ -1,6 +1,6 @@
 use Rattle.std.proofs.Common.{ap, refl}
 use Rattle.std.specs.Prelude.{Err}
-use Rattle.gix_hash_id.specs.Id.{id_of}
+use Rattle.gix_hash.specs.Id.{id_of}
 use Rattle.history_model.specs.Objects.{object_kind}
 use Rattle.history_repository.proofs.StoredValues.{error_told, object_found, object_told, text_stands}
 use Rattle.history_repository.proofs.stored.read_object.Goals as goal

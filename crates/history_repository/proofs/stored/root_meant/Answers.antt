@@ -1,7 +1,7 @@
 use Rattle.std.proofs.Common.{◌∙◌, subst, MatchOption, Option, Vec, ℕ}
 use Rattle.std.specs.Prelude.{⊤}
 use Rattle.std.specs.declared.alloc.Global.{Global}
-use Rattle.gix_hash_id.specs.Id.{id_of}
+use Rattle.gix_hash.specs.Id.{id_of}
 use Rattle.history_repository.specs.Meant.{IsContentOf}
 use Rattle.history_repository.proofs.stored.root_meant.Goals as goal
 

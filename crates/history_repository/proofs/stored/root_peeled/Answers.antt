@@ -1,7 +1,7 @@
 use Rattle.std.proofs.Common.{◌≡◌, ◌∙◌, ap, sym, subst, MatchOption, Option}
 use Rattle.std.specs.Prelude.{⊤}
 use Rattle.std.proofs.lemmas.Option.{same_Some}
-use Rattle.gix_hash_id.specs.declared.object_id.ObjectId.{ObjectId}
+use Rattle.gix_hash.specs.declared.object_id.ObjectId.{ObjectId}
 use Rattle.history_model.specs.Objects.{CommitValue, StoredCommit, folder_id}
 use Rattle.history_repository.specs.Meant.{IsRootOf, peeled_id}
 use Rattle.history_repository.proofs.stored.root_peeled.Goals as goal

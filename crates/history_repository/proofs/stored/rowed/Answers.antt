@@ -1,7 +1,7 @@
 use Rattle.std.proofs.Common.{◌≡◌, ◌∙◌, ap, refl, sym, subst, Contains, IfSome, Option, option_map}
 use Rattle.std.specs.Borrow.{Bor}
 use Rattle.std.specs.FinMap.{get}
-use Rattle.gix_hash_id.specs.Id.{id_of}
+use Rattle.gix_hash.specs.Id.{id_of}
 use Rattle.gix_traverse_commit_known.specs.Told.{rows_of as graph_rows}
 use Rattle.gix_traverse_graph.specs.declared.rows.Row.{Row}
 use Rattle.history_model.specs.Objects.{StoredCommit}

@@ -2,7 +2,7 @@ use Rattle.std.proofs.Common.{◌∙◌, sym, ap, refl, option_map, is_some}
 use Rattle.history_repository.proofs.WordReads.{may_mean, all_left, next_passed, next_absent, next_found, found_first, none_first, stands_so, candidate_held}
 use Rattle.history_repository.proofs.words.first_standing.Goals as goal
 use Rattle.history_repository.proofs.words.first_standing.Goals.{then-is_candidate+in_ok-id+in_default, else-is_candidate}
-use Rattle.gix_hash_id.specs.Id.{id_of}
+use Rattle.gix_hash.specs.Id.{id_of}
 
 pub loop-front-init : goal.loop-front-init
 loop-front-init g c = λ r stand. all_left r c.args.word.now _ refl

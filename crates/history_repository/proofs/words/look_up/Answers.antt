@@ -2,7 +2,7 @@ use Rattle.std.proofs.Common.{◌∙◌, ap, sym, subst, bytes_eq}
 use Rattle.std.specs.Prelude.{Option}
 use Rattle.std.proofs.lemmas.Bool.Decides.{Decides-eqb}
 use Rattle.std.proofs.lemmas.Slice.Eq.{slice_eq-Decides}
-use Rattle.gix_hash_id.specs.Id.{id_of}
+use Rattle.gix_hash.specs.Id.{id_of}
 use Rattle.history_model.specs.Words.{WordMeaning, head_word}
 use Rattle.history_model.proofs.PlaceLemmas.{text_itself, texts_apart}
 use Rattle.history_repository.specs.Meanings.{IsFirstStanding, IsLookedUp}

@@ -1,7 +1,7 @@
 use Rattle.std.proofs.Common.{◌∙◌, subst}
-use Rattle.gix_hash_id.specs.Id.{id_of}
-use Rattle.gix_hash_id.specs.declared.kind.Kind.{Kind}
-use Rattle.history_objects.specs.Prefixes.{CanName, IsHit}
+use Rattle.gix_hash.specs.Id.{id_of}
+use Rattle.gix_hash.specs.declared.kind.Kind.{Kind}
+use Rattle.history_store.specs.Prefixes.{CanName, IsHit}
 use Rattle.history_repository.specs.Face.{known_ids}
 use Rattle.history_repository.specs.Meanings.{SpellsPrefix}
 use Rattle.history_repository.proofs.ShortIds.{absent_told, can_name, kinds_known, no_short_id, one_stored, one_told, several_told}

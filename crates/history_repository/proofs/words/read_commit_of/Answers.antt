@@ -1,6 +1,6 @@
 use Rattle.std.proofs.Common.{◌∙◌, ap, subst}
 use Rattle.std.specs.Option.{ok_or}
-use Rattle.gix_hash_id.specs.Id.{id_of}
+use Rattle.gix_hash.specs.Id.{id_of}
 use Rattle.history_model.specs.Words.{word_meaning}
 use Rattle.history_model.specs.declared.Cause.TheVariants.{NotACommit}
 use Rattle.history_repository.specs.Meanings.{IsLookedUp, stands_for}

@@ -1,7 +1,7 @@
 use Rattle.std.proofs.Common.{◌≤◌, arith, length, subst}
 use Rattle.hex.specs.Hex.{hex_digit_value}
-use Rattle.gix_hash_id.specs.Kind.{hex_len}
-use Rattle.gix_hash_prefix.specs.Prefix as prefixes
+use Rattle.gix_hash.specs.Kind.{hex_len}
+use Rattle.gix_hash.specs.Prefix as prefixes
 use Rattle.history_model.specs.Bytes.{Bytes}
 use Rattle.history_repository.proofs.ShortIds.{no_text, spells}
 use Rattle.history_repository.proofs.words.short_id.Goals as goal

@@ -2,7 +2,7 @@ use Rattle.std.proofs.Common.{◌≡◌, refl, ◌∙◌, ap, ⊎_elim, Err, ari
 use Rattle.std.proofs.lemmas.Result.{on_ok_weaker, err_from_is_err_and}
 use Rattle.gix_ref_file.specs.declared.files.FileError.TheVariants.{Failed}
 use Rattle.history_model.specs.Places.{head_place}
-use Rattle.history_names.specs.References.{head_lock}
+use Rattle.history_store.specs.References.{head_lock}
 use Rattle.history_store.proofs.Cleared.{head_may_follow, lock_fits}
 use Rattle.gix_ref_way.proofs.FoldersMade.{caused}
 use Rattle.history_store.proofs.HeadMoments.{lock_moments, head_moments}

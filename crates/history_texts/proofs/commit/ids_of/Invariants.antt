@@ -2,7 +2,7 @@ use Rattle.std.proofs.Common.{◌≡◌, map, take}
 use Rattle.std.specs.Prelude.{IsTrue}
 use Rattle.std.specs.List.{list_all}
 use Rattle.bstr.specs.BStr.{bstr_bytes}
-use Rattle.gix_hash_id.specs.Id.{id_of}
+use Rattle.gix_hash.specs.Id.{id_of}
 use Rattle.history_model.specs.Forms.{is_id}
 use Rattle.history_model.specs.Objects.{hex}
 use Rattle.history_texts.proofs.commit.ids_of.Given as goal

@@ -1,6 +1,6 @@
 use Rattle.std.proofs.Common.{◌≡◌, ◌∙◌, ap, List, ℕ, [], ◌++◌, refl}
-use Rattle.gix_hash_id.specs.Hasher.{id_of_message}
-use Rattle.gix_hash_id.specs.declared.kind.Kind.{Kind}
+use Rattle.gix_hash.specs.Hasher.{id_of_message}
+use Rattle.gix_hash.specs.declared.kind.Kind.{Kind}
 use Rattle.history_model.specs.Objects.{digest}
 use Rattle.history_texts.proofs.object.object_id.Goals as goal
 

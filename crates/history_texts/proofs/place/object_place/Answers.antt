@@ -1,11 +1,11 @@
 use Rattle.std.proofs.Common.{◌≡◌, ◌≤◌, ◌∙◌, ap, [], ◌∷◌, ◌++◌, length, take, drop, append_assoc, arith, subst, sym, ℕ, List}
 use Rattle.std.specs.Prelude.{codes}
-use Rattle.gix_hash_id.specs.Id.{Id, id_of}
-use Rattle.gix_hash_id.specs.Kind.{byte_len}
-use Rattle.gix_hash_id.specs.Views.{IsBytesOf}
-use Rattle.gix_hash_id.specs.declared.kind.Kind.{Kind}
-use Rattle.gix_hash_id.specs.declared.kind.Kind.TheVariants.{Sha1, Sha256}
-use Rattle.gix_hash_id.proofs.ByteLists.{id-digits_len}
+use Rattle.gix_hash.specs.Id.{Id, id_of}
+use Rattle.gix_hash.specs.Kind.{byte_len}
+use Rattle.gix_hash.specs.Views.{IsBytesOf}
+use Rattle.gix_hash.specs.declared.kind.Kind.{Kind}
+use Rattle.gix_hash.specs.declared.kind.Kind.TheVariants.{Sha1, Sha256}
+use Rattle.gix_hash.proofs.ByteLists.{id-digits_len}
 use Rattle.history_model.specs.Bytes.{Bytes}
 use Rattle.history_model.specs.Objects.{hex}
 use Rattle.history_model.proofs.IdLemmas.{length-hex}

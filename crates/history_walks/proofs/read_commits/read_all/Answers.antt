@@ -1,5 +1,5 @@
 use Rattle.std.proofs.Common.{◌≡◌, ◌∙◌, ap, not, sym, subst, true}
-use Rattle.gix_hash_id.specs.Id.{Id}
+use Rattle.gix_hash.specs.Id.{Id}
 use Rattle.gix_traverse_commit.specs.Giving.{GivesNext}
 use Rattle.gix_traverse_commit.specs.Simply.{graph_of, objects_of}
 use Rattle.gix_traverse_commit_known.specs.Told.{rows_of}

@@ -1,7 +1,7 @@
 use Rattle.std.proofs.Common.{◌≡◌, ◌∙◌, ap, subst, true, [], List, Option, inl, Vec}
 use Rattle.std.specs.Prelude.{IfOk, IfErr}
 use Rattle.std.specs.declared.alloc.Global.{Global}
-use Rattle.gix_hash_id.specs.declared.object_id.ObjectId.{ObjectId}
+use Rattle.gix_hash.specs.declared.object_id.ObjectId.{ObjectId}
 use Rattle.gix_traverse_commit.specs.Giving.{IsAccepted}
 use Rattle.gix_traverse_commit_known.specs.Faults.{TipFault}
 use Rattle.gix_traverse_commit_known.specs.Asked.{Answers, Asked, IsSure}

@@ -1,8 +1,8 @@
 use Rattle.std.proofs.Common.{◌≡◌, ◌∙◌, ◌<◌, ap, sym, subst, arith, length, map, get_or, List, [], ◌∷◌, suc, refl}
 use Rattle.std.proofs.lemmas.List.{get_or-map}
-use Rattle.gix_hash_id.specs.Id.{Id, id_of}
-use Rattle.gix_hash_id.specs.Views.{viewed_id}
-use Rattle.gix_hash_id.specs.OrderLaws.{id_eq-same}
+use Rattle.gix_hash.specs.Id.{Id, id_of}
+use Rattle.gix_hash.specs.Views.{viewed_id}
+use Rattle.gix_hash.specs.OrderLaws.{id_eq-same}
 use Rattle.case_words.specs.declared.trees.Row.{Row}
 use Rattle.case_words.proofs.trees.TreesFindInto.find_into.Goals as goal
 

@@ -2,15 +2,15 @@ use Rattle.std.proofs.Common.{◌∙◌, ap, sym, subst, map, ◌++◌, ◌∷�
 use Rattle.std.specs.Prelude.{All, flat_map}
 use Rattle.std.specs.Option.{option_map}
 use Rattle.bstr.specs.BStr.{bstr_bytes}
-use Rattle.gix_hash_id.specs.Kind.{hex_len}
+use Rattle.gix_hash.specs.Kind.{hex_len}
 use Rattle.gix_object_lines.specs.HexLine.{IsHex}
 use Rattle.gix_object_lines.specs.Person.{person_of}
-use Rattle.gix_object_commit_lines.specs.Commit.{encoding_text, field_text}
-use Rattle.gix_object_commit_lines.specs.Faults.{InAuthor, InCommitter, InEncoding}
-use Rattle.gix_object_commit_lines.specs.Views.{field_of}
-use Rattle.gix_object_commit_lines.proofs.FaultLemmas.{behind_tree, behind_parents, parents_fault, behind_author, behind_committer, behind_encoding, headers_fault}
+use Rattle.gix_object_commit.specs.Commit.{encoding_text, field_text}
+use Rattle.gix_object_commit.specs.Faults.{InAuthor, InCommitter, InEncoding}
+use Rattle.gix_object_commit.specs.LineViews.{field_of}
+use Rattle.gix_object_commit.proofs.FaultLemmas.{behind_tree, behind_parents, parents_fault, behind_author, behind_committer, behind_encoding, headers_fault}
 use Rattle.std.proofs.lemmas.Result.{err_from_is_err_and}
-use Rattle.gix_object_commit_lines.proofs.Whole.{after_tree, after_parents, after_author, after_encoding, no_parent, no_encoding, first_begins, parts_same, chain}
+use Rattle.gix_object_commit.proofs.Whole.{after_tree, after_parents, after_author, after_encoding, no_parent, no_encoding, first_begins, parts_same, chain}
 use Rattle.gix_object_commit.proofs.commit.CommitRef.from_bytes.Goals as goal
 
 pub returns-in_err-encoding-clause-every : goal.returns-in_err-encoding-clause-every

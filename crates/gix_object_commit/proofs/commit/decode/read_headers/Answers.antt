@@ -2,13 +2,13 @@ use Rattle.std.proofs.Common.{◌≡◌, ◌∙◌, ap, sym, subst, refl, ℕ, L
 use Rattle.std.specs.Prelude.{flat_map}
 use Rattle.std.proofs.lemmas.List.{map-append}
 use Rattle.std.proofs.lemmas.Result.{err_from_is_err_and}
-use Rattle.gix_object_commit_lines.specs.Commit.{field_text, IsField}
-use Rattle.gix_object_commit_lines.specs.Reading.{IsUnspaced}
-use Rattle.gix_object_commit_lines.specs.Views.{field_of}
-use Rattle.gix_object_commit_lines.proofs.FaultLemmas.{next_header, no_room_for_header}
-use Rattle.gix_object_commit_lines.proofs.Results.{when_pushed}
-use Rattle.gix_object_commit_lines.proofs.Lines.{BeginsMessage, field_no_message, fields_unspaced, field_shorter}
-use Rattle.gix_object_commit_lines.proofs.Progress.{Progress, progress_none, progress_one, progress_end, progress_stuck}
+use Rattle.gix_object_commit.specs.Commit.{field_text, IsField}
+use Rattle.gix_object_commit.specs.Reading.{IsUnspaced}
+use Rattle.gix_object_commit.specs.LineViews.{field_of}
+use Rattle.gix_object_commit.proofs.FaultLemmas.{next_header, no_room_for_header}
+use Rattle.gix_object_commit.proofs.Results.{when_pushed}
+use Rattle.gix_object_commit.proofs.Lines.{BeginsMessage, field_no_message, fields_unspaced, field_shorter}
+use Rattle.gix_object_commit.proofs.Progress.{Progress, progress_none, progress_one, progress_end, progress_stuck}
 use Rattle.gix_object_commit.proofs.commit.decode.read_headers.Goals as goal
 
 message_same : (a b : List ℕ) → 10 ∷ a ≡ 10 ∷ b → a ≡ b

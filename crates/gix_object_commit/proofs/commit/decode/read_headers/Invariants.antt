@@ -1,10 +1,10 @@
 use Rattle.std.proofs.Common.{◌≡◌, [], map, length}
 use Rattle.std.specs.Prelude.{◌⊎◌}
-use Rattle.gix_object_commit_lines.specs.Commit.{field_text, IsField}
-use Rattle.gix_object_commit_lines.specs.Reading.{IsUnspaced}
-use Rattle.gix_object_commit_lines.specs.Views.{field_of}
-use Rattle.gix_object_commit_lines.proofs.Lines.{BeginsMessage}
-use Rattle.gix_object_commit_lines.proofs.Progress.{Progress}
+use Rattle.gix_object_commit.specs.Commit.{field_text, IsField}
+use Rattle.gix_object_commit.specs.Reading.{IsUnspaced}
+use Rattle.gix_object_commit.specs.LineViews.{field_of}
+use Rattle.gix_object_commit.proofs.Lines.{BeginsMessage}
+use Rattle.gix_object_commit.proofs.Progress.{Progress}
 use Rattle.gix_object_commit.proofs.commit.decode.read_headers.Given as goal
 
 abbrev pub invariant-headers : goal.invariant-headers

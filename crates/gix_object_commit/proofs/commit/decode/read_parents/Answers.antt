@@ -7,9 +7,9 @@ use Rattle.std.proofs.lemmas.Result.{err_from_is_err_and}
 use Rattle.bstr.specs.BStr.{bstr_bytes}
 use Rattle.gix_object_lines.specs.HexLine.{hex_line, IsHex}
 use Rattle.gix_object_lines.specs.Bytes.{IsBeginningOf}
-use Rattle.gix_object_commit_lines.proofs.FaultLemmas.{next_parent, no_room_for_parent}
-use Rattle.gix_object_commit_lines.proofs.Results.{when_ok}
-use Rattle.gix_object_commit_lines.proofs.Progress.{Progress, progress_none, progress_one, progress_end, progress_stuck}
+use Rattle.gix_object_commit.proofs.FaultLemmas.{next_parent, no_room_for_parent}
+use Rattle.gix_object_commit.proofs.Results.{when_ok}
+use Rattle.gix_object_commit.proofs.Progress.{Progress, progress_none, progress_one, progress_end, progress_stuck}
 use Rattle.gix_object_commit.proofs.commit.decode.read_parents.Goals as goal
 
 abbrev parent_line : List ℕ → List ℕ

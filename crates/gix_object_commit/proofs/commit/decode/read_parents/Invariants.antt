@@ -3,7 +3,7 @@ use Rattle.std.specs.Prelude.{codes}
 use Rattle.bstr.specs.BStr.{bstr_bytes}
 use Rattle.gix_object_lines.specs.HexLine.{hex_line, IsHex}
 use Rattle.gix_object_lines.specs.Bytes.{IsBeginningOf}
-use Rattle.gix_object_commit_lines.proofs.Progress.{Progress}
+use Rattle.gix_object_commit.proofs.Progress.{Progress}
 use Rattle.gix_object_commit.proofs.commit.decode.read_parents.Given as goal
 
 abbrev pub invariant-parents : goal.invariant-parents

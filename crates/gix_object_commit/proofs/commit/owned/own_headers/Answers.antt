@@ -1,8 +1,8 @@
 use Rattle.std.proofs.Common.{◌∙◌, sym, ◌<◌, length, arith}
 use Rattle.gix_object_commit.specs.Owned.{IsHeaderOf}
-use Rattle.gix_object_commit_lines.specs.Views.{field_of}
+use Rattle.gix_object_commit.specs.LineViews.{field_of}
 use Rattle.gix_object_commit.proofs.Owning.{zip_more}
-use Rattle.gix_object_commit_lines.proofs.Results.{when_pushed}
+use Rattle.gix_object_commit.proofs.Results.{when_pushed}
 use Rattle.gix_object_commit.proofs.commit.owned.own_headers.Goals as goal
 
 pub loop-header-preserved : goal.loop-header-preserved

@@ -4,7 +4,7 @@ use Rattle.bstr.specs.BStr.{bstr_bytes}
 use Rattle.gix_object_lines.proofs.HexDigits.{spells_none}
 use Rattle.gix_object_commit.specs.Owned.{IsOwnId, SpellsNoId}
 use Rattle.gix_object_commit.proofs.Owning.{any_at, zip_more}
-use Rattle.gix_object_commit_lines.proofs.Results.{when_ok}
+use Rattle.gix_object_commit.proofs.Results.{when_ok}
 use Rattle.gix_object_commit.proofs.commit.owned.own_ids.Goals as goal
 
 pub returns-in_err-id-clause-refused : goal.returns-in_err-id-clause-refused

@@ -1,7 +1,7 @@
 use Rattle.std.proofs.Common.{[], ◌<◌, length, arith}
 use Rattle.bstr.specs.declared.bstr.BStr.{BStr}
-use Rattle.gix_object_commit_lines.specs.declared.header.HeaderRef.{HeaderRef}
-use Rattle.gix_object_commit_lines.specs.Views.{field_of}
+use Rattle.gix_object_commit.specs.declared.header.HeaderRef.{HeaderRef}
+use Rattle.gix_object_commit.specs.LineViews.{field_of}
 use Rattle.gix_object_commit.specs.Writing.{field_piece}
 use Rattle.gix_object_lines.proofs.Pieces.{loop_less}
 use Rattle.gix_object_commit.proofs.commit.write.add_header_lines.Goals as goal

@@ -1,5 +1,5 @@
 use Rattle.std.proofs.Common.{◌≡◌, ◌+◌, length, take, map}
-use Rattle.gix_object_commit_lines.specs.Views.{field_of}
+use Rattle.gix_object_commit.specs.LineViews.{field_of}
 use Rattle.gix_object_commit.specs.Writing.{field_piece}
 use Rattle.gix_object_lines.specs.Pieces.{pieces_text}
 use Rattle.gix_object_commit.proofs.commit.write.add_header_lines.Given as goal

@@ -1,6 +1,6 @@
 use Rattle.std.proofs.Common.{[], ◌<◌, length, arith}
 use Rattle.std.proofs.lemmas.Result.{err_from_is_err_and}
-use Rattle.gix_object_commit_lines.specs.Views.{field_of}
+use Rattle.gix_object_commit.specs.LineViews.{field_of}
 use Rattle.gix_object_commit.specs.Writing.{field_piece}
 use Rattle.gix_object_lines.proofs.Pieces.{loop_stop, loop_more}
 use Rattle.gix_object_commit.proofs.commit.write.write_header_lines.Goals as goal

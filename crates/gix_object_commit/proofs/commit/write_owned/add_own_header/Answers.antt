@@ -1,5 +1,5 @@
 use Rattle.std.proofs.Common.{◌≡◌, ◌+◌, length, arith}
-use Rattle.gix_object_commit_lines.specs.Commit.{field_text}
+use Rattle.gix_object_commit.specs.Commit.{field_text}
 use Rattle.gix_object_commit.specs.OwnedText.{own_field}
 use Rattle.gix_object_commit.proofs.OwnTexts.{header_length, sum_told}
 use Rattle.gix_object_commit.proofs.commit.write_owned.add_own_header.Goals as goal

@@ -1,5 +1,5 @@
 use Rattle.std.proofs.Common.{ap, [], ◌<◌, length, arith}
-use Rattle.gix_object_commit_lines.specs.Commit.{field_text}
+use Rattle.gix_object_commit.specs.Commit.{field_text}
 use Rattle.gix_object_commit.specs.OwnedText.{own_field}
 use Rattle.gix_object_commit.specs.Writing.{field_piece}
 use Rattle.gix_object_lines.proofs.Pieces.{loop_less}

@@ -1,6 +1,6 @@
 use Rattle.std.proofs.Common.{[], ◌∷◌, ◌<◌, length, arith}
-use Rattle.gix_hash_id.specs.declared.object_id.ObjectId.{ObjectId}
-use Rattle.gix_hash_id.specs.declared.object_id.ObjectId.TheVariants.{Sha1}
+use Rattle.gix_hash.specs.declared.object_id.ObjectId.{ObjectId}
+use Rattle.gix_hash.specs.declared.object_id.ObjectId.TheVariants.{Sha1}
 use Rattle.gix_object_commit.specs.OwnedText.{own_digits}
 use Rattle.gix_object_commit.specs.Writing.{tree_piece, parent_piece}
 use Rattle.gix_object_lines.proofs.Pieces.{loop_less}

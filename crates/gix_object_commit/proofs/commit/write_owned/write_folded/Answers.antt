@@ -1,8 +1,8 @@
 use Rattle.std.proofs.Common.{◌≡◌, ◌∙◌, ap, refl, sym, rules, ℕ, List, [], ◌∷◌, ◌++◌, append_assoc, append-nil, Ok}
 use Rattle.std.proofs.lemmas.Result.{err_from_is_err_and}
 use Rattle.gix_object_lines.specs.Bytes.{Lacks}
-use Rattle.gix_object_commit_lines.specs.Commit.{folded}
-use Rattle.gix_object_commit_lines.proofs.Folds.{folded_same, folded_more}
+use Rattle.gix_object_commit.specs.Commit.{folded}
+use Rattle.gix_object_commit.proofs.Folds.{folded_same, folded_more}
 use Rattle.gix_object_commit.proofs.OwnPieces.{text_then, text_stop}
 use Rattle.gix_object_commit.proofs.commit.write_owned.write_folded.Goals as goal
 

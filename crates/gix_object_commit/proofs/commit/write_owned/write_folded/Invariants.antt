@@ -1,5 +1,5 @@
 use Rattle.std.proofs.Common.{ℕ, List, [], ◌∷◌, ◌≡◌, ◌++◌, length, Ok}
-use Rattle.gix_object_commit_lines.specs.Commit.{folded}
+use Rattle.gix_object_commit.specs.Commit.{folded}
 use Rattle.gix_object_commit.specs.OwnedText.{text_piece}
 use Rattle.gix_object_lines.specs.Pieces.{WritesPieces}
 use Rattle.gix_object_commit.proofs.commit.write_owned.write_folded.Given as goal

@@ -1,6 +1,6 @@
 use Rattle.std.proofs.Common.{refl, Err}
 use Rattle.std.proofs.lemmas.Result.{err_from_is_err_and}
-use Rattle.gix_object_commit_lines.specs.Commit.{folded}
+use Rattle.gix_object_commit.specs.Commit.{folded}
 use Rattle.gix_object_commit.specs.OwnedText.{own_field}
 use Rattle.gix_object_commit.specs.Writing.{field_piece}
 use Rattle.gix_object_commit.proofs.OwnPieces.{as_piece, front_stops, text_stops, line_ends}

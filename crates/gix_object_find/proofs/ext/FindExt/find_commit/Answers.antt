@@ -1,6 +1,6 @@
 use Rattle.std.proofs.Common.{subst}
-use Rattle.gix_hash_id.specs.Kind.{hex_len}
-use Rattle.gix_object_commit_lines.specs.Faults.{CommitFault}
+use Rattle.gix_hash.specs.Kind.{hex_len}
+use Rattle.gix_object_commit.specs.Faults.{CommitFault}
 use Rattle.gix_object_find.proofs.ext.FindExt.find_commit.Goals as goal
 
 pub returns-in-Err-clause-refused : goal.returns-in-Err-clause-refused

@@ -5,7 +5,7 @@ use Rattle.std.specs.Int.{w64, w32}
 use Rattle.std.specs.Io.KnownBytes.{Appends}
 use Rattle.std.proofs.lemmas.Int.{to_z-of_z}
 use Rattle.gix_object_lines.specs.Time.{IsSpellableOffset, offset_text}
-use Rattle.gix_hash_id.specs.Writes.{AppendsFewer}
+use Rattle.gix_hash.specs.Writes.{AppendsFewer}
 use Rattle.gix_object_lines.proofs.ActorLemmas.{line_parts, actor_written}
 use Rattle.gix_object_lines.proofs.lines.actor.write_actor_parts.Goals as goal
 

@@ -1,7 +1,7 @@
 use Rattle.std.proofs.Common.{ℕ, Some, ◌≤◌, suc, ◌≡◌, ◌∙◌, ◌<◌, ◌-◌, [], true, false, ap, sym, subst, refl, arith, length, map, List, Option, ◌+◌}
 use Rattle.std.proofs.lemmas.List.{length-set}
 use Rattle.std.proofs.lemmas.Result.{err_from_is_err_and}
-use Rattle.gix_hash_id.specs.declared.object_id.ObjectId.{ObjectId}
+use Rattle.gix_hash.specs.declared.object_id.ObjectId.{ObjectId}
 use Rattle.gix_object_tree.specs.Entry.{own_item}
 use Rattle.gix_object_nodes.specs.Files.{Bytes, Path}
 use Rattle.gix_object_nodes.specs.Nodes.{slots_of, slot_in, child_of, Way}

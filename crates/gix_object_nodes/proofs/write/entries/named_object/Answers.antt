@@ -1,5 +1,5 @@
 use Rattle.std.proofs.Common.{◌∙◌, Some, None, ap, sym, if◌then◌else◌}
-use Rattle.gix_hash_id.specs.Id.{id_of}
+use Rattle.gix_hash.specs.Id.{id_of}
 use Rattle.gix_object_nodes.specs.Writing.{object_item}
 use Rattle.gix_object_nodes.proofs.WrittenEntries.{null_test}
 use Rattle.gix_object_nodes.proofs.write.entries.named_object.Goals as goal

@@ -1,11 +1,11 @@
 use Rattle.std.proofs.Common.{◌≡◌, ◌∙◌, ◌*◌, refl}
 use Rattle.std.proofs.lemmas.List.{length-map}
-use Rattle.gix_hash_id.specs.Id.{id_of}
-use Rattle.gix_hash_id.specs.Kind.{byte_len, hex_len}
-use Rattle.gix_hash_id.specs.Spelling.{hex_character}
-use Rattle.gix_hash_id.specs.declared.kind.Kind.{Kind}
-use Rattle.gix_hash_id.specs.declared.kind.Kind.TheVariants.{Sha1, Sha256}
-use Rattle.gix_hash_id.proofs.ByteLists.{id-digits_len}
+use Rattle.gix_hash.specs.Id.{id_of}
+use Rattle.gix_hash.specs.Kind.{byte_len, hex_len}
+use Rattle.gix_hash.specs.Spelling.{hex_character}
+use Rattle.gix_hash.specs.declared.kind.Kind.{Kind}
+use Rattle.gix_hash.specs.declared.kind.Kind.TheVariants.{Sha1, Sha256}
+use Rattle.gix_hash.proofs.ByteLists.{id-digits_len}
 use Rattle.gix_object_tag.proofs.OwnedReadBack.{owned_spells}
 use Rattle.gix_object_tag.proofs.laws.owned.owned_written_is_read.Goals as goal
 

@@ -1,6 +1,6 @@
 use Rattle.std.proofs.Common.{◌∙◌, ap, refl, sym, subst}
-use Rattle.gix_hash_id.specs.Id.{id_of}
-use Rattle.gix_hash_id.specs.Views.{IsHexOfId}
+use Rattle.gix_hash.specs.Id.{id_of}
+use Rattle.gix_hash.specs.Views.{IsHexOfId}
 use Rattle.gix_object_lines.specs.HexLine.{IsHex}
 use Rattle.gix_object_lines.proofs.HexDigits.{is_id_of_hex}
 use Rattle.gix_object_tag.specs.Tokens.{Target}

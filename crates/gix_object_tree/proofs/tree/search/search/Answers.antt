@@ -1,6 +1,6 @@
 use Rattle.std.proofs.Common.{rules}
 use Rattle.std.proofs.lemmas.Fn.{always_returns_same}
-use Rattle.gix_hash_id.specs.Order.{digits_cmp}
+use Rattle.gix_hash.specs.Order.{digits_cmp}
 use Rattle.gix_object_tree.specs.Order.{git_key, item_key}
 use Rattle.gix_object_tree.proofs.Searched.{search_found, search_missing}
 use Rattle.gix_object_tree.proofs.tree.search.search.Goals as goal

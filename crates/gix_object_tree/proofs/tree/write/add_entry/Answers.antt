@@ -1,7 +1,7 @@
 use Rattle.std.proofs.Common.{◌≡◌, ◌∙◌, ap, subst, sym, ◌≤◌, ◌<◌, ◌+◌, ◌∷◌, ◌++◌, ℕ, length, arith}
 use Rattle.std.specs.Prelude.{MatchOption, Option, Some, None}
 use Rattle.std.specs.Option.{SomeIff}
-use Rattle.gix_hash_id.specs.Id.{raw_bytes}
+use Rattle.gix_hash.specs.Id.{raw_bytes}
 use Rattle.gix_object_tree.specs.Entry.{item_of}
 use Rattle.gix_object_tree.specs.Writing.{entry_text}
 use Rattle.gix_object_tree.proofs.Written.{entry_length, raw_of}

@@ -1,6 +1,6 @@
 use Rattle.std.proofs.Common.{◌≡◌, ◌∙◌, ap, subst, sym, false, [], ◌∷◌}
 use Rattle.std.specs.Io.KnownBytes.{Appends}
-use Rattle.gix_hash_id.specs.Writes.{AppendsFewer}
+use Rattle.gix_hash.specs.Writes.{AppendsFewer}
 use Rattle.gix_object_lines.specs.Writes.{writable, cause_of}
 use Rattle.gix_object_tree.specs.Entry.{item_of}
 use Rattle.gix_object_tree.specs.Writing.{tree_text, has_zero}

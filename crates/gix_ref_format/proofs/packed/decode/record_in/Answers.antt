@@ -1,5 +1,5 @@
 use Rattle.std.proofs.Common.{◌≡◌, rules, take, None}
-use Rattle.gix_hash_id.specs.Kind.{hex_len}
+use Rattle.gix_hash.specs.Kind.{hex_len}
 use Rattle.gix_ref_format.specs.Ids.{id_from_hex}
 use Rattle.gix_ref_format.proofs.PackedLemmas.{record_idless}
 use Rattle.gix_ref_format.proofs.packed.decode.record_in.Goals as goal

@@ -1,5 +1,5 @@
 use Rattle.std.proofs.Common.{◌≡◌, ◌∙◌, sym, ap, false, option_map}
-use Rattle.gix_hash_id.specs.Id.{id_of}
+use Rattle.gix_hash.specs.Id.{id_of}
 use Rattle.gix_ref_name.specs.Names.{name_of}
 use Rattle.gix_ref_format.specs.Lines.{lines}
 use Rattle.gix_ref_format.specs.Packed.{items, without_peel, next_number}

@@ -1,6 +1,6 @@
 use Rattle.bstr.specs.BStr.{bstr_bytes}
-use Rattle.gix_hash_id.specs.Id.{id_of}
-use Rattle.gix_hash_id.specs.Views.{IsHexOfId}
+use Rattle.gix_hash.specs.Id.{id_of}
+use Rattle.gix_hash.specs.Views.{IsHexOfId}
 use Rattle.gix_object_lines.proofs.HexDigits.{id_is_read}
 use Rattle.gix_ref_log.proofs.line.LineRef.previous_oid.Goals as goal
 

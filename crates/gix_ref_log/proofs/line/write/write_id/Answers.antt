@@ -1,9 +1,9 @@
 use Rattle.std.proofs.Common.{◌∙◌, refl, sym, subst, ◌∷◌, []}
 use Rattle.std.proofs.lemmas.List.{append-nil}
 use Rattle.std.specs.Io.KnownBytes.{Appends}
-use Rattle.gix_hash_id.specs.Id.{id_of}
-use Rattle.gix_hash_id.specs.Spelling.{hex_text}
-use Rattle.gix_hash_id.specs.Writes.{AppendsFewer}
+use Rattle.gix_hash.specs.Id.{id_of}
+use Rattle.gix_hash.specs.Spelling.{hex_text}
+use Rattle.gix_hash.specs.Writes.{AppendsFewer}
 use Rattle.gix_object_lines.proofs.Fronts.{front_of, front_then}
 use Rattle.gix_object_lines.proofs.Refusals.{on_err, on_err_by}
 use Rattle.gix_ref_log.proofs.line.write.write_id.Goals as goal

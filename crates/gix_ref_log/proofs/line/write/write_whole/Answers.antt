@@ -1,7 +1,7 @@
 use Rattle.std.proofs.Common.{◌++◌, ◌∷◌, []}
 use Rattle.std.proofs.KnownBytes.{Appends-trans}
-use Rattle.gix_hash_id.specs.Id.{id_of}
-use Rattle.gix_hash_id.specs.Spelling.{hex_text}
+use Rattle.gix_hash.specs.Id.{id_of}
+use Rattle.gix_hash.specs.Spelling.{hex_text}
 use Rattle.gix_object_lines.specs.Actor.{actor_text}
 use Rattle.gix_object_lines.proofs.Fronts.{front_of, front_then}
 use Rattle.gix_object_lines.proofs.Refusals.{on_err, on_err_by}

@@ -1,12 +1,12 @@
 use Rattle.std.proofs.Common.{sym, subst, List}
 use Rattle.gix_ref_file.specs.History.{Adds}
 use Rattle.gix_ref_file.proofs.Histories.{adds_weaker}
-use Rattle.gix_ref_moves.specs.Committing.{IsCommitted, OnTheWay, commit_paths}
+use Rattle.gix_ref_lock.specs.Committing.{IsCommitted, OnTheWay, commit_paths}
 use Rattle.std.proofs.lemmas.Result.{err_from_is_err_and}
 use Rattle.gix_ref_way.specs.Ways.{FoldersOnlyOf}
-use Rattle.gix_ref_moves.specs.Needs.{CanCommit, log_paths}
-use Rattle.gix_ref_moves.specs.Moves.{Once}
-use Rattle.gix_ref_moves.specs.declared.act.Move.{Move}
+use Rattle.gix_ref_lock.specs.Needs.{CanCommit, log_paths}
+use Rattle.gix_ref_lock.specs.Moves.{Once}
+use Rattle.gix_ref_lock.specs.declared.act.Move.{Move}
 use Rattle.gix_ref_transaction.specs.Parts.{parts}
 use Rattle.gix_ref_transaction.proofs.ReadingWays.{on_way, at_end}
 use Rattle.gix_ref_transaction.proofs.Twice.{once_of}

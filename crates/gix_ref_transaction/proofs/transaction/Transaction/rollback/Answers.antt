@@ -1,10 +1,10 @@
 use Rattle.std.proofs.Common.{⊎_elim, inl, inr, sym, subst, List}
 use Rattle.std.proofs.lemmas.Result.{err_from_is_err_and}
 use Rattle.gix_ref_lock.proofs.LockLemmas.{folders_joined}
-use Rattle.gix_ref_moves.specs.Committing.{AreUnlocked, commit_paths}
-use Rattle.gix_ref_moves.specs.Moves.{LocksHeld, Once, lock_paths}
-use Rattle.gix_ref_moves.specs.declared.act.Move.{Move}
-use Rattle.gix_ref_moves.proofs.LockPaths.{locks_joined}
+use Rattle.gix_ref_lock.specs.Committing.{AreUnlocked, commit_paths}
+use Rattle.gix_ref_lock.specs.Moves.{LocksHeld, Once, lock_paths}
+use Rattle.gix_ref_lock.specs.declared.act.Move.{Move}
+use Rattle.gix_ref_lock.proofs.LockPaths.{locks_joined}
 use Rattle.gix_ref_transaction.proofs.Counting.{worse_done}
 use Rattle.gix_ref_transaction.proofs.Givings.{both_risen, both_same, giving_done, giving_failed, giving_memory}
 use Rattle.gix_ref_transaction.proofs.Rollbacks.{all_gone, locks_held, locks_once, paths_once}

@@ -1,6 +1,6 @@
 use Rattle.std.proofs.Common.{inl, inr, arith, Bool, true, ℕ, ◌≡◌, ◌↔◌, ◌≤◌, ◌+◌, sym, ◌∙◌, ap, refl, subst, List, [], Option, length}
-use Rattle.gix_hash_id.specs.declared.object_id.ObjectId.{ObjectId}
-use Rattle.gix_hash_id.specs.Id.{Id}
+use Rattle.gix_hash.specs.declared.object_id.ObjectId.{ObjectId}
+use Rattle.gix_hash.specs.Id.{Id}
 use Rattle.gix_traverse_commit_known.specs.Ending.{times_in, times_waiting}
 use Rattle.gix_traverse_commit_known.specs.Painting.{CountsUnpainted, PaintFault, Paints, ReachedFrom, CountsUnread, PaintsSome}
 use Rattle.gix_traverse_graph.specs.Order.{IsListOf}

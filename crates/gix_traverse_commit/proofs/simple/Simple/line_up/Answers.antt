@@ -1,7 +1,7 @@
 use Rattle.std.proofs.Common.{rules, ◌+◌, ◌≡◌, sym, ◌∙◌, refl, subst, inl, inr, List, [], Option, Some, None, Bool, true, false}
 use Rattle.std.specs.Prelude.{Contains, not, ◌&&◌, IsSome}
-use Rattle.gix_hash_id.specs.Id.{id_of}
-use Rattle.gix_hash_id.specs.declared.object_id.ObjectId.{ObjectId}
+use Rattle.gix_hash.specs.Id.{id_of}
+use Rattle.gix_hash.specs.declared.object_id.ObjectId.{ObjectId}
 use Rattle.gix_traverse_graph.specs.Commits.{asked_parents}
 use Rattle.gix_traverse_commit_known.specs.Meeting.{CountsTimes, IsFresh, MarksAll}
 use Rattle.gix_traverse_graph.specs.Order.{IsListOf}

@@ -1,6 +1,6 @@
 use Rattle.std.proofs.Common.{refl, sym, subst, inl, inr, List}
 use Rattle.std.specs.Prelude.{OnOk}
-use Rattle.gix_hash_id.specs.declared.object_id.ObjectId.{ObjectId}
+use Rattle.gix_hash.specs.declared.object_id.ObjectId.{ObjectId}
 use Rattle.gix_traverse_commit.specs.Simply.{IsUnderWay, times_queued}
 use Rattle.gix_traverse_commit_known.proofs.Ending.{gains_none}
 use Rattle.gix_traverse_commit.proofs.simple.Simple.ready.Goals as goal

@@ -1,7 +1,7 @@
 use Rattle.std.proofs.Common.{◌≡◌, ◌≤◌, ◌+◌, ◌∙◌, sym, refl, subst, ap, inl, List, [], length, true, false}
 use Rattle.std.proofs.lemmas.Result.{err_from_is_err_and}
 use Rattle.std.specs.Prelude.{Contains}
-use Rattle.gix_hash_id.specs.declared.object_id.ObjectId.{ObjectId}
+use Rattle.gix_hash.specs.declared.object_id.ObjectId.{ObjectId}
 use Rattle.gix_traverse_commit_known.specs.Fetching.{TimeIsTold}
 use Rattle.gix_traverse_commit_known.specs.Meeting.{CountsTimes, accepted, unmet}
 use Rattle.gix_traverse_graph.specs.Rows.{AllHeld}

@@ -1,6 +1,6 @@
 use Rattle.std.proofs.Common.{ap, arith, rules, ◌≡◌, sym, ◌∙◌, refl, subst, inl, inr, List, [], ◌∷◌, ◌++◌, length, Some, None, Option, true, false}
-use Rattle.gix_hash_id.specs.Id.{Id}
-use Rattle.gix_hash_id.specs.declared.object_id.ObjectId.{ObjectId}
+use Rattle.gix_hash.specs.Id.{Id}
+use Rattle.gix_hash.specs.declared.object_id.ObjectId.{ObjectId}
 use Rattle.gix_traverse_graph.specs.Commits.{Commits, asked_parents}
 use Rattle.gix_traverse_commit_known.specs.Nodes.{Node, is_hidden, is_met}
 use Rattle.gix_traverse_commit_known.specs.Asked.{AcceptsAs, Answers, Asked, keep_of}

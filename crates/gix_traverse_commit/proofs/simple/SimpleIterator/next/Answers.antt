@@ -1,6 +1,6 @@
 use Rattle.std.proofs.Common.{inl, inr, pos, ◌<◌, ◌≡◌, ◌∙◌, sym, refl, ap, subst, arith, ℕ, length, List, [], ◌∷◌, ◌++◌, Option, None, true, false, cond, ◌+◌}
-use Rattle.gix_hash_id.specs.Id.{id_of}
-use Rattle.gix_hash_id.specs.declared.object_id.ObjectId.{ObjectId}
+use Rattle.gix_hash.specs.Id.{id_of}
+use Rattle.gix_hash.specs.declared.object_id.ObjectId.{ObjectId}
 use Rattle.std.specs.List.{sum_by}
 use Rattle.gix_traverse_commit_known.specs.Ending.{may_come, times_in, known_ids}
 use Rattle.gix_traverse_commit_known.specs.Meeting.{CountsOne, IsFresh, MarksMet}

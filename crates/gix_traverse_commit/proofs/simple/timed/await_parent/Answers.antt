@@ -1,6 +1,6 @@
 use Rattle.std.proofs.Common.{List, [], ◌∷◌, ap, arith, rules, ◌≡◌, refl, true, false, sym, subst}
 use Rattle.std.specs.Prelude.{not, ◌&&◌, Contains}
-use Rattle.gix_hash_id.specs.Id.{id_of}
+use Rattle.gix_hash.specs.Id.{id_of}
 use Rattle.gix_traverse_commit_known.specs.Known.{turns_of}
 use Rattle.gix_traverse_commit_known.specs.Nodes.{is_hidden, is_met}
 use Rattle.gix_traverse_graph.specs.Sorting.{in_time}
@@ -10,7 +10,7 @@ use Rattle.gix_traverse_commit_known.specs.declared.waiting.Turn.{Turn}
 use Rattle.gix_traverse_commit_known.proofs.Ending.{gains_met, gains_none, gains_same}
 use Rattle.gix_traverse_commit_known.proofs.Keeping.{met_itself, met_more}
 use Rattle.gix_traverse_commit_known.proofs.Timely.{all_pass, joins_same}
-use Rattle.gix_hash_id.specs.declared.object_id.ObjectId.{ObjectId}
+use Rattle.gix_hash.specs.declared.object_id.ObjectId.{ObjectId}
 use Rattle.gix_traverse_commit_known.specs.Meeting.{accepted, fresh}
 use Rattle.gix_traverse_commit_known.proofs.Awaiting.{fresh_accepted, hidden_out, met_out, refused_out, waits_none, waits_one}
 use Rattle.gix_traverse_commit_known.proofs.Queueing.{queues_same, some_none}

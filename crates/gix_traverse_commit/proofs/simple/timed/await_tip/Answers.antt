@@ -9,7 +9,7 @@ use Rattle.gix_traverse_commit_known.specs.declared.waiting.Turn.{Turn}
 use Rattle.gix_traverse_commit_known.proofs.Ending.{gains_met, gains_none, gains_same}
 use Rattle.gix_traverse_commit_known.proofs.Keeping.{met_itself, met_more}
 use Rattle.gix_traverse_commit_known.proofs.Timely.{both_pass, joins_same}
-use Rattle.gix_hash_id.specs.declared.object_id.ObjectId.{ObjectId}
+use Rattle.gix_hash.specs.declared.object_id.ObjectId.{ObjectId}
 use Rattle.gix_traverse_commit_known.specs.Meeting.{CountsAll, fresh}
 use Rattle.gix_traverse_commit_known.proofs.Awaiting.{fresh_alone, hidden_none, met_none, waits_none, waits_one}
 use Rattle.gix_traverse_commit_known.specs.Told.{rows_of}

@@ -1,9 +1,9 @@
 use Rattle.std.proofs.Common.{◌++◌, ◌∷◌, cond, ◌≡◌, ◌∙◌, sym, refl, subst, List, [], take, get_or, Option, arith}
 use Rattle.std.specs.Prelude.{Contains, not, ◌&&◌}
 use Rattle.std.proofs.lemmas.Option.{slice_get-get_or}
-use Rattle.gix_hash_id.specs.Id.{id_of}
-use Rattle.gix_hash_id.specs.declared.object_id.ObjectId.{ObjectId}
-use Rattle.gix_hash_id.specs.declared.object_id.ObjectId.TheVariants.{Sha1}
+use Rattle.gix_hash.specs.Id.{id_of}
+use Rattle.gix_hash.specs.declared.object_id.ObjectId.{ObjectId}
+use Rattle.gix_hash.specs.declared.object_id.ObjectId.TheVariants.{Sha1}
 use Rattle.gix_traverse_commit_known.specs.Known.{turns_of}
 use Rattle.gix_traverse_commit_known.specs.Nodes.{is_hidden, is_met}
 use Rattle.gix_traverse_graph.specs.Rows.{Holds}

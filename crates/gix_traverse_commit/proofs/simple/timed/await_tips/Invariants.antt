@@ -1,7 +1,7 @@
 use Rattle.std.proofs.Common.{List, ◌≡◌, ◌≤◌, ◌+◌, [], Bool, true, false, take}
 use Rattle.std.specs.Prelude.{Contains}
-use Rattle.gix_hash_id.specs.Id.{Id, id_of}
-use Rattle.gix_hash_id.specs.declared.object_id.ObjectId.{ObjectId}
+use Rattle.gix_hash.specs.Id.{Id, id_of}
+use Rattle.gix_hash.specs.declared.object_id.ObjectId.{ObjectId}
 use Rattle.gix_traverse_graph.specs.Commits.{Commits}
 use Rattle.gix_traverse_commit_known.specs.Ending.{NoneGains, times_waiting}
 use Rattle.gix_traverse_commit_known.specs.Meeting.{CountsAll, MarksAll}

@@ -1,15 +1,15 @@
 use Rattle.std.proofs.lemmas.Result.{err_from_is_err_and}
 use Rattle.std.proofs.Common.{◌≡◌, ◌∙◌, ap, subst, List, ℕ, Option}
-use Rattle.gix_hash_id.specs.Id.{id_of}
-use Rattle.gix_hash_id.specs.declared.kind.Kind as hash
-use Rattle.gix_object_commit_tokens.specs.Tokens.{Place, place_of, start}
+use Rattle.gix_hash.specs.Id.{id_of}
+use Rattle.gix_hash.specs.declared.kind.Kind as hash
+use Rattle.gix_object_commit.specs.Tokens.{Place, place_of, start}
 use Rattle.gix_traverse_graph.specs.Rows.{Holds, AllHeld}
 use Rattle.gix_traverse_commit_known.specs.Told.{rows_of}
 use Rattle.gix_traverse_graph.specs.declared.rows.Row.{Row}
 use Rattle.gix_traverse_commit_known.proofs.Told.{object_parents, object_time, parents_unread, read_fault}
 use Rattle.std.proofs.Common.{take}
 use Rattle.std.specs.Prelude.{Contains}
-use Rattle.gix_hash_id.specs.declared.object_id.ObjectId.{ObjectId}
+use Rattle.gix_hash.specs.declared.object_id.ObjectId.{ObjectId}
 use Rattle.gix_traverse_graph.specs.Commits.{asked}
 use Rattle.gix_traverse_graph.specs.declared.parents.Parents.{Parents}
 use Rattle.gix_traverse_graph.specs.declared.parents.Parents.TheVariants.{All, First}

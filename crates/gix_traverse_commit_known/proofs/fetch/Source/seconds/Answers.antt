@@ -1,8 +1,8 @@
 use Rattle.std.proofs.lemmas.Result.{err_from_is_err_and}
 use Rattle.std.proofs.Common.{rules, inl, inr, sym, ◌≡◌, ◌∙◌, ap, refl, subst, List, ℕ, Option}
-use Rattle.gix_hash_id.specs.Id.{id_of}
-use Rattle.gix_hash_id.specs.declared.kind.Kind as hash
-use Rattle.gix_object_commit_tokens.specs.Tokens.{Place, place_of, start}
+use Rattle.gix_hash.specs.Id.{id_of}
+use Rattle.gix_hash.specs.declared.kind.Kind as hash
+use Rattle.gix_object_commit.specs.Tokens.{Place, place_of, start}
 use Rattle.std.specs.Result.{result_ok}
 use Rattle.gix_traverse_graph.specs.Rows.{Holds}
 use Rattle.gix_traverse_commit_known.specs.Told.{TellsSeconds, rows_of}

@@ -1,5 +1,5 @@
 use Rattle.std.proofs.Common.{rules, ◌≡◌, ◌∙◌, List, [], ◌∷◌, ◌++◌, sym, ap, subst}
-use Rattle.gix_hash_id.specs.declared.object_id.ObjectId.{ObjectId}
+use Rattle.gix_hash.specs.declared.object_id.ObjectId.{ObjectId}
 use Rattle.gix_traverse_commit_known.specs.Known.{HaveNodes, KnownCommits, ids_at, turns_of}
 use Rattle.gix_traverse_commit_known.specs.Waiting.{numbers_of, pendings}
 use Rattle.gix_traverse_commit_known.proofs.KnownLemmas.{have_kept, have_push, ids_kept, ids_push, keeps_named, turns_kept}

@@ -1,6 +1,6 @@
 use Rattle.std.proofs.Common.{rules, ◌≡◌, ◌∙◌, List, [], ◌∷◌, sym, subst, Option}
 use Rattle.std.specs.Prelude.{IfNone}
-use Rattle.gix_hash_id.specs.declared.object_id.ObjectId.{ObjectId}
+use Rattle.gix_hash.specs.declared.object_id.ObjectId.{ObjectId}
 use Rattle.gix_traverse_commit_known.specs.Known.{HaveNodes, ids_at}
 use Rattle.gix_traverse_commit_known.specs.Nodes.{Node, ids_of}
 use Rattle.gix_traverse_commit_known.specs.declared.nodes.Number.{Number}

@@ -1,5 +1,5 @@
 use Rattle.std.proofs.Common.{◌∙◌, ap, sym}
-use Rattle.gix_hash_id.specs.declared.object_id.ObjectId.{ObjectId}
+use Rattle.gix_hash.specs.declared.object_id.ObjectId.{ObjectId}
 use Rattle.gix_traverse_graph.specs.Commits.{Commit}
 use Rattle.gix_traverse_graph.proofs.RowLemmas.{commit_from_row}
 use Rattle.gix_traverse_graph.proofs.rows.Graph.parents_of.Goals as goal

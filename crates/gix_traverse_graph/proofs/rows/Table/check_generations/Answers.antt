@@ -1,6 +1,6 @@
 use Rattle.std.proofs.Common.{◌≡◌, ◌+◌, ◌<◌, ◌≤◌, ℕ, List, subst, refl, length, arith}
 use Rattle.std.specs.Prelude.{Contains}
-use Rattle.gix_hash_id.specs.declared.object_id.ObjectId.{ObjectId}
+use Rattle.gix_hash.specs.declared.object_id.ObjectId.{ObjectId}
 use Rattle.gix_traverse_graph.specs.Order.{At}
 use Rattle.gix_traverse_graph.specs.Rows.{HasGeneration, IsGreatest}
 use Rattle.gix_traverse_graph.specs.declared.rows.Row.{Row}

@@ -1,6 +1,6 @@
 use Rattle.std.proofs.Common.{◌≡◌, ◌≤◌, ◌++◌, List, [], Option}
-use Rattle.gix_hash_id.specs.declared.object_id.ObjectId.{ObjectId}
-use Rattle.gix_hash_id.specs.Id.{id_of}
+use Rattle.gix_hash.specs.declared.object_id.ObjectId.{ObjectId}
+use Rattle.gix_hash.specs.Id.{id_of}
 use Rattle.gix_traverse_graph.specs.Commits.{Commits}
 use Rattle.gix_traverse_commit_known.specs.Meeting.{Asks}
 use Rattle.gix_traverse_graph.specs.declared.rows.Row.{Row}

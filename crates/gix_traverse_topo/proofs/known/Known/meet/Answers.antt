@@ -1,7 +1,7 @@
 use Rattle.std.proofs.Common.{List, [], get_or, refl, ◌∙◌}
 use Rattle.std.proofs.lemmas.Option.{slice_get-get_or}
-use Rattle.gix_hash_id.specs.declared.object_id.ObjectId.{ObjectId}
-use Rattle.gix_hash_id.specs.declared.object_id.ObjectId.TheVariants.{Sha1}
+use Rattle.gix_hash.specs.declared.object_id.ObjectId.{ObjectId}
+use Rattle.gix_hash.specs.declared.object_id.ObjectId.TheVariants.{Sha1}
 use Rattle.gix_traverse_graph.specs.Order.{At}
 use Rattle.gix_traverse_topo.proofs.Walking.{so_none, so_more, so_all, names_kept, names_number}
 use Rattle.gix_traverse_topo.proofs.known.Known.meet.Goals as goal

@@ -1,7 +1,7 @@
 use Rattle.std.proofs.Common.{◌≡◌, ◌∙◌, refl, sym, subst, rules, true, [], Some, arith, List, ℕ, Option}
 use Rattle.std.specs.Prelude.{MatchBool, None}
 use Rattle.std.proofs.lemmas.Result.{err_from_is_err_and}
-use Rattle.gix_hash_id.specs.Id.{id_of}
+use Rattle.gix_hash.specs.Id.{id_of}
 use Rattle.gix_object_tree.specs.Order.{is_tree}
 use Rattle.gix_object_tree.specs.Reading.{place_of, start}
 use Rattle.gix_object_lookup.specs.Path.{IsNamedBy}

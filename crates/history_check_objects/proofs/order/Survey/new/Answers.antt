@@ -1,5 +1,5 @@
 use Rattle.std.proofs.Common.{List, None, reverse, subst, sym}
-use Rattle.gix_hash_id.specs.declared.object_id.ObjectId.{ObjectId}
+use Rattle.gix_hash.specs.declared.object_id.ObjectId.{ObjectId}
 use Rattle.history_check_objects.specs.Surveying.{AreListed, Stands}
 use Rattle.history_check_objects.specs.declared.order.Frame.{Frame}
 use Rattle.history_check_objects.proofs.Begins.{all_unmet, begun, one_unmet}

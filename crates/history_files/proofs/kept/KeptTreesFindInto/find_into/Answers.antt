@@ -1,6 +1,6 @@
 use Rattle.std.proofs.Common.{◌∙◌, ap, sym}
 use Rattle.std.proofs.lemmas.List.Elements.{Contains-append_left}
-use Rattle.gix_hash_id.specs.Views.{viewed_id}
+use Rattle.gix_hash.specs.Views.{viewed_id}
 use Rattle.history_files.specs.KeptTrees.{content_of, ids_of}
 use Rattle.history_files.proofs.TreesKept.{is_among, listed_behind}
 use Rattle.history_files.proofs.kept.KeptTreesFindInto.find_into.Goals as goal

@@ -1,7 +1,7 @@
 use Rattle.std.proofs.Common.{◌∙◌, ap, option_map, unwrap_or}
 use Rattle.std.specs.Prelude.{Vec, ℕ}
 use Rattle.std.specs.declared.alloc.Global.{Global}
-use Rattle.gix_hash_id.specs.Id.{id_of, null_id}
+use Rattle.gix_hash.specs.Id.{id_of, null_id}
 use Rattle.history_texts.specs.Formats.{actor_of}
 use Rattle.history_repository.specs.Held.{held_id}
 use Rattle.history_plans.proofs.LineLemmas.{entry_told}

@@ -1,6 +1,6 @@
 use Rattle.std.proofs.Common.{◌≡◌, length, map}
-use Rattle.gix_hash_id.specs.Id.{id_of}
-use Rattle.gix_hash_id.specs.Order.{id_eq}
+use Rattle.gix_hash.specs.Id.{id_of}
+use Rattle.gix_hash.specs.Order.{id_eq}
 use Rattle.history_model.specs.Bytes.{has_twice}
 use Rattle.history_texts.proofs.written.commits.has_twice.Given as goal
 

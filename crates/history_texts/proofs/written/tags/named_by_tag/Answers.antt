@@ -1,5 +1,5 @@
 use Rattle.std.proofs.Common.{◌∙◌, ap, map, subst, sym, [], ◌∷◌, ◌++◌}
-use Rattle.gix_hash_id.specs.Id.{id_of}
+use Rattle.gix_hash.specs.Id.{id_of}
 use Rattle.gix_object_lines.specs.declared.kind.Kind.TheVariants.{Commit}
 use Rattle.history_model.specs.Objects.{TagValue}
 use Rattle.history_texts.specs.Written.{AreTagParts, TagParts, naming_of, parts_of_tag, tag_lines}

@@ -1,8 +1,8 @@
 use Rattle.std.proofs.Common.{◌≡◌, ◌∙◌, sym, refl, Bool, true, false, not}
 use Rattle.std.specs.Prelude.{IsTrue}
 use Rattle.std.specs.Fmt.{digits}
-use Rattle.gix_hash_id.specs.Hasher.{id_of_message, empty_tree_text}
-use Rattle.gix_hash_id.specs.declared.kind.Kind.{Kind}
+use Rattle.gix_hash.specs.Hasher.{id_of_message, empty_tree_text}
+use Rattle.gix_hash.specs.declared.kind.Kind.{Kind}
 use Rattle.history_model.specs.Objects.{digest, empty_tree_id}
 use Rattle.history_texts.proofs.written.trees.is_entry_written.Goals as goal
 

@@ -1,5 +1,5 @@
 use Rattle.std.proofs.Common.{◌∙◌, sym}
-use Rattle.gix_hash_id.specs.Views.{viewed_id}
+use Rattle.gix_hash.specs.Views.{viewed_id}
 use Rattle.case_words.proofs.Listed.{listed_by}
 use Rattle.gix_object_cases.proofs.find.store.StoreExists.exists.Goals as goal
 

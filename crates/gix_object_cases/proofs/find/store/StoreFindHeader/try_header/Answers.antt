@@ -1,6 +1,6 @@
 use Rattle.std.proofs.Common.{◌∙◌, ap, sym}
 use Rattle.std.specs.Option.{option_copied}
-use Rattle.gix_hash_id.specs.Views.{viewed_id}
+use Rattle.gix_hash.specs.Views.{viewed_id}
 use Rattle.case_words.proofs.Listed.{listed}
 use Rattle.gix_object_cases.proofs.find.store.StoreFindHeader.try_header.Goals as goal
 

@@ -1,6 +1,6 @@
 use Rattle.std.proofs.Common.{◌≡◌, ◌+◌, ◌^◌, ◌≤◌, subst, length, arith}
 use Rattle.std.specs.Prelude.{MatchOption}
-use Rattle.gix_object_commit_lines.specs.Commit.{commit_text}
+use Rattle.gix_object_commit.specs.Commit.{commit_text}
 use Rattle.gix_object_commit.specs.Writing.{message_pieces}
 use Rattle.gix_object_lines.specs.Pieces.{pieces_text}
 use Rattle.gix_object_commit.specs.Views.{parts_of}

@@ -3,7 +3,7 @@ use Rattle.std.specs.List.{IsDistinct}
 use Rattle.std.specs.Map.{lookup, keys_of, values_of}
 use Rattle.std.specs.Ordering.{eq_by_cmp}
 use Rattle.std.proofs.lemmas.Map.Keys.{IsDistinct-from_sorted}
-use Rattle.gix_hash_id.specs.Id.{id_of}
+use Rattle.gix_hash.specs.Id.{id_of}
 use Rattle.gix_object_nodes.specs.declared.node.Slot.{Slot}
 use Rattle.gix_object_nodes.specs.Files.{Bytes}
 use Rattle.gix_object_nodes.specs.Nodes.{slots_of, slot_in, child_of, child_or}

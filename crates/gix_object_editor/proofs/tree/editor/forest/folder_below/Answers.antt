@@ -2,7 +2,7 @@ use Rattle.gix_object_editor.proofs.Marked.{keeps_none}
 use Rattle.std.proofs.Common.{ℕ, length, List, ◌≡◌, Some, None, [], sym, subst, IfErr, IfOk}
 use Rattle.std.specs.Borrow.{Bor}
 use Rattle.std.proofs.lemmas.List.{get_or-map}
-use Rattle.gix_hash_id.specs.Id.{id_of}
+use Rattle.gix_hash.specs.Id.{id_of}
 use Rattle.gix_object_nodes.specs.declared.node.Slot.{Slot}
 use Rattle.gix_object_nodes.specs.Nodes.{slots_of, IsUnopened, IsNoFolder}
 use Rattle.gix_object_editor.specs.Refusals.{OpeningFault}

@@ -1,7 +1,7 @@
 use Rattle.std.proofs.Common.{inl, inr, false, refl, ◌≡◌, ◌∙◌, ◌≤◌, ap, sym, subst, arith, true, length, suc, rules, None, Some, [], ◌∷◌}
 use Rattle.std.specs.Prelude.{is_ok}
 use Rattle.std.proofs.lemmas.Result.{err_from_is_err_and}
-use Rattle.gix_hash_id.specs.Id.{id_of}
+use Rattle.gix_hash.specs.Id.{id_of}
 use Rattle.gix_object_tree.specs.Mode.{is_tree_value}
 use Rattle.gix_object_nodes.specs.declared.node.Slot.{Slot}
 use Rattle.gix_object_nodes.specs.Files.{Bytes, leads_on, named}

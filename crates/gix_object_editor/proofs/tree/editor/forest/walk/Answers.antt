@@ -2,7 +2,7 @@ use Rattle.std.proofs.Common.{ℕ, inl, sym, ◌≡◌, List, ◌++◌, [], ◌�
 use Rattle.std.specs.Borrow.{Bor}
 use Rattle.std.proofs.lemmas.List.{get_or-map}
 use Rattle.std.proofs.lemmas.Result.{err_from_is_err_and}
-use Rattle.gix_hash_id.specs.Id.{id_of}
+use Rattle.gix_hash.specs.Id.{id_of}
 use Rattle.gix_object_nodes.specs.Nodes.{slots_of, IsNoFolder, onto, LeadsTo}
 use Rattle.gix_object_nodes.specs.Files.{Path}
 use Rattle.gix_object_editor.specs.Asked.{front_of, unopened_into, AsksUpTo}

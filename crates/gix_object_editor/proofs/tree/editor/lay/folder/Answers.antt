@@ -1,5 +1,5 @@
 use Rattle.std.proofs.Common.{ℕ, Bool, false, ◌∙◌, ap}
-use Rattle.gix_hash_id.specs.Id.{Id, id_of, null_id}
+use Rattle.gix_hash.specs.Id.{Id, id_of, null_id}
 use Rattle.gix_object_tree.specs.Mode.{kind_value}
 use Rattle.gix_object_tree.specs.declared.tree.mode.EntryKind.TheVariants as kinds
 use Rattle.gix_object_nodes.specs.Files.{Leaf}

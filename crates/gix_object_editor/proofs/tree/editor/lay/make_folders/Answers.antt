@@ -1,7 +1,7 @@
 use Rattle.std.proofs.Common.{ℕ, inl, inr, List, ◌≡◌, ◌∙◌, ◌<◌, ◌++◌, ◌∷◌, [], ap, sym, subst, arith, rules, length, true, get_or, drop}
 use Rattle.std.specs.Prelude.{is_ok}
 use Rattle.gix_object_nodes.specs.declared.node.Node.{Node}
-use Rattle.gix_hash_id.specs.Id.{id_of}
+use Rattle.gix_hash.specs.Id.{id_of}
 use Rattle.gix_object_tree.specs.ModeText.{mode_of}
 use Rattle.std.specs.List.{Contains}
 use Rattle.gix_object_editor.specs.Asked.{front_of}

@@ -6,7 +6,7 @@ use Rattle.gix_object_nodes.specs.declared.node.Node.{Node}
 use Rattle.gix_object_nodes.specs.declared.node.Slot.{Slot}
 use Rattle.gix_object_nodes.specs.Files.{Bytes}
 use Rattle.gix_object_nodes.specs.Nodes.{slots_of, slot_in, child_of, child_or, leaf_in}
-use Rattle.gix_hash_id.specs.Id.{id_of}
+use Rattle.gix_hash.specs.Id.{id_of}
 use Rattle.gix_object_editor.specs.Entries.{made_leaf}
 use Rattle.gix_object_editor.proofs.Kept.{only_there, ap_leaf}
 use Rattle.std.proofs.lemmas.Bool.{cases_lt, cases_order}

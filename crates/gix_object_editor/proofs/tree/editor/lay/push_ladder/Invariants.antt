@@ -3,7 +3,7 @@ use Rattle.gix_object_nodes.specs.Files.{Bytes}
 use Rattle.gix_object_nodes.specs.Nodes.{slots_of, leaf_in}
 use Rattle.gix_object_editor.specs.Laid.{IsRung}
 use Rattle.std.specs.List.{Contains}
-use Rattle.gix_hash_id.specs.Id.{id_of}
+use Rattle.gix_hash.specs.Id.{id_of}
 use Rattle.gix_object_nodes.specs.declared.node.Slot.{Slot}
 use Rattle.gix_object_editor.specs.Entries.{made_leaf}
 use Rattle.gix_object_nodes.specs.Marks.{marks_of, mark_below, rung_parent}

@@ -1,5 +1,5 @@
 use Rattle.std.proofs.Common.{List, sym, subst, map}
-use Rattle.gix_hash_id.specs.Id.{id_of}
+use Rattle.gix_hash.specs.Id.{id_of}
 use Rattle.gix_object_tree.specs.Entry.{item_of, SpellsTree}
 use Rattle.gix_object_tree.specs.WellFormed.{IsWellFormed}
 use Rattle.gix_object_tree.specs.declared.tree.entry.EntryRef.{EntryRef}

@@ -1,7 +1,7 @@
 use Rattle.std.proofs.Common.{◌≡◌, ◌∙◌, ◌<◌, ap, sym, refl, arith, length, None}
 use Rattle.gix_object_tree.specs.Entry.{item_of}
 use Rattle.gix_object_tree.specs.ModeText.{mode_of}
-use Rattle.gix_hash_id.specs.Id.{Id}
+use Rattle.gix_hash.specs.Id.{Id}
 use Rattle.gix_object_nodes.specs.declared.node.Slot.{Slot}
 use Rattle.gix_object_nodes.specs.Files.{Leaf, leaf_of}
 use Rattle.gix_object_nodes.specs.Nodes.{slot_in, leaf_in}

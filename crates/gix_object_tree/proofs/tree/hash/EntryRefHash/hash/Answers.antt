@@ -1,7 +1,7 @@
 use Rattle.std.proofs.Common.{[], ◌∷◌, ◌++◌}
 use Rattle.std.specs.Hash as fed
 use Rattle.bstr.specs.BStr.{bstr_bytes}
-use Rattle.gix_hash_id.specs.Packed.{bytes_from-digits_of}
+use Rattle.gix_hash.specs.Packed.{bytes_from-digits_of}
 use Rattle.gix_object_tree.proofs.tree.hash.EntryRefHash.hash.Goals as goal
 
 pub returns : goal.returns

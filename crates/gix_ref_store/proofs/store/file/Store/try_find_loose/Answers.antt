@@ -1,5 +1,5 @@
 use Rattle.std.proofs.Common.{◌∙◌, sym, ap, Some, option_map}
-use Rattle.gix_hash_id.specs.Id.{id_of}
+use Rattle.gix_hash.specs.Id.{id_of}
 use Rattle.gix_ref_name.specs.Names.{part_of}
 use Rattle.gix_ref_name.specs.Targets.{target_view}
 use Rattle.gix_ref_store.specs.RefStates.{Stands}

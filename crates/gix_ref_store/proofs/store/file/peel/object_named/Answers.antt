@@ -1,7 +1,7 @@
 use Rattle.std.proofs.Common.{◌∙◌, inr, sym, ap, subst, ◌-◌, ◌<◌, List, length, map, refl}
 use Rattle.std.specs.Prelude.{is_some}
-use Rattle.gix_hash_id.specs.Id.{Id, id_of}
-use Rattle.gix_hash_id.specs.declared.object_id.ObjectId.{ObjectId}
+use Rattle.gix_hash.specs.Id.{Id, id_of}
+use Rattle.gix_hash.specs.declared.object_id.ObjectId.{ObjectId}
 use Rattle.gix_ref_store.specs.Peels.{LeadsOver}
 use Rattle.gix_ref_store.proofs.PeelLemmas.{AreApart, none_apart, apart_more, fewer, leads_on, ids_more, among_test}
 use Rattle.gix_ref_store.proofs.store.file.peel.object_named.Goals as goal

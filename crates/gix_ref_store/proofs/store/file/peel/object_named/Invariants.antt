@@ -1,5 +1,5 @@
 use Rattle.std.specs.Prelude.{◌-◌, length, map}
-use Rattle.gix_hash_id.specs.Id.{id_of}
+use Rattle.gix_hash.specs.Id.{id_of}
 use Rattle.gix_ref_store.specs.Peels.{LeadsOver}
 use Rattle.gix_ref_store.proofs.PeelLemmas.{AreApart}
 use Rattle.gix_ref_store.proofs.store.file.peel.object_named.Given as goal

@@ -1,5 +1,5 @@
 use Rattle.std.proofs.Common.{rules, List, subst, OnOk}
-use Rattle.gix_hash_id.specs.Id.{Id}
+use Rattle.gix_hash.specs.Id.{Id}
 use Rattle.gix_object_nodes.specs.Files.{Trees}
 use Rattle.gix_object_nodes.specs.Nodes.{slots_of}
 use Rattle.gix_object_editor.specs.Editor.{names_of}

@@ -3,7 +3,7 @@ use Rattle.std.specs.Prelude.{is_some}
 use Rattle.std.proofs.lemmas.Result.{err_from_is_err_and}
 use Rattle.std.proofs.lemmas.List.{length-drop, get_or-map}
 use Rattle.std.proofs.lemmas.Bool.{cases_eq}
-use Rattle.gix_hash_id.specs.Id.{id_of}
+use Rattle.gix_hash.specs.Id.{id_of}
 use Rattle.gix_object_editor.specs.Editor.{names_of, LeadsInto, IsChanged}
 use Rattle.gix_object_nodes.specs.Files.{Begins, behind, cleared}
 use Rattle.gix_object_nodes.specs.Nodes.{slots_of, child_of, files_of_node, entry_from, onto, LeadsTo, IsFolderAt, IsNoFolder, IsForest, Way}

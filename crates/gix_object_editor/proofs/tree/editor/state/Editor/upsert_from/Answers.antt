@@ -1,6 +1,6 @@
 use Rattle.std.proofs.Common.{refl, Some, List, ◌⊎◌, inl, true, false, ℕ, Bool, ◌≡◌, ◌≢◌, ◌∙◌, ◌<◌, ◌+◌, ◌-◌, ap, sym, subst, arith, length, drop, take, None, get_or, [], ◌∷◌, ◌++◌, inr}
 use Rattle.std.proofs.lemmas.List.{length-drop, get_or-map}
-use Rattle.gix_hash_id.specs.Id.{id_of}
+use Rattle.gix_hash.specs.Id.{id_of}
 use Rattle.gix_object_tree.specs.Mode.{kind_value}
 use Rattle.gix_object_tree.specs.ModeText.{mode_of}
 use Rattle.gix_object_nodes.specs.declared.node.Node.{Node}

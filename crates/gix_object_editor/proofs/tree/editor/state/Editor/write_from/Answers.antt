@@ -2,8 +2,8 @@ use Rattle.std.proofs.Common.{ℕ, inl, Some, ◌≡◌, ◌∙◌, ◌<◌, ◌
 use Rattle.std.proofs.lemmas.Result.{err_from_is_err_and}
 use Rattle.std.proofs.lemmas.Fn.{called_at, FoldsTo-push}
 use Rattle.std.proofs.lemmas.List.{append-nil}
-use Rattle.gix_hash_id.specs.Id.{id_of}
-use Rattle.gix_hash_id.specs.declared.object_id.ObjectId.{ObjectId}
+use Rattle.gix_hash.specs.Id.{id_of}
+use Rattle.gix_hash.specs.declared.object_id.ObjectId.{ObjectId}
 use Rattle.gix_object_tree.specs.Entry.{own_item}
 use Rattle.gix_object_nodes.specs.Nodes.{slots_of, slot_in, child_of, IsForest, Way, onto}
 use Rattle.gix_object_nodes.specs.Writing.{ids_of, IsTreeOf}

@@ -1,5 +1,5 @@
 use Rattle.std.specs.Prelude.{unwrap_or, option_map}
-use Rattle.gix_hash_id.specs.Id.{id_of}
+use Rattle.gix_hash.specs.Id.{id_of}
 use Rattle.gix_ref_store.specs.declared.reference.Reference.{Reference}
 use Rattle.gix_ref_store.proofs.store.file.raw_ext.ReferenceReferenceExt.follow_to_object_packed.Goals as goal
 

@@ -1,5 +1,5 @@
 use Rattle.std.proofs.Common.{[]}
-use Rattle.gix_hash_id.specs.Id.{id_of}
+use Rattle.gix_hash.specs.Id.{id_of}
 use Rattle.gix_ref_format.specs.PackedKept.{kept}
 use Rattle.gix_ref_store.specs.Peels.{IsPeeled}
 use Rattle.gix_ref_store.specs.RefStates.{ref_state, state_among}

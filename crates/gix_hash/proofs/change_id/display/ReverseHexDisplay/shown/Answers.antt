@@ -1,0 +1,9 @@
+use Rattle.std.proofs.Common.{arith}
+use Rattle.gix_hash.specs.Id.{digits_of}
+use Rattle.gix_hash.proofs.Texts.{IsAscii-front}
+use Rattle.gix_hash.proofs.ReverseTexts.{IsAscii-reverse_hex_text}
+use Rattle.gix_hash.proofs.change_id.display.ReverseHexDisplay.shown.Goals as goal
+
+pub written-requires-clause-ascii : goal.written-requires-clause-ascii
+written-requires-clause-ascii c =
+    IsAscii-front c.reverse_hex_digits-digits.result _ _ _ c.reverse_hex_digits-digits.ensures (IsAscii-reverse_hex_text (digits_of c.as_bytes-bytes.result.now)) (omega arith)

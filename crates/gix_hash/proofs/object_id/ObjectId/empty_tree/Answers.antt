@@ -1,0 +1,8 @@
+use Rattle.gix_hash.proofs.EmptyObjects.{sha1-empty_tree, sha256-empty_tree}
+use Rattle.gix_hash.proofs.object_id.ObjectId.empty_tree.Goals as goal
+
+pub returns-in-Sha1 : goal.returns-in-Sha1
+returns-in-Sha1 c = rw (c.in-Sha1.is, sha1-empty_tree)
+
+pub returns-in-Sha256 : goal.returns-in-Sha256
+returns-in-Sha256 c = rw (c.in-Sha256.is, sha256-empty_tree)

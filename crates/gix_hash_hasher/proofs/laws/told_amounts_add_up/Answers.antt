@@ -1,8 +1,0 @@
-use Rattle.gix_hash_hasher.proofs.PieceLemmas.{sum-piece_lengths, sum-all_pieces}
-use Rattle.gix_hash_hasher.proofs.laws.told_amounts_add_up.Goals as goal
-
-pub returns : goal.returns
-returns c = record {
-  pieces = sum-piece_lengths c.args.num_bytes c.args.pieces;
-  all = sum-all_pieces c.args.num_bytes c.args.pieces;
-}

@@ -1,8 +1,0 @@
-use Rattle.std.proofs.Common.{arith}
-use Rattle.gix_hash_id.specs.Id.{digits_of}
-use Rattle.gix_hash_id.proofs.Texts.{IsAscii-front, IsAscii-hex_text}
-use Rattle.gix_hash_id.proofs.display.HexDisplay.shown.Goals as goal
-
-pub written-requires-clause-ascii : goal.written-requires-clause-ascii
-written-requires-clause-ascii c =
-    IsAscii-front c.hex_digits-digits.result _ _ _ c.hex_digits-digits.ensures (IsAscii-hex_text (digits_of c.as_bytes-bytes.result.now)) (omega arith)

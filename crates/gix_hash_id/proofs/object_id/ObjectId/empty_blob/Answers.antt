@@ -1,8 +1,0 @@
-use Rattle.gix_hash_id.proofs.EmptyObjects.{sha1-empty_blob, sha256-empty_blob}
-use Rattle.gix_hash_id.proofs.object_id.ObjectId.empty_blob.Goals as goal
-
-pub returns-in-Sha1 : goal.returns-in-Sha1
-returns-in-Sha1 c = rw (c.in-Sha1.is, sha1-empty_blob)
-
-pub returns-in-Sha256 : goal.returns-in-Sha256
-returns-in-Sha256 c = rw (c.in-Sha256.is, sha256-empty_blob)

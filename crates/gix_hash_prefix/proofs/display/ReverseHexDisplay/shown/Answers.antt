@@ -1,9 +1,0 @@
-use Rattle.std.proofs.Common.{arith}
-use Rattle.gix_hash_id.specs.Id.{digits_of}
-use Rattle.gix_hash_id.proofs.Texts.{IsAscii-front}
-use Rattle.gix_hash_prefix.proofs.ReverseTexts.{IsAscii-reverse_hex_text}
-use Rattle.gix_hash_prefix.proofs.display.ReverseHexDisplay.shown.Goals as goal
-
-pub written-requires-clause-ascii : goal.written-requires-clause-ascii
-written-requires-clause-ascii c =
-    IsAscii-front c.reverse_hex_digits-digits.result _ _ _ c.reverse_hex_digits-digits.ensures (IsAscii-reverse_hex_text (digits_of c.as_bytes-bytes.result.now)) (omega arith)

@@ -1,7 +1,0 @@
-use Rattle.gix_hash_id.specs.Id.{id_of}
-use Rattle.gix_hash_prefix.proofs.Edges.{begins_equal}
-use Rattle.gix_hash_prefix.proofs.laws.equal_is_beginning.Goals as goal
-
-pub returns : goal.returns
-returns c =
-    begins_equal c.args.prefix.now.digits (id_of c.args.id.now).digits

@@ -1,5 +1,0 @@
-use Rattle.gix_hash_prefix.proofs.LawLemmas.{nest_or_apart}
-use Rattle.gix_hash_prefix.proofs.laws.matches_nest_or_are_disjoint.Goals as goal
-
-pub returns : goal.returns
-returns c = nest_or_apart c.args.one.now.digits c.args.other.now.digits

@@ -1,9 +1,0 @@
-use Rattle.std.proofs.Common.{take, sym, drop}
-use Rattle.std.proofs.lemmas.List.{take-append-drop}
-use Rattle.gix_hash_id.specs.Id.{id_of}
-use Rattle.gix_hash_prefix.proofs.Edges.{begins_equal}
-use Rattle.gix_hash_prefix.proofs.laws.own_prefix_is_equal.Goals as goal
-
-pub returns : goal.returns
-returns c =
-    (begins_equal (take c.args.hex_len (id_of c.args.id.now).digits) (id_of c.args.id.now).digits).1 (drop c.args.hex_len (id_of c.args.id.now).digits, sym (take-append-drop c.args.hex_len (id_of c.args.id.now).digits))

@@ -1,5 +1,0 @@
-use Rattle.gix_hash_prefix.proofs.ReadBack.{read_change_id}
-use Rattle.gix_hash_prefix.proofs.laws.text_of_change_id_is_read.Goals as goal
-
-pub returns : goal.returns
-returns c = read_change_id c.args.text.now c.args.id.now c.from_reverse_hex.result c.requires c.from_reverse_hex.ensures

@@ -1,9 +1,0 @@
-pub mod Beginnings
-pub mod ChangeIdInside
-pub mod Displays
-pub mod PackedBeginning
-pub mod Prefix
-pub mod PrefixInput
-pub mod PrefixInside
-pub mod ReverseSpelling
-pub mod Run

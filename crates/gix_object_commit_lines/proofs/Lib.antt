@@ -1,9 +1,0 @@
-pub mod Folds
-pub mod Progress
-pub mod Lines
-pub mod Results
-pub mod Whole
-pub mod Once
-pub mod Positions
-pub mod NamedValues
-pub mod FaultLemmas

@@ -1,7 +1,0 @@
-pub mod Commit
-pub mod Views
-pub mod Reading
-pub mod Signature
-pub mod Headers
-pub mod HeaderViews
-pub mod Faults

@@ -1,7 +1,0 @@
--- The parts that borrowed values show.
-use Rattle.bstr.specs.BStr.{bstr_bytes}
-use Rattle.gix_object_commit_lines.specs.declared.header.HeaderRef.{HeaderRef}
-use Rattle.gix_object_commit_lines.specs.Commit.{Field}
-
-abbrev pub field_of : HeaderRef → Field
-field_of header = record { name = bstr_bytes header.name; value = bstr_bytes header.value }

@@ -1,0 +1,72 @@
+//! Lines for logs.
+
+ghost use Rattle.std.specs.Prelude.{◌≡◌, ◌≤◌, ◌⊎◌, [], ◌∷◌, Some, IfErr, OnOk};
+ghost use Rattle.gix_ref_file.specs.Calls.{Achieves, HasFault, Passes};
+ghost use Rattle.gix_ref_way.specs.Ways.{FoldersOnlyOf, file_at};
+ghost use Rattle.gix_ref_lock.specs.Contents.{noted};
+ghost use Rattle.gix_ref_lock.specs.Moments.{MayNote, NotesLog};
+ghost use Rattle.gix_ref_lock.specs.Needs.{CanNote, IsOutOfMemory, noted_logs};
+
+use crate::act::{CommitError, LogError, told};
+use gix_ref_file::Files;
+use gix_ref_way::make_way;
+use std::alloc::Global;
+
+// Appends the line, if there is one, to the log.
+pub(crate) fn note<F: Files>(
+    alloc: Global,
+    files: &mut F,
+    log: &[u8],
+    line: &Option<Vec<u8>>,
+) -> Result<(), CommitError>
+    ensures honest { F.is_honest files.old → F.is_honest files.new }
+    ensures later { F.failures files.old ≤ F.failures files.new }
+    ensures unfailed { OnOk result (F.failures files.new ≡ F.failures files.old) }
+    ensures memory { IfErr result (λ error. IsOutOfMemory error
+        → F.failures files.new ≡ F.failures files.old) }
+    ensures moments { Passes F.is_honest F.history files.old files.new (MayNote line.now log.now) }
+    ensures noted { Achieves F.is_honest F.history files.old files.new result
+        (NotesLog line.now log.now) }
+    ensures folders { Passes F.is_honest F.history files.old files.new
+        (FoldersOnlyOf (noted_logs line.now log.now)) }
+    ensures failed { F.is_honest files.old → CanNote line.now log.now (F.history files.old).tree
+        → IfErr result (λ error.
+        IsOutOfMemory error ⊎ HasFault F.failures F.reading_may_fail files.old files.new) }
+{
+    match line {
+        Some(line) => append(alloc, files, log, line),
+        None => Ok(()),
+    }
+}
+
+fn append<F: Files>(
+    alloc: Global,
+    files: &mut F,
+    log: &[u8],
+    line: &Vec<u8>,
+) -> Result<(), CommitError>
+    ensures honest { F.is_honest files.old → F.is_honest files.new }
+    ensures later { F.failures files.old ≤ F.failures files.new }
+    ensures unfailed { OnOk result (F.failures files.new ≡ F.failures files.old) }
+    ensures memory { IfErr result (λ error. IsOutOfMemory error
+        → F.failures files.new ≡ F.failures files.old) }
+    ensures moments { Passes F.is_honest F.history files.old files.new
+        (MayNote (Some line.now) log.now) }
+    ensures noted { Achieves F.is_honest F.history files.old files.new result
+        (NotesLog (Some line.now) log.now) }
+    ensures folders { Passes F.is_honest F.history files.old files.new
+        (FoldersOnlyOf (log.now ∷ [])) }
+    ensures failed { F.is_honest files.old
+        → CanNote (Some line.now) log.now (F.history files.old).tree
+        → IfErr result (λ error.
+        IsOutOfMemory error ⊎ HasFault F.failures F.reading_may_fail files.old files.new) }
+{
+    told(
+        make_way(alloc, files, log),
+        CommitError::CreateOrUpdateRefLog(LogError::CreateLeadingDirectories),
+    )?;
+    told(
+        files.append(alloc, log, line),
+        CommitError::CreateOrUpdateRefLog(LogError::Append),
+    )
+}

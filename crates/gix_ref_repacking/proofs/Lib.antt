@@ -1,2 +1,0 @@
-mod RecordLines
-mod Unresolved

@@ -1,4 +1,0 @@
-pub mod Modes
-pub mod Repacking
-pub mod Rollback
-pub mod Resolving

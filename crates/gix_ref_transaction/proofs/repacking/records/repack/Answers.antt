@@ -1,0 +1,87 @@
+use Rattle.std.proofs.Common.{◌≡◌, ◌≢◌, ◌∙◌, [], ap, sym, subst, inl, inr, rules, map, option_map, List, ℕ}
+use Rattle.std.proofs.lemmas.Result.{err_from_is_err_and}
+use Rattle.gix_hash.specs.declared.kind.Kind.{Kind}
+use Rattle.gix_ref_lock.specs.Locks.{HasLockPlace, lock_of}
+use Rattle.gix_ref_lock.specs.PackedEdits.{IsReadAt}
+use Rattle.std.specs.List.{list_any}
+use Rattle.gix_ref_store.specs.Finds.{records_in}
+use Rattle.gix_ref_store.specs.Places.{packed_place}
+use Rattle.gix_ref_store.specs.Stores.{base_of}
+use Rattle.gix_ref_lock.specs.RecordEdits.{line_in}
+use Rattle.gix_ref_lock.specs.declared.packed.RecordEdit.{RecordEdit}
+use Rattle.gix_ref_transaction.specs.Modes.{objects_in}
+use Rattle.gix_ref_transaction.specs.Repacking.{changes_record}
+use Rattle.gix_ref_transaction.proofs.RecordLines.{any_line, changed_records, unchanged_records, some_change}
+use Rattle.gix_ref_transaction.specs.Resolving.{PackFault, SomeChangeFault}
+use Rattle.gix_ref_transaction.proofs.Unresolved.{anyhow}
+use Rattle.gix_ref_transaction.proofs.repacking.records.repack.Goals as goal
+
+pub returns-then-not-change_records-clause-repacked : goal.returns-then-not-change_records-clause-repacked
+returns-then-not-change_records-clause-repacked g c = λ honest told known.
+    let old = (g.F.Files.history c.args.store.now.files).tree in
+    let b = base_of c.args.store.now in
+    let records = records_in c.args.packed in
+    let lines = c.in_ok-lines.lines.items in
+    let packs = option_map g.O.Lookup.table (objects_in c.args.packed_refs.now) in
+    let none = sym (any_line (changes_record records) lines) ∙ ap (list_any (λ (e : RecordEdit). changes_record records (line_in e))) (sym c.deref.ensures.value) ∙ sym c.change_records.ensures ∙ c.if-not-change_records.true in
+    unchanged_records b packs c.args.packed old old c.args.edits.now (map line_in lines) known none (c.in_ok-lines.ensures.said honest told)
+
+pub returns-clause-repacked : goal.returns-clause-repacked
+returns-clause-repacked g c = λ honest told known.
+    let old = (g.F.Files.history c.args.store.now.files).tree in
+    let new = (g.F.Files.history c.written.new.files).tree in
+    let b = base_of c.args.store.now in
+    let records = records_in c.args.packed in
+    let lines = c.in_ok-lines.lines.items in
+    let packs = option_map g.O.Lookup.table (objects_in c.args.packed_refs.now) in
+    let some = sym (any_line (changes_record records) lines) ∙ ap (list_any (λ (e : RecordEdit). changes_record records (line_in e))) (sym c.deref.ensures.value) ∙ sym c.change_records.ensures ∙ c.if-not-change_records.false in
+    let lines_some : lines ≢ [] = λ none. some_change records (map line_in lines) some (ap (map line_in) none) in
+    let of_kind : c.options-kind.result.object_hash ≡ b.kind = search rules in
+    let here : c.deref-2.result.now ≡ packed_place b = c.deref-2.ensures.value ∙ c.in_ok-place.ensures in
+    changed_records b packs c.options-kind.result.object_hash c.deref-2.result.now c.args.packed old new c.args.edits.now (map line_in lines) c.in_ok-held.held known some of_kind here (c.in_ok-lines.ensures.said honest told) (c.in_ok-held.ensures.held honest lines_some)
+
+pub returns-in_err-held-clause-failed : goal.returns-in_err-held-clause-failed
+returns-in_err-held-clause-failed g c = λ honest place read.
+    let tree = (g.F.Files.history c.args.store.now.files).tree in
+    let b = base_of c.args.store.now in
+    let of_kind : c.options-kind.result.object_hash ≡ b.kind = search rules in
+    let here : c.deref-2.result.now ≡ packed_place b = c.deref-2.ensures.value ∙ c.in_ok-place.ensures in
+    let own_place = subst (λ (p : List ℕ). HasLockPlace p tree) (sym here) place in
+    let own_read = subst (λ (p : List ℕ). IsReadAt c.options-kind.result.object_hash p tree) (sym here) (subst (λ (k : Kind). IsReadAt k (packed_place b) tree) (sym of_kind) read) in
+    let p = err_from_is_err_and c.from_residual-in_err-held.result c.from_residual-in_err-held.ensures.1 in
+    rw (p.1, p.2) (inr (c.in_err-held.ensures.failed honest own_place own_read))
+
+pub returns-in_err-lines-clause-failed : goal.returns-in_err-lines-clause-failed
+returns-in_err-lines-clause-failed g c = λ honest place read.
+    let p = err_from_is_err_and c.from_residual.result c.from_residual.ensures.1 in
+    rw (p.1, p.2) (inl c.in_err-lines.ensures.early)
+
+pub returns-in_err-place-clause-failed : goal.returns-in_err-place-clause-failed
+returns-in_err-place-clause-failed g c = λ honest place read.
+    let p = err_from_is_err_and c.from_residual-in_err-place.result c.from_residual-in_err-place.ensures.1 in
+    rw (p.1, p.2) (inl tt)
+
+pub returns-in_err-lines-clause-resolves : goal.returns-in_err-lines-clause-resolves
+returns-in_err-lines-clause-resolves g c = λ honest told.
+    let p = err_from_is_err_and c.from_residual.result c.from_residual.ensures.1 in
+    rw (p.1, p.2) (c.in_err-lines.ensures.resolves honest told)
+
+pub returns-in_err-held-clause-resolves : goal.returns-in_err-held-clause-resolves
+returns-in_err-held-clause-resolves g c = λ honest told.
+    let why = PackFault g.F.Files.reading_may_fail g.O.Lookup.may_fail g.O.Lookup.table (objects_in c.args.packed_refs.now) in
+    let p = err_from_is_err_and c.from_residual-in_err-held.result c.from_residual-in_err-held.ensures.1 in
+    rw (p.1, p.2) (anyhow (SomeChangeFault why c.args.edits.now) c.in_err-held.field-0.0 c.in_err-held.ensures.resolved)
+
+pub returns-clause-here : goal.returns-clause-here
+returns-clause-here g c = λ honest.
+    let records = records_in c.args.packed in
+    let lines = c.in_ok-lines.lines.items in
+    let some = sym (any_line (changes_record records) lines) ∙ ap (list_any (λ (e : RecordEdit). changes_record records (line_in e))) (sym c.deref.ensures.value) ∙ sym c.change_records.ensures ∙ c.if-not-change_records.false in
+    let lines_some : lines ≢ [] = λ none. some_change records (map line_in lines) some (ap (map line_in) none) in
+    let held = c.in_ok-held.ensures.held honest lines_some in
+    c.in_ok-held.held.lock.beside ∙ ap lock_of (held.here ∙ c.deref-2.ensures.value ∙ c.in_ok-place.ensures)
+
+pub returns-in_err-held-clause-memory : goal.returns-in_err-held-clause-memory
+returns-in_err-held-clause-memory g c =
+    let p = err_from_is_err_and c.from_residual-in_err-held.result c.from_residual-in_err-held.ensures.1 in
+    rw (p.1, p.2) c.in_err-held.ensures.memory

@@ -1,5 +1,0 @@
-use Rattle.history_names.proofs.RootStores.{rooted}
-use Rattle.history_names.proofs.names.Names.new.Goals as goal
-
-pub invariant_of-result : goal.invariant_of-result
-invariant_of-result g c = record { root = rooted c.args.files c.args.kind c.at_root.result c.at_root.ensures }

@@ -1,9 +1,0 @@
-pub mod AllNames
-pub mod Face
-pub mod NameLists
-pub mod Packed
-pub mod Packing
-pub mod References
-pub mod RootStore
-pub mod Changing
-pub mod Faults

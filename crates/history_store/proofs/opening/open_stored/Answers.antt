@@ -1,0 +1,33 @@
+use Rattle.std.proofs.Common.{◌≡◌, ◌∙◌, IsSome, subst, sym}
+use Rattle.gix_hash.specs.declared.kind.Kind.{Kind}
+use Rattle.history_check_objects.specs.Stored.{ids_in}
+use Rattle.history_store.specs.ObjectsFace.{ids_of_objects}
+use Rattle.history_store.specs.Ids.{AreOfKind}
+use Rattle.history_store.specs.KnownIds.{AreStanding}
+use Rattle.history_store.specs.KnownObjects.{object_at}
+use Rattle.history_store.proofs.Opens.{kinds_are, objects_stand, opened_with, stand}
+use Rattle.history_store.proofs.opening.open_stored.Goals as goal
+
+pub know-requires : goal.know-requires
+know-requires g c = λ honest.
+    let whole = c.requires (subst g.F.Files.is_honest c.new-objects.ensures.files honest) in
+    subst (λ (kind : Kind). AreStanding kind (g.F.Files.history c.new-objects.result.files).tree (ids_in c.args.stored)) (sym c.new-objects.ensures.kind)
+    (subst (λ files. AreStanding c.args.kind (g.F.Files.history files).tree (ids_in c.args.stored)) (sym c.new-objects.ensures.files) (stand c.args.kind (g.F.Files.history c.args.files).tree c.args.stored whole))
+
+pub returns-in-Ok-clause-whole : goal.returns-in-Ok-clause-whole
+returns-in-Ok-clause-whole g c = λ honest.
+    opened_with c.args.kind (g.F.Files.history c.args.files).tree c.args.stored (c.requires honest) _ _ c.new-objects.ensures.ids c.in-Ok.ensures.known
+
+pub returns-in-Ok-clause-holds : goal.returns-in-Ok-clause-holds
+returns-in-Ok-clause-holds g c = λ honest.
+    let tree = (g.F.Files.history c.args.files).tree in
+    let files : c.know.new.self.files ≡ c.args.files = c.in-Ok.ensures.files ∙ c.new-objects.ensures.files in
+    let kind : c.know.new.self.kind ≡ c.args.kind = c.in-Ok.ensures.kind ∙ c.new-objects.ensures.kind in
+    record {
+      honest = subst g.F.Files.is_honest (sym files) honest;
+      known = λ id has.
+          subst (λ own. IsSome (object_at (g.F.Files.history own).tree id)) (sym files)
+          (objects_stand c.args.kind tree c.args.stored (c.requires honest) _ _ c.new-objects.ensures.ids c.in-Ok.ensures.known id has);
+      kinds = subst (λ (own : Kind). AreOfKind own (ids_of_objects c.know.new.self)) (sym kind)
+          (kinds_are c.args.kind tree c.args.stored (c.requires honest) _ _ c.new-objects.ensures.ids c.in-Ok.ensures.known);
+    }

@@ -1,0 +1,70 @@
+-- The errors of transactions as those of file calls: want of memory is `Memory`, and all else is
+-- `Failed`.
+use Rattle.gix_ref_file.specs.declared.files.FileError.{FileError}
+use Rattle.gix_ref_file.specs.declared.files.FileError.TheVariants as file_case
+use Rattle.gix_ref_format.specs.declared.packed.buffer.Error.{Error as OpenError}
+use Rattle.gix_ref_format.specs.declared.packed.buffer.Error.TheVariants as opening
+use Rattle.gix_ref_edit.specs.declared.ext.PreProcessError.{PreProcessError}
+use Rattle.gix_ref_edit.specs.declared.ext.PreProcessError.TheVariants.{Split, Twice}
+use Rattle.gix_ref_edit.specs.declared.names.TwiceError.TheVariants as twice
+use Rattle.gix_ref_edit.specs.declared.splits.SplitError.TheVariants as splitting
+use Rattle.gix_ref_lock.specs.declared.packed.CommitError.{CommitError as PackedError}
+use Rattle.gix_ref_lock.specs.declared.packed.CommitError.TheVariants as packed_case
+use Rattle.gix_ref_lock.specs.declared.act.CommitError.{CommitError}
+use Rattle.gix_ref_lock.specs.declared.act.CommitError.TheVariants as moving
+use Rattle.gix_ref_store.specs.declared.store.file.find.Error.{Error as FindError}
+use Rattle.gix_ref_store.specs.declared.store.file.find.Error.TheVariants as find
+use Rattle.gix_ref_transaction.specs.declared.error.PrepareError.{PrepareError}
+use Rattle.gix_ref_transaction.specs.declared.error.PrepareError.TheVariants.{Packed, PackedTransactionAcquire, PackedTransactionPrepare, PreprocessingFailed, SamePlace, Uncomposed, LockAcquire, Io, Refused, ReferenceDecode, CreateOrUpdateRefLog, Resolve, Memory}
+
+-- `packed-refs` isn't opened
+abbrev pub of_opening : OpenError → FileError
+of_opening opening.Memory = file_case.Memory
+of_opening opening.Io = file_case.Failed
+of_opening opening.HeaderParsing = file_case.Failed
+of_opening (opening.Iter number) = file_case.Failed
+
+-- a name isn't found
+abbrev pub of_finding : FindError → FileError
+of_finding find.Memory = file_case.Memory
+of_finding find.ReadFileContents = file_case.Failed
+of_finding (find.ReferenceCreation error) = file_case.Failed
+of_finding (find.PackedOpen error) = of_opening error
+
+-- edits aren't split
+abbrev pub of_splitting : PreProcessError → FileError
+of_splitting (Split splitting.Memory) = file_case.Memory
+of_splitting (Split splitting.Find) = file_case.Failed
+of_splitting (Split splitting.Cycle) = file_case.Failed
+of_splitting (Twice twice.Memory) = file_case.Memory
+of_splitting (Twice (twice.Name name)) = file_case.Failed
+
+-- no transaction is prepared
+abbrev pub of_preparing : PrepareError → FileError
+of_preparing Memory = file_case.Memory
+of_preparing (Packed error) = of_opening error
+of_preparing (ReferenceDecode error) = of_finding error
+of_preparing (PreprocessingFailed error) = of_splitting error
+of_preparing (PackedTransactionAcquire error) = file_case.Failed
+of_preparing (PackedTransactionPrepare error) = file_case.Failed
+of_preparing SamePlace = file_case.Failed
+of_preparing Uncomposed = file_case.Failed
+of_preparing LockAcquire = file_case.Failed
+of_preparing Io = file_case.Failed
+of_preparing (Refused why) = file_case.Failed
+of_preparing (CreateOrUpdateRefLog error) = file_case.Failed
+of_preparing (Resolve error) = file_case.Failed
+
+-- `packed-refs` isn't replaced
+abbrev pub of_replacing : PackedError → FileError
+of_replacing packed_case.Memory = file_case.Memory
+of_replacing packed_case.Commit = file_case.Failed
+
+-- none is committed
+abbrev pub of_committing : CommitError → FileError
+of_committing moving.Memory = file_case.Memory
+of_committing (moving.PackedTransactionCommit error) = of_replacing error
+of_committing moving.LockCommit = file_case.Failed
+of_committing moving.DeleteReference = file_case.Failed
+of_committing moving.DeleteReflog = file_case.Failed
+of_committing (moving.CreateOrUpdateRefLog error) = file_case.Failed

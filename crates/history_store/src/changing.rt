@@ -1,0 +1,213 @@
+//! Moves and deletions of names: all those of a command are one transaction.
+ghost use Rattle.std.specs.Prelude.{◌≡◌, ◌≤◌, List, Option, None, IsErrOf, IsTrue, OnOk, map, option_map};
+ghost use Rattle.gix_ref_file.specs.Calls.{Achieves, Finds, HasFault, Passes};
+ghost use Rattle.gix_ref_file.specs.History.{Adds};
+ghost use Rattle.gix_ref_file.specs.declared.files.FileError.TheVariants.{Failed, Memory};
+ghost use Rattle.gix_ref_lock.specs.Committing.{IsCommitted, OnTheWay};
+ghost use Rattle.gix_ref_lock.specs.Needs.{CanCommit, log_paths};
+ghost use Rattle.gix_ref_way.specs.Ways.{FoldersOnlyOf};
+ghost use Rattle.history_model.specs.Bytes.{Bytes};
+ghost use Rattle.history_model.specs.Forms.{is_name};
+ghost use Rattle.history_model.specs.Repository.{Repository};
+ghost use Rattle.history_layout.specs.EditSteps as steps;
+ghost use Rattle.history_layout.specs.EditSteps.{EditsMade, EditsOnTheWay};
+ghost use Rattle.history_store.specs.Changing.{AsksChange, CanChange, IsReadable, MakesChange, MayChange, moved_in};
+ghost use Rattle.history_store.specs.Packing.{KeepsRecords, kept_hit};
+
+use crate::edits::{committer_of, time_of};
+use crate::faults::{of_committing, of_opening, of_preparing};
+use crate::names::Names;
+use crate::packed::packed_id;
+use gix_object_lines::lines::ActorRef;
+use gix_object_lookup::find::Never;
+use gix_ref_edit::RefEdit;
+use gix_ref_file::{FileError, Files};
+use gix_ref_transaction::PackedRefs;
+use gix_ref_transaction::transaction::{Transaction, prepare_with};
+use history_texts::LogEntry;
+use std::alloc::Global;
+
+/// A name that moves, and the entry that its log gets, unless the entry's two ids are equal.
+#[derive(Drop)]
+pub struct MovedName {
+    pub name: Vec<u8>,
+    pub entry: LogEntry,
+}
+
+impl<F: Files> Names<F> {
+    /// Moves each of these names to its entry's id after, and then removes that one with its log and its record, all in one
+    /// transaction: each name's lock is made exclusively before anything changes. The log's line comes before the move.
+    ///
+    /// Returns `Failed` if a file call failed, or if a name isn't as its entry says or is locked, and `Memory` if memory ran out.
+    /// After an error each name is as before or has moved, and nothing is removed before all have moved.
+    pub fn change(
+        &mut self,
+        alloc: Global,
+        moved: &[MovedName],
+        taken: Option<&[u8]>,
+    ) -> Result<(), FileError>
+        ensures honest { F.is_honest self.old.store.files → F.is_honest self.new.store.files }
+        ensures kind { self.new.kind ≡ self.old.kind }
+        // On the way each name is as before or has moved, and none is removed before all have.
+        ensures moments { (r : Repository) → let names = map moved_in moved.now in
+            let gone = option_map (λ name. name.now) taken.entry in
+            MayChange F.is_honest F.history self.old r names gone
+            → Adds (EditsOnTheWay r.kind names gone (F.history self.old.store.files).tree)
+            (F.history self.old.store.files) (F.history self.new.store.files) }
+        ensures changed { (r : Repository) → let names = map moved_in moved.now in
+            let gone = option_map (λ name. name.now) taken.entry in
+            MayChange F.is_honest F.history self.old r names gone
+            → OnOk result (EditsMade r.kind names gone (F.history self.old.store.files).tree
+            (F.history self.new.store.files).tree) }
+        ensures keeps { (r : Repository) → let names = map moved_in moved.now in
+            let gone = option_map (λ name. name.now) taken.entry in
+            MayChange F.is_honest F.history self.old r names gone
+            → OnOk result (KeepsRecords self.new (F.history self.new.store.files).tree) }
+        ensures later { F.failures self.old.store.files ≤ F.failures self.new.store.files }
+        ensures unfailed { OnOk result
+            (F.failures self.new.store.files ≡ F.failures self.old.store.files) }
+        ensures memory { IsErrOf result Memory
+            → F.failures self.new.store.files ≡ F.failures self.old.store.files }
+        // `Failed` comes only from a fault of the files.
+        ensures failed { (r : Repository) → let names = map moved_in moved.now in
+            let gone = option_map (λ name. name.now) taken.entry in
+            MayChange F.is_honest F.history self.old r names gone → IsErrOf result Failed
+            → HasFault F.failures F.reading_may_fail self.old.store.files self.new.store.files }
+    {
+        self.refresh(alloc)?;
+        self.make(alloc, moved, taken)?;
+        match taken {
+            Some(name) => self.reread(alloc, name),
+            None => Ok(()),
+        }
+    }
+
+    // Makes the moves and the deletion, with records that are all kept. These stay as they were read.
+    fn make(
+        &mut self,
+        alloc: Global,
+        moved: &[MovedName],
+        taken: Option<&[u8]>,
+    ) -> Result<(), FileError>
+        ensures honest { F.is_honest self.old.store.files → F.is_honest self.new.store.files }
+        ensures kind { self.new.kind ≡ self.old.kind }
+        ensures packed { self.new.packed ≡ self.old.packed }
+        ensures moments { (r : Repository) → let names = map moved_in moved.now in
+            let gone = option_map (λ name. name.now) taken.entry in
+            CanChange F.is_honest F.history self.old r names gone
+            → Adds (EditsOnTheWay r.kind names gone (F.history self.old.store.files).tree)
+            (F.history self.old.store.files) (F.history self.new.store.files) }
+        ensures changed { (r : Repository) → let names = map moved_in moved.now in
+            let gone = option_map (λ name. name.now) taken.entry in
+            CanChange F.is_honest F.history self.old r names gone
+            → OnOk result (MakesChange self.old names gone (F.history self.old.store.files).tree
+            (F.history self.new.store.files).tree) }
+        ensures later { F.failures self.old.store.files ≤ F.failures self.new.store.files }
+        ensures unfailed { OnOk result
+            (F.failures self.new.store.files ≡ F.failures self.old.store.files) }
+        ensures memory { IsErrOf result Memory
+            → F.failures self.new.store.files ≡ F.failures self.old.store.files }
+        ensures failed { (r : Repository) → let names = map moved_in moved.now in
+            let gone = option_map (λ name. name.now) taken.entry in
+            CanChange F.is_honest F.history self.old r names gone → IsErrOf result Failed
+            → HasFault F.failures F.reading_may_fail self.old.store.files self.new.store.files }
+    {
+        let edits = self.edits_of(alloc, moved, taken)?;
+        let time = time_of(alloc, moved)?;
+        self.transact(alloc, edits, committer_of(moved, &time))
+    }
+
+    // Prepares these edits, and commits them.
+    fn transact(
+        &mut self,
+        alloc: Global,
+        edits: Vec<RefEdit>,
+        committer: Option<ActorRef<'_>>,
+    ) -> Result<(), FileError>
+        ensures honest { F.is_honest self.old.store.files → F.is_honest self.new.store.files }
+        ensures kind { self.new.kind ≡ self.old.kind }
+        ensures packed { self.new.packed ≡ self.old.packed }
+        ensures moments { (r : Repository) (moved : List steps.MovedName) (gone : Option Bytes)
+            → AsksChange F.is_honest F.history self.old r moved gone committer.entry edits.items
+            → Adds (EditsOnTheWay r.kind moved gone (F.history self.old.store.files).tree)
+            (F.history self.old.store.files) (F.history self.new.store.files) }
+        ensures changed { (r : Repository) (moved : List steps.MovedName) (gone : Option Bytes)
+            → AsksChange F.is_honest F.history self.old r moved gone committer.entry edits.items
+            → OnOk result (MakesChange self.old moved gone (F.history self.old.store.files).tree
+            (F.history self.new.store.files).tree) }
+        ensures later { F.failures self.old.store.files ≤ F.failures self.new.store.files }
+        ensures unfailed { OnOk result
+            (F.failures self.new.store.files ≡ F.failures self.old.store.files) }
+        ensures memory { IsErrOf result Memory
+            → F.failures self.new.store.files ≡ F.failures self.old.store.files }
+        ensures failed { (r : Repository) (moved : List steps.MovedName) (gone : Option Bytes)
+            → AsksChange F.is_honest F.history self.old r moved gone committer.entry edits.items
+            → IsErrOf result Failed
+            → HasFault F.failures F.reading_may_fail self.old.store.files self.new.store.files }
+    {
+        let records = self.packed.read.as_ref();
+        let mode = PackedRefs::<Never>::DeletionsOnly;
+        match prepare_with(alloc, &mut self.store, records, edits, committer, mode) {
+            Ok(made) => self.finish(alloc, made),
+            Err(error) => Err(of_preparing(error)),
+        }
+    }
+
+    // Commits what is prepared.
+    pub(crate) fn finish(&mut self, alloc: Global, made: Transaction) -> Result<(), FileError>
+        ensures honest { F.is_honest self.old.store.files → F.is_honest self.new.store.files }
+        ensures kind { self.new.kind ≡ self.old.kind }
+        ensures packed { self.new.packed ≡ self.old.packed }
+        ensures moments { Passes F.is_honest F.history self.old.store.files self.new.store.files
+            (OnTheWay made.packed made.moves.items) }
+        ensures folders { Passes F.is_honest F.history self.old.store.files self.new.store.files
+            (FoldersOnlyOf (log_paths made.moves.items)) }
+        ensures done { Achieves F.is_honest F.history self.old.store.files self.new.store.files
+            result (IsCommitted made.packed made.moves.items) }
+        ensures later { F.failures self.old.store.files ≤ F.failures self.new.store.files }
+        ensures unfailed { OnOk result
+            (F.failures self.new.store.files ≡ F.failures self.old.store.files) }
+        ensures memory { IsErrOf result Memory
+            → F.failures self.new.store.files ≡ F.failures self.old.store.files }
+        ensures failed { F.is_honest self.old.store.files
+            → CanCommit made.packed made.moves.items (F.history self.old.store.files).tree
+            → IsErrOf result Failed
+            → HasFault F.failures F.reading_may_fail self.old.store.files self.new.store.files }
+    {
+        match made.commit(alloc, &mut self.store.files) {
+            Ok(_edits) => Ok(()),
+            Err(error) => Err(of_committing(error)),
+        }
+    }
+
+    // Reads the records anew if the name, which is deleted, had one.
+    fn reread(&mut self, alloc: Global, name: &[u8]) -> Result<(), FileError>
+        ensures files { self.new.store.files ≡ self.old.store.files }
+        ensures kind { self.new.kind ≡ self.old.kind }
+        ensures keeps { Finds F.is_honest F.history self.new.store.files (λ tree.
+            (kept_hit self.old.packed name.now ≡ None → KeepsRecords self.old tree)
+            → IsTrue (is_name name.now) → OnOk result (KeepsRecords self.new tree)) }
+        ensures failed { Finds F.is_honest F.history self.new.store.files (λ tree.
+            IsReadable self.new.kind tree → IsErrOf result Failed → F.reading_may_fail) }
+    {
+        if packed_id(&self.packed, name).is_none() {
+            return Ok(());
+        }
+        self.read_anew(alloc)
+    }
+
+    // Reads the records.
+    fn read_anew(&mut self, alloc: Global) -> Result<(), FileError>
+        ensures files { self.new.store.files ≡ self.old.store.files }
+        ensures kind { self.new.kind ≡ self.old.kind }
+        ensures keeps { Finds F.is_honest F.history self.new.store.files
+            (λ tree. OnOk result (KeepsRecords self.new tree)) }
+        ensures failed { Finds F.is_honest F.history self.new.store.files (λ tree.
+            IsReadable self.new.kind tree → IsErrOf result Failed → F.reading_may_fail) }
+    {
+        match self.read_packed(alloc) {
+            Ok(()) => Ok(()),
+            Err(error) => Err(of_opening(error)),
+        }
+    }
+}

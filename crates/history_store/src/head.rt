@@ -1,0 +1,88 @@
+//! HEAD of an existing repository: it is changed by a transaction.
+ghost use Rattle.std.specs.Prelude.{◌≡◌, ◌≢◌, ◌≤◌, Err, [], ◌∷◌, IfOk, IsErrOf, IsTrue, OnOk};
+ghost use Rattle.gix_ref_edit.specs.declared.change.RefEdit.{RefEdit};
+ghost use Rattle.gix_ref_file.specs.Calls.{HasFault};
+ghost use Rattle.gix_ref_file.specs.History.{Adds};
+ghost use Rattle.gix_ref_file.specs.declared.files.FileError.TheVariants.{Failed, Memory};
+ghost use Rattle.history_model.specs.Forms.{is_name};
+ghost use Rattle.history_model.specs.Repository.{Repository};
+ghost use Rattle.history_layout.specs.SwitchSteps.{HeadOnTheWay, NamesBranch};
+ghost use Rattle.history_edits.specs.SwitchPlans.{AsksHead};
+ghost use Rattle.history_store.specs.Changing.{MaySwitch};
+ghost use Rattle.history_store.specs.Packing.{KeepsRecords};
+
+use crate::faults::{full_name, of_preparing};
+use crate::names::Names;
+use gix_object_lookup::find::Never;
+use gix_ref_edit::{Change, LogChange, PreviousValue, RefEdit};
+use gix_ref_file::{FileError, Files};
+use gix_ref_name::Target;
+use gix_ref_transaction::PackedRefs;
+use gix_ref_transaction::transaction::prepare_with;
+use history_model::names::HEAD;
+use std::alloc::Global;
+
+// Returns the edit by which HEAD, if it names the one branch, names the other.
+fn head_edit(alloc: Global, from: &[u8], to: &[u8]) -> Result<Vec<RefEdit>, FileError>
+    ensures asks { IfOk result (λ edits. (edit : RefEdit)
+        × (edits.items ≡ edit ∷ []) × AsksHead from.now to.now edit) }
+    ensures failed { IsTrue (is_name from.now) → IsTrue (is_name to.now) → result ≢ Err Failed }
+{
+    let log = LogChange::new(alloc);
+    let old = full_name(alloc, from)?;
+    let new = full_name(alloc, to)?;
+    let head = full_name(alloc, HEAD)?;
+    let mut edits = Vec::new(alloc);
+    edits.push(RefEdit {
+        change: Change::Update {
+            log,
+            expected: PreviousValue::MustExistAndMatch(Target::Symbolic(old)),
+            new: Target::Symbolic(new),
+        },
+        name: head,
+        deref: false,
+    })?;
+    Ok(edits)
+}
+
+impl<F: Files> Names<F> {
+    /// Makes HEAD, which names the one branch, name the other, whether that exists or not: its lock
+    /// is made exclusively, and then put in its place. No log gets a line.
+    ///
+    /// Returns `Failed` if a file call failed, or if HEAD names another branch or is locked, and
+    /// `Memory` if memory ran out. After an error HEAD is as before or names the branch, whole.
+    pub fn switch(&mut self, alloc: Global, from: &[u8], to: &[u8]) -> Result<(), FileError>
+        ensures honest { F.is_honest self.old.store.files → F.is_honest self.new.store.files }
+        ensures kind { self.new.kind ≡ self.old.kind }
+        ensures moments { (r : Repository)
+            → MaySwitch F.is_honest F.history self.old r from.now to.now
+            → Adds (HeadOnTheWay to.now (F.history self.old.store.files).tree)
+            (F.history self.old.store.files) (F.history self.new.store.files) }
+        ensures switched { (r : Repository)
+            → MaySwitch F.is_honest F.history self.old r from.now to.now
+            → OnOk result (NamesBranch to.now (F.history self.old.store.files).tree
+            (F.history self.new.store.files).tree) }
+        ensures keeps { (r : Repository)
+            → MaySwitch F.is_honest F.history self.old r from.now to.now
+            → OnOk result (KeepsRecords self.new (F.history self.new.store.files).tree) }
+        ensures later { F.failures self.old.store.files ≤ F.failures self.new.store.files }
+        ensures unfailed { OnOk result
+            (F.failures self.new.store.files ≡ F.failures self.old.store.files) }
+        ensures memory { IsErrOf result Memory
+            → F.failures self.new.store.files ≡ F.failures self.old.store.files }
+        // `Failed` comes only from a fault of the files.
+        ensures failed { (r : Repository)
+            → MaySwitch F.is_honest F.history self.old r from.now to.now
+            → IsErrOf result Failed
+            → HasFault F.failures F.reading_may_fail self.old.store.files self.new.store.files }
+    {
+        let edits = head_edit(alloc, from, to)?;
+        self.refresh(alloc)?;
+        let records = self.packed.read.as_ref();
+        let mode = PackedRefs::<Never>::DeletionsOnly;
+        match prepare_with(alloc, &mut self.store, records, edits, None, mode) {
+            Ok(made) => self.finish(alloc, made),
+            Err(error) => Err(of_preparing(error)),
+        }
+    }
+}

@@ -1,0 +1,209 @@
+//! The records of `packed-refs`: read once and kept, looked up, and replaced.
+ghost use Rattle.std.specs.Prelude.{◌≡◌, ◌≢◌, ◌≤◌, [], None, Some, IfOk, IfErr, OnOk, IsErrOf, IsTrue, option_map};
+ghost use Rattle.gix_hash.specs.Id.{id_of};
+ghost use Rattle.gix_ref_file.specs.Calls.{Achieves, Finds, Passes};
+ghost use Rattle.gix_ref_file.specs.History.{HasRisen};
+ghost use Rattle.gix_ref_file.specs.declared.files.FileError.TheVariants.{Failed, Memory};
+ghost use Rattle.gix_object_lines.specs.Bytes.{is_among};
+ghost use Rattle.gix_ref_format.specs.Packed.{Record, packed_records, record_of};
+ghost use Rattle.gix_ref_format.specs.PackedBuffer.{FileFault, Keeps};
+ghost use Rattle.gix_ref_format.specs.PackedKept.{kept, text_of};
+ghost use Rattle.gix_ref_format.specs.declared.packed.buffer.Error.TheVariants.{Io};
+ghost use Rattle.gix_ref_name.specs.Names.{name_of};
+ghost use Rattle.history_model.specs.Forms.{is_name};
+ghost use Rattle.history_model.specs.Places.{file_at, packed_place};
+ghost use Rattle.history_store.specs.Packing.{HasPackedRoom, KeepsAll, KeepsRecords, NameReads, kept_hit};
+ghost use Rattle.history_store.specs.References.{MayBeWritten, PutsBeside, SameFolders};
+
+use crate::faults::of_opening;
+use crate::names::{Names, id_in};
+use gix_hash::{Kind, ObjectId};
+use gix_ref_file::{FileError, Files};
+use gix_ref_format::packed::buffer::Error;
+use gix_ref_format::packed::{Buffer, Reference};
+use gix_ref_name::{FullName, FullNameRef};
+use gix_ref_way::write_anew;
+use history_texts::is_name;
+use std::alloc::Global;
+
+/// The path of the records.
+pub const PACKED: &[u8] = b"packed-refs";
+
+// The path of the lock file in which they are written before it is renamed to their place.
+const PACKED_LOCK: &[u8] = b"packed-refs.lock";
+
+// What is kept of `packed-refs`: its records as they were read, and the names that lost theirs
+// since.
+#[derive(Drop)]
+pub(crate) struct Kept {
+    pub(crate) read: Option<Buffer>,
+    pub(crate) gone: Vec<FullName>,
+}
+
+impl<F: Files> Names<F> {
+    /// Reads `packed-refs`, and keeps its records from then on; none if there is no such file.
+    ///
+    /// Returns `Io` if the file couldn't be read, `Memory` if memory ran out, and otherwise the
+    /// fault of the text.
+    pub fn read_packed(&mut self, alloc: Global) -> Result<(), Error>
+        ensures files { self.new.store.files ≡ self.old.store.files }
+        ensures kind { self.new.kind ≡ self.old.kind }
+        ensures keeps { Finds F.is_honest F.history self.new.store.files
+            (λ tree. OnOk result (KeepsRecords self.new tree)) }
+        ensures gone { OnOk result (self.new.packed.gone.items ≡ []) }
+        ensures faulty { Finds F.is_honest F.history self.new.store.files
+            (λ tree. IfErr result (FileFault self.new.kind (file_at tree packed_place))) }
+        ensures failed { IsErrOf result Io → F.reading_may_fail }
+    {
+        let read = Buffer::open(alloc, &self.store.files, PACKED, self.kind)?;
+        self.packed = all_of(alloc, read);
+        Ok(())
+    }
+
+    // Reads the records anew if one went since they were read.
+    pub(crate) fn refresh(&mut self, alloc: Global) -> Result<(), FileError>
+        ensures files { self.new.store.files ≡ self.old.store.files }
+        ensures kind { self.new.kind ≡ self.old.kind }
+        ensures keeps { Finds F.is_honest F.history self.new.store.files (λ tree.
+            KeepsRecords self.old tree → OnOk result (KeepsAll self.new tree)) }
+        ensures failed { Finds F.is_honest F.history self.old.store.files (λ tree.
+            KeepsRecords self.old tree → IsErrOf result Failed → F.reading_may_fail) }
+    {
+        if self.packed.gone.is_empty() {
+            return Ok(());
+        }
+        match self.read_packed(alloc) {
+            Ok(()) => Ok(()),
+            Err(error) => Err(of_opening(error)),
+        }
+    }
+
+    /// Returns the id that a name holds: that of its own file, or that of its record if there is no
+    /// such file. `None` if it holds none, and if it is no name that a repository may hold.
+    ///
+    /// Returns `Failed` if a file call failed, and `Memory` if memory ran out.
+    pub fn find(&self, alloc: Global, name: &[u8]) -> Result<Option<ObjectId>, FileError>
+        ensures found { Finds F.is_honest F.history self.now.store.files
+            (λ tree. KeepsRecords self.now tree
+            → IfOk result (λ found. NameReads self.now.kind tree name.now found)) }
+        ensures failed { IsErrOf result Failed → F.reading_may_fail }
+    {
+        if !is_name(name) {
+            return Ok(None);
+        }
+        let mut text = Vec::new(alloc);
+        match self.store.files.read(name, &mut text)? {
+            Some(_) => Ok(id_in(self.kind, &text)),
+            None => Ok(packed_id(&self.packed, name)),
+        }
+    }
+
+    // Replaces `packed-refs` by this text, and reads its records.
+    pub(crate) fn replace_packed(&mut self, alloc: Global, text: Vec<u8>) -> Result<(), FileError>
+        ensures honest { F.is_honest self.old.store.files → F.is_honest self.new.store.files }
+        ensures kind { self.new.kind ≡ self.old.kind }
+        ensures put { Achieves F.is_honest F.history self.old.store.files self.new.store.files
+            result (PutsBeside packed_place text.items) }
+        ensures keeps { F.is_honest self.old.store.files
+            → OnOk result (KeepsRecords self.new (F.history self.new.store.files).tree) }
+        ensures moments { Passes F.is_honest F.history self.old.store.files self.new.store.files
+            (MayBeWritten packed_place text.items) }
+        ensures folders { Passes F.is_honest F.history self.old.store.files self.new.store.files
+            SameFolders }
+        ensures later { F.failures self.old.store.files ≤ F.failures self.new.store.files }
+        ensures unfailed { OnOk result
+            (F.failures self.new.store.files ≡ F.failures self.old.store.files) }
+        ensures memory { IsErrOf result Memory
+            → F.failures self.new.store.files ≡ F.failures self.old.store.files }
+        ensures failed { F.is_honest self.old.store.files
+            → HasPackedRoom (F.history self.old.store.files).tree
+            → packed_records self.old.kind text.items ≢ None → IsErrOf result Failed
+            → HasRisen (F.failures self.old.store.files) (F.failures self.new.store.files) }
+    {
+        let packed = buffer_of(alloc, text, self.kind)?;
+        self.put_packed(alloc, packed.as_ref())?;
+        self.packed = all_of(alloc, Some(packed));
+        Ok(())
+    }
+
+    // Replaces `packed-refs` by this text, which is written in its lock file that is then renamed.
+    fn put_packed(&mut self, alloc: Global, text: &[u8]) -> Result<(), FileError>
+        ensures honest { F.is_honest self.old.store.files → F.is_honest self.new.store.files }
+        ensures kind { self.new.kind ≡ self.old.kind }
+        ensures packed { self.new.packed ≡ self.old.packed }
+        ensures put { Achieves F.is_honest F.history self.old.store.files self.new.store.files
+            result (PutsBeside packed_place text.now) }
+        ensures moments { Passes F.is_honest F.history self.old.store.files self.new.store.files
+            (MayBeWritten packed_place text.now) }
+        ensures folders { Passes F.is_honest F.history self.old.store.files self.new.store.files
+            SameFolders }
+        ensures later { F.failures self.old.store.files ≤ F.failures self.new.store.files }
+        ensures unfailed { OnOk result
+            (F.failures self.new.store.files ≡ F.failures self.old.store.files) }
+        ensures memory { IsErrOf result Memory
+            → F.failures self.new.store.files ≡ F.failures self.old.store.files }
+        ensures failed { F.is_honest self.old.store.files
+            → HasPackedRoom (F.history self.old.store.files).tree → IsErrOf result Failed
+            → HasRisen (F.failures self.old.store.files) (F.failures self.new.store.files) }
+    {
+        write_anew(alloc, &mut self.store.files, PACKED_LOCK, text)?;
+        self.store.files.rename(alloc, PACKED_LOCK, PACKED)?;
+        Ok(())
+    }
+}
+
+// Returns what is kept of records that were just read.
+pub(crate) fn all_of(alloc: Global, read: Option<Buffer>) -> Kept
+    ensures read { result.read ≡ read }
+    ensures gone { result.gone.items ≡ [] }
+{
+    Kept {
+        read,
+        gone: Vec::new(alloc),
+    }
+}
+
+impl Kept {
+    // Returns the name's record.
+    pub(crate) fn record(&self, name: FullNameRef<'_>) -> Option<Reference<'_>>
+        ensures { option_map record_of result ≡ kept_hit self.now (name_of name.entry) }
+    {
+        let records = self.read.as_ref()?;
+        if self.has_lost(name.to_path()) {
+            return None;
+        }
+        records.try_find_full_name(name)
+    }
+
+    fn has_lost(&self, name: &[u8]) -> bool
+        ensures { result ≡ is_among self.now.gone.items name.now }
+    {
+        self.gone.iter().any(|lost| lost.to_path() == name)
+    }
+}
+
+// Returns the id in the name's record, if it has one.
+pub(crate) fn packed_id(packed: &Kept, name: &[u8]) -> Option<ObjectId>
+    ensures { IsTrue (is_name name.now) → option_map id_of result
+        ≡ option_map (λ (e : Record). e.target) (kept_hit packed.now name.now) }
+{
+    match FullNameRef::new(name) {
+        Ok(full) => Some(packed.record(full)?.target),
+        Err(_) => None,
+    }
+}
+
+// Returns the records of a text, with the text.
+fn buffer_of(alloc: Global, text: Vec<u8>, kind: Kind) -> Result<Buffer, FileError>
+    ensures kept { IfOk result (λ buffer. Keeps kind text.items (kept buffer)) }
+    ensures bytes { IfOk result (λ buffer. text_of buffer ≡ text.items) }
+    ensures failed { IsErrOf result Failed → packed_records kind text.items ≡ None }
+{
+    match Buffer::from_bytes(alloc, text, kind) {
+        Ok(buffer) => Ok(buffer),
+        Err(Error::Memory) => Err(FileError::Memory),
+        Err(Error::Iter { .. }) => Err(FileError::Failed),
+        Err(Error::HeaderParsing) => Err(FileError::Failed),
+        Err(Error::Io) => Err(FileError::Failed),
+    }
+}
