@@ -109,7 +109,7 @@ def by_hand_alone():
     fixed(f"{link} n:remove:refs/l n:list:refs n:read:kept", "linked done names 1:so%201")
     # A path through links that lead in a circle isn't absent.
     fixed("link:l:l n:kind:l/x n:read:l/x n:last", "linked failed failed l/x%3a%20Too%20many%20levels%20of%20symbolic%20links")
-    fixed("n:last o:last n:kind:none n:create:refs n:read:a/b n:last", "none none absent stands none:so%20 none")
+    fixed("n:last o:last n:kind:none n:create:refs n:read:a/b n:last", "none none absent stands none:so%20 refs%3a%20File%20exists")
     fixed("n:folder:refs n:last n:remove-folder:none n:last o:last", "failed refs%3a%20File%20exists failed none%3a%20No%20such%20file%20or%20directory none")
     fixed("o:write:objects/a:1 o:last n:write:objects/a:1 n:last",
           "failed objects/a%3a%20No%20such%20file%20or%20directory failed objects/a%3a%20no%20path%20of%20this%20part")

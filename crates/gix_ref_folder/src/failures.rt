@@ -15,7 +15,7 @@ use std::io;
 #[derive(Drop)]
 pub struct Failures {
     changes: Option<FailedChanges>,
-    // A reading that failed after the last such change.
+    // A reading that failed, or a file that couldn't be made since something is there, after the last such change.
     reading: Cell<Option<Failure>>,
 }
 
@@ -36,7 +36,7 @@ impl Failures {
         }
     }
 
-    // Returns the last call that failed, if one did.
+    // Returns the last call that failed or met something, if one did.
     pub fn last(&mut self) -> Option<&Failure>
         ensures { IfNone result (count_of self.old ≡ 0) }
     {
@@ -62,6 +62,14 @@ impl Failures {
                 }
                 Err(fault)
             }
+        }
+    }
+
+    // Keeps that something exists at the path of a file that was to be made. No call failed by that.
+    pub fn made(&self, alloc: Global, path: &[u8], made: &io::Result<bool>) {
+        if let Ok(false) = made {
+            let error = io::Error::other("File exists");
+            self.reading.set(Some(Failure::new(alloc, path, error)));
         }
     }
 

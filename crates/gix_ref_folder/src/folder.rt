@@ -58,7 +58,8 @@ impl<S: System> Folder<S> {
         }
     }
 
-    /// The last call that failed, where one did; one that was refused memory isn't kept.
+    /// Returns the last call that failed, or that made no file since something was there, if there is
+    /// one; one that was refused memory isn't kept.
     pub fn last_failure(&mut self) -> Option<&Failure>
         ensures { IfNone result (failures_of self.old ≡ 0) }
     {
@@ -388,6 +389,7 @@ impl<S: System> Files for Folder<S> {
 
     fn create_new(&mut self, alloc: Global, path: &[u8], bytes: &[u8]) -> Result<bool, FileError> {
         let made = self.make_new(path, bytes);
+        self.failures.made(alloc, path, &made);
         self.failures.changed(alloc, path, made)
     }
 

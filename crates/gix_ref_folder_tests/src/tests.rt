@@ -228,7 +228,12 @@ fn a_failed_call_is_no_absence(rt: HostRuntime) -> Result<(), Fail> {
         let Some(failure) = folder.last_failure() else {
             panic!(rt; "no failure is kept of {words}");
         };
-        assert!(rt; failure.text(alloc)?.ends_with(b": the files failed"));
+        let why = if wanted.ends_with("stands") {
+            b": File exists".as_slice()
+        } else {
+            b": the files failed".as_slice()
+        };
+        assert!(rt; failure.text(alloc)?.ends_with(why));
     }
     Ok(())
 }
