@@ -7,6 +7,7 @@ mod EditLemmas
 pub mod GraftLemmas
 pub mod NameTests
 pub mod NameLemmas
+pub mod LockPaths
 mod RestRowLemmas
 mod RowLemmas
 mod FirstRowLemmas

@@ -1,18 +1,16 @@
 -- The lock file of a log has room in a tree without leftovers.
-use Rattle.std.proofs.Common.{◌≡◌, ◌≢◌, refl, sym, ◌∙◌, ap, ℕ, ◌+◌, ◌-◌, ◌≤◌, ◌==◌, Bool, true, false, cond, not, ◌&&◌, ◌||◌, List, [], ◌∷◌, ◌++◌, length, length-append, take, reverse, arith, codes, bytes_eq, Option, Some, None, is_some}
-use Rattle.std.specs.Prelude.{IsTrue, IsSome, nat_lt, nat_le}
-use Rattle.std.specs.List.{list_any, list_all, slice_split, onto_first, prefix_len, suffix_len}
+use Rattle.std.proofs.Common.{◌≡◌, ◌≢◌, refl, sym, ◌∙◌, ap, ℕ, ◌+◌, ◌-◌, ◌≤◌, Bool, true, false, cond, not, ◌&&◌, [], ◌∷◌, ◌++◌, length, length-append, take, reverse, arith, codes, Option, Some, None, is_some}
+use Rattle.std.specs.Prelude.{IsTrue, IsSome, nat_le}
+use Rattle.std.specs.List.{list_all, slice_split, prefix_len, suffix_len}
 use Rattle.std.specs.FinMap.{get, insert}
 use Rattle.std.proofs.lemmas.List.{reverse-append, take-append-le}
-use Rattle.std.proofs.lemmas.List.Folds.{list_any-append}
-use Rattle.std.proofs.lemmas.Bool.Decides.{nat_tests}
-use Rattle.std.proofs.lemmas.Bool.{not-true, and_parts}
-use Rattle.std.proofs.lemmas.Slice.Eq.{bytes_eq-Decides}
+use Rattle.std.proofs.lemmas.Bool.{and_parts}
 use Rattle.gix_ref_file.specs.Tree.{Tree, Node, file, folder, is_slash, is_component, is_path, parent, bytes_of, node_at, is_folder, IsRooted, max_path}
 use Rattle.gix_ref_file.specs.Changes.{to_rename, allows, is_file_at, may_hold_file}
 use Rattle.gix_ref_file.proofs.Rooted.{file_room}
 use Rattle.gix_ref_file.proofs.Trees.{room_after_insert}
 use Rattle.history_model.specs.Bytes.{Bytes}
+use Rattle.history_model.proofs.LockPaths.{lock_is_path}
 use Rattle.history_model.specs.Places.{file_at, is_log_place}
 use Rattle.history_model.specs.Recovery.{is_deserted, recovered_files, recovered_names}
 use Rattle.gix_hash.specs.declared.kind.Kind.{Kind}
@@ -21,68 +19,13 @@ use Rattle.history_recovery.specs.Clearing.{lock_place, is_over, AreAllKept}
 use Rattle.history_recovery.proofs.Locks.{logs_have_room}
 use Rattle.history_recovery.proofs.Left.{stays, left_is, not_some}
 
+lock_path : (path : Bytes) → IsTrue (is_path path) → length (lock_place path) ≤ max_path → IsTrue (is_path (lock_place path))
+lock_path path is short = lock_is_path path (and_parts (nat_le (length path) max_path) (list_all is_component (slice_split is_slash path)) is).1 short
+
+-- ---- it is in the log's folder
 abbrev lock_end : Bytes
 lock_end = codes ".lock"
 
--- ---- it is a path
-abbrev onto_last : List Bytes → List Bytes
-onto_last [] = lock_end ∷ []
-onto_last (part ∷ []) = (part ++ lock_end) ∷ []
-onto_last (part ∷ next ∷ parts) = part ∷ onto_last (next ∷ parts)
-
-none_split : (b : ℕ) (text : Bytes) → slice_split is_slash text ≢ []
-none_split b text is = some text is
-  where
-    some : (t : Bytes) → slice_split is_slash t ≡ [] → ⊥
-    some [] e = cc
-    some (c ∷ t) e = go (is_slash c) (slice_split is_slash t) e
-      where
-        go : (s : Bool) (parts : List Bytes) → cond s ([] ∷ parts) (onto_first c parts) ≡ [] → ⊥
-        go true parts e = cc
-        go false [] e = cc
-        go false (part ∷ parts) e = cc
-
-split_locked : (name : Bytes) → slice_split is_slash (name ++ lock_end) ≡ onto_last (slice_split is_slash name)
-split_locked [] = refl
-split_locked (b ∷ name) = go (is_slash b) (slice_split is_slash name) refl (split_locked name)
-  where
-    go : (s : Bool) (parts : List Bytes) → slice_split is_slash name ≡ parts → slice_split is_slash (name ++ lock_end) ≡ onto_last (slice_split is_slash name)
-        → cond s ([] ∷ slice_split is_slash (name ++ lock_end)) (onto_first b (slice_split is_slash (name ++ lock_end))) ≡ onto_last (cond s ([] ∷ slice_split is_slash name) (onto_first b (slice_split is_slash name)))
-    go s [] e ih = absurd (none_split b name e)
-    go true (part ∷ parts) e ih = ap (λ ps. [] ∷ ps) (ih ∙ ap onto_last e) ∙ ap (λ ps. onto_last ([] ∷ ps)) (sym e)
-    go false (part ∷ []) e ih = ap (onto_first b) (ih ∙ ap onto_last e) ∙ ap (λ ps. onto_last (onto_first b ps)) (sym e)
-    go false (part ∷ next ∷ parts) e ih = ap (onto_first b) (ih ∙ ap onto_last e) ∙ ap (λ ps. onto_last (onto_first b ps)) (sym e)
-
-no_dots : (part dots : Bytes) → length dots ≤ 2 → not (bytes_eq (part ++ lock_end) dots) ≡ true
-no_dots part dots few = by_test (bytes_eq (part ++ lock_end) dots) refl
-  where
-    by_test : (b : Bool) → bytes_eq (part ++ lock_end) dots ≡ b → not b ≡ true
-    by_test false apart = refl
-    by_test true same = absurd (omega (arith, few, ap length ((bytes_eq-Decides (part ++ lock_end) dots).0 same), length-append part lock_end))
-
-locked_part : (part : Bytes) → is_component part ≡ true → is_component (part ++ lock_end) ≡ true
-locked_part part is =
-    let clean = not-true (list_any (λ byte. byte == 0) part) (and_parts _ (not (list_any (λ byte. byte == 0) part)) is).1 in
-    let some : nat_lt 0 (length (part ++ lock_end)) ≡ true = grind (arith, nat_tests, length-append part lock_end) in
-    let free : list_any (λ byte. byte == 0) (part ++ lock_end) ≡ false = list_any-append (λ byte. byte == 0) part lock_end ∙ ap (λ b. b || list_any (λ byte. byte == 0) lock_end) clean in
-    λ i. some i && no_dots part (codes ".") (omega arith) i && no_dots part (codes "..") (omega arith) i && not (free i)
-
-locked_parts : (parts : List Bytes) → parts ≢ [] → list_all is_component parts ≡ true → list_all is_component (onto_last parts) ≡ true
-locked_parts [] some are = absurd (some refl)
-locked_parts (part ∷ []) some are = ap (λ b. b && true) (locked_part part (and_parts (is_component part) true are).0)
-locked_parts (part ∷ next ∷ parts) some are =
-    let both = and_parts (is_component part) (list_all is_component (next ∷ parts)) are in
-    λ i. both.0 i && locked_parts (next ∷ parts) (λ e. cc) both.1 i
-
-fits : (n : ℕ) → n ≤ 4096 → nat_le n 4096 ≡ true
-fits n few = grind (arith, nat_tests)
-
-pub lock_path : (path : Bytes) → IsTrue (is_path path) → length (lock_place path) ≤ max_path → IsTrue (is_path (lock_place path))
-lock_path path is short =
-    let parts = ap (list_all is_component) (split_locked path) ∙ locked_parts (slice_split is_slash path) (none_split 0 path) (and_parts (nat_le (length path) max_path) (list_all is_component (slice_split is_slash path)) is).1 in
-    λ i. fits (length (lock_place path)) short i && parts i
-
--- ---- it is in the log's folder
 lock_beside : (name : Bytes) → parent (lock_place name) ≡ parent name
 lock_beside name = ap (λ n. take n (name ++ lock_end)) (omega (arith, longer, length-append name lock_end)) ∙ take-append-le (length name - suffix_len (λ byte. not (is_slash byte)) name - 1) name lock_end (omega arith)
   where
