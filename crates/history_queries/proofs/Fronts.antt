@@ -44,14 +44,14 @@ front_read text buffer read front room count is filled told size =
 
 -- ---- a front that is all of its text
 
-within : (text : Bytes) (short : Bool) → nat_le (length text) 1024 ≡ short → (length (take 1024 text) ≡ 1024 → ⊥) → length text ≤ 1024
+within : (text : Bytes) (short : Bool) → nat_le (length text) 16384 ≡ short → (length (take 16384 text) ≡ 16384 → ⊥) → length text ≤ 16384
 within text true is other = grind (arith, tests, is)
-within text false is other = let long : 1024 ≤ length text = grind (arith, tests, is) in absurd (other (length-take-le 1024 text long))
+within text false is other = let long : 16384 ≤ length text = grind (arith, tests, is) in absurd (other (length-take-le 16384 text long))
 
-pub front_whole : (kind : Kind) (value : Value) (front : Bytes) → front ≡ front_of kind value → (length front ≡ 1024 → ⊥) → front ≡ value_text kind value
+pub front_whole : (kind : Kind) (value : Value) (front : Bytes) → front ≡ front_of kind value → (length front ≡ 16384 → ⊥) → front ≡ value_text kind value
 front_whole kind value front is other =
     let text = value_text kind value in
-    is ∙ take_all 1024 text (within text (nat_le (length text) 1024) refl (λ full. other (ap length is ∙ full)))
+    is ∙ take_all 16384 text (within text (nat_le (length text) 16384) refl (λ full. other (ap length is ∙ full)))
 
 -- what follows its header is its content
 pub content_told : (kind : Kind) (value : Value) (front : Bytes) (object : ObjectKind) (content : Bytes) → front ≡ value_text kind value → front ≡ object_text object content → content ≡ content_of kind value

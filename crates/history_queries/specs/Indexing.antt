@@ -22,4 +22,4 @@ pub record AreToldOf (r : Repository) (ids : List ObjectId) (told : List Told) :
 
 -- the first bytes of a value's text
 abbrev pub front_of : Kind → Value → Bytes
-front_of kind value = take 1024 (value_text kind value)
+front_of kind value = take 16384 (value_text kind value)

@@ -31,8 +31,9 @@ use std::alloc::{AllocError, Global};
 /// How a commit's text begins, and that of no other object.
 const COMMIT_FRONT: &[u8] = b"commit ";
 
-/// How many bytes of an object's text are read first: the whole text of most commits is shorter.
-const FRONT_LENGTH: usize = 1024;
+/// How many bytes of an object's text are read first: the whole text of nearly every commit is
+/// shorter, and nothing more of that is read then.
+const FRONT_LENGTH: usize = 16384;
 
 /// The ids of commits, and the contents of those among them that have no rows.
 #[derive(Drop)]

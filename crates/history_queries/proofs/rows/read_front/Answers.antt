@@ -27,7 +27,7 @@ returns g c = λ r value stands at.
     let read = c.read_at.new.buffer in
     let filled : take c.in_ok-front.front.len (read ++ drop (length read) c.in_ok-front.front.items) ≡ read =
     take_at read (drop (length read) c.in_ok-front.front.items) c.in_ok-front.front.len (omega (arith, c.in_ok-read_at.ensures.len, c.deref_mut.ensures.len)) in
-    front_read (value_text r.kind value) buffer read c.truncate.new.self.items 1024 c.unwrap_or-count.result (c.truncate.ensures.items ∙ ap (take c.unwrap_or-count.result) filled)
+    front_read (value_text r.kind value) buffer read c.truncate.new.self.items 16384 c.unwrap_or-count.result (c.truncate.ensures.items ∙ ap (take c.unwrap_or-count.result) filled)
     (c.in_ok-read_at.ensures.bytes honest ∙ ap (λ (bytes : List ℕ). overwritten buffer (part bytes 0 (length buffer))) text)
     (c.unwrap_or-count.ensures ∙ ap (λ o. unwrap_or o 0) (c.in_ok-read_at.ensures.count honest) ∙ counted (bytes_of (node_at (history c.files-files.result.now).tree c.deref.result.now)) (length buffer) ∙ ap (λ (bytes : List ℕ). length (part bytes 0 (length buffer))) text)
     (omega (arith, c.deref_mut.ensures.len, c.in_ok-front.ensures.len))
