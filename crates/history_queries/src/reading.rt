@@ -24,7 +24,7 @@ use gix_hash::ObjectId;
 use gix_object::Commit;
 use gix_ref_file::Files;
 use gix_traverse_graph::Graph;
-use history_files::{File, files};
+use history_files::{File, files_by_trees};
 use history_model::Fault;
 use history_repository::{MeantCommit, Repository, Stopped, content};
 use history_store::parse_commit;
@@ -109,8 +109,8 @@ pub(crate) fn commit_kept<F: Files>(
     }
 }
 
-/// Returns the files below a stored tree, their paths ascending. No content of theirs is read. The
-/// faults are those of `read_commit`.
+/// Returns the files below a stored tree, their paths ascending. Each different tree is read once,
+/// however often it occurs; no content of theirs is read. The faults are those of `read_commit`.
 pub(crate) fn files_below<F: Files>(
     repository: &Repository<F>,
     alloc: Global,
@@ -121,7 +121,7 @@ pub(crate) fn files_below<F: Files>(
         → GivesMeant F.reading_may_fail (λ found. map line_of found.items
         ≡ map (file_line r.kind) (entries below)) result }
 {
-    Ok(files(alloc, &repository.objects, tree)?)
+    Ok(files_by_trees(alloc, &repository.objects, tree)?)
 }
 
 /// Returns the rows that are kept again; no row is copied.
