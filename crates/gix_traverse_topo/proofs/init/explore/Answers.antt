@@ -21,35 +21,16 @@ returns-clause-explored g c =
     let (high, full, walking) = c.in_ok-walk.ensures.walking in
     let by_rows = subst (λ (ro : Option (List Row)). Walking (g.F.Lookup.is_honest c.explore_ends.new.source.objects) (g.F.Lookup.may_fail c.explore_ends.new.source.objects) (rows_of ro) (g.F.Lookup.table c.explore_ends.new.source.objects) c.args.parents c.args.tips.now old.ids.keys old.nodes.items high mid.ids.keys mid.nodes.items) c.in_ok-known.ensures.rows walking in
     let w = subst (λ (ob : g.row.F.Denot). Walking (g.F.Lookup.is_honest ob) (g.F.Lookup.may_fail ob) rows (g.F.Lookup.table ob) c.args.parents c.args.tips.now old.ids.keys old.nodes.items high mid.ids.keys mid.nodes.items) c.in_ok-known.ensures.objects by_rows in
-    let all = explored honest may_fail rows table c.args.tips.now c.args.ends.now c.args.parents old mid high c.in_ok-known.ensures.painted w full c.in_ok-walk.ensures.hidden in
-    all
+    explored honest may_fail rows table c.args.tips.now c.args.ends.now c.args.parents old mid high c.in_ok-known.ensures.painted w full c.in_ok-walk.ensures.hidden
 
 pub returns-clause-counted : goal.returns-clause-counted
 returns-clause-counted g c =
-    let honest = g.F.Lookup.is_honest c.args.source.now.objects in
-    let may_fail = g.F.Lookup.may_fail c.args.source.now.objects in
-    let rows = rows_of c.args.source.now.rows in
-    let table = g.F.Lookup.table c.args.source.now.objects in
-    let old : Known = c.in_ok-known.known in
-    let mid : Known = c.walk.new.self in
-    let (high, full, walking) = c.in_ok-walk.ensures.walking in
-    let by_rows = subst (λ (ro : Option (List Row)). Walking (g.F.Lookup.is_honest c.explore_ends.new.source.objects) (g.F.Lookup.may_fail c.explore_ends.new.source.objects) (rows_of ro) (g.F.Lookup.table c.explore_ends.new.source.objects) c.args.parents c.args.tips.now old.ids.keys old.nodes.items high mid.ids.keys mid.nodes.items) c.in_ok-known.ensures.rows walking in
-    let w = subst (λ (ob : g.row.F.Denot). Walking (g.F.Lookup.is_honest ob) (g.F.Lookup.may_fail ob) rows (g.F.Lookup.table ob) c.args.parents c.args.tips.now old.ids.keys old.nodes.items high mid.ids.keys mid.nodes.items) c.in_ok-known.ensures.objects by_rows in
-    let all = explored honest may_fail rows table c.args.tips.now c.args.ends.now c.args.parents old mid high c.in_ok-known.ensures.painted w full c.in_ok-walk.ensures.hidden in
+    let all = returns-clause-explored g c in
     omega (arith, c.in_ok-walk.ensures.counted, c.in_ok-known.ensures.counted, c.in_ok-known.ensures.painted.all_read, all.all_read)
 
 pub returns-clause-each : goal.returns-clause-each
 returns-clause-each g c = λ bare zero.
-    let honest = g.F.Lookup.is_honest c.args.source.now.objects in
-    let may_fail = g.F.Lookup.may_fail c.args.source.now.objects in
-    let rows = rows_of c.args.source.now.rows in
-    let table = g.F.Lookup.table c.args.source.now.objects in
-    let old : Known = c.in_ok-known.known in
-    let mid : Known = c.walk.new.self in
-    let (high, full, walking) = c.in_ok-walk.ensures.walking in
-    let by_rows = subst (λ (ro : Option (List Row)). Walking (g.F.Lookup.is_honest c.explore_ends.new.source.objects) (g.F.Lookup.may_fail c.explore_ends.new.source.objects) (rows_of ro) (g.F.Lookup.table c.explore_ends.new.source.objects) c.args.parents c.args.tips.now old.ids.keys old.nodes.items high mid.ids.keys mid.nodes.items) c.in_ok-known.ensures.rows walking in
-    let w = subst (λ (ob : g.row.F.Denot). Walking (g.F.Lookup.is_honest ob) (g.F.Lookup.may_fail ob) rows (g.F.Lookup.table ob) c.args.parents c.args.tips.now old.ids.keys old.nodes.items high mid.ids.keys mid.nodes.items) c.in_ok-known.ensures.objects by_rows in
-    let all = explored honest may_fail rows table c.args.tips.now c.args.ends.now c.args.parents old mid high c.in_ok-known.ensures.painted w full c.in_ok-walk.ensures.hidden in
+    let all = returns-clause-explored g c in
     let bare' = subst (λ (ro : Option (List Row)). (x : ObjectId) → Holds (rows_of ro) x → ⊥) (sym c.in_ok-known.ensures.rows) bare in
     let first = c.in_ok-known.ensures.each bare zero in
     let each = c.in_ok-walk.ensures.each c.in_ok-known.ensures.painted.all_read bare' (omega (arith, first, c.in_ok-known.ensures.painted.all_read)) in

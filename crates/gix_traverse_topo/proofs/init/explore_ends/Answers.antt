@@ -1,66 +1,51 @@
-use Rattle.std.proofs.Common.{◌≡◌, ◌∙◌, List, [], inl, inr, length, refl, ap, sym, subst, arith}
+use Rattle.std.proofs.Common.{ℕ, ◌≡◌, ◌∙◌, List, [], inl, inr, length, refl, ap, sym, subst, arith}
 use Rattle.std.proofs.lemmas.Result.{err_from_is_err_and}
 use Rattle.gix_hash.specs.declared.object_id.ObjectId.{ObjectId}
 use Rattle.gix_traverse_commit_known.specs.Meeting.{CountsAll}
 use Rattle.gix_traverse_graph.specs.Rows.{AllHeld}
+use Rattle.gix_object_lookup.specs.Table.{Table}
 use Rattle.gix_traverse_commit_known.specs.Told.{rows_of}
 use Rattle.gix_traverse_graph.specs.declared.rows.Row.{Row}
 use Rattle.gix_traverse_graph.proofs.Lists.{at_from_contains, none_at_nil}
 use Rattle.gix_traverse_graph.specs.declared.parents.Parents.TheVariants.{All}
 use Rattle.gix_traverse_topo.specs.Walking.{Walking}
+use Rattle.gix_traverse_topo.specs.declared.known.Known.{Known}
 use Rattle.gix_traverse_topo.specs.declared.known.Node.{Node}
 use Rattle.gix_traverse_topo.proofs.Exploring.{painted, stops, as_many}
 use Rattle.gix_traverse_topo.proofs.init.explore_ends.Goals as goal
 
+module _ {honest may_fail : Type 0} {rows : List Row} {table : Table} {ends keys : List ObjectId} {nodes : List Node} {high : ℕ} (known : Known) where
+  -- a walk that begins with no name and no node
+  from_none : known.ids.keys ≡ [] → known.nodes.items ≡ [] → Walking honest may_fail rows table All ends known.ids.keys known.nodes.items high keys nodes → Walking honest may_fail rows table All ends [] [] high keys nodes
+  from_none ids none walking =
+      subst (λ (ks : List ObjectId). Walking honest may_fail rows table All ends ks [] high keys nodes) ids
+      (subst (λ (ns : List Node). Walking honest may_fail rows table All ends known.ids.keys ns high keys nodes) none walking)
+
 pub returns-in-Some-clause-refused : goal.returns-in-Some-clause-refused
 returns-in-Some-clause-refused g c =
-    let honest = g.F.Lookup.is_honest c.args.source.now.objects in
-    let may_fail = g.F.Lookup.may_fail c.args.source.now.objects in
-    let rows = rows_of c.args.source.now.rows in
-    let table = g.F.Lookup.table c.args.source.now.objects in
-    let keys : List ObjectId = c.walk.new.self.ids.keys in
-    let nodes : List Node = c.walk.new.self.nodes.items in
     let (high, full, walking) = c.in_ok-walk.ensures.walking in
-    let w : Walking honest may_fail rows table All c.args.ends.now [] [] high keys nodes = subst (λ (ks : List ObjectId). Walking honest may_fail rows table All c.args.ends.now ks [] high keys nodes) c.new-known.ensures.ids (subst (λ (ns : List Node). Walking honest may_fail rows table All c.args.ends.now c.new-known.result.ids.keys ns high keys nodes) c.new-known.ensures.nodes walking) in
+    let w = from_none c.new-known.result c.new-known.ensures.ids c.new-known.ensures.nodes walking in
     let (n, facts, a, e) = c.in-Some.ensures.fault in
-    inr (stops honest may_fail rows table c.args.ends.now keys nodes high w full n facts c.in-Some.error a e)
+    inr (stops _ _ _ _ c.args.ends.now _ _ high w full n facts c.in-Some.error a e)
 
 pub returns-in-None-clause-painted : goal.returns-in-None-clause-painted
 returns-in-None-clause-painted g c =
-    let honest = g.F.Lookup.is_honest c.args.source.now.objects in
-    let may_fail = g.F.Lookup.may_fail c.args.source.now.objects in
-    let rows = rows_of c.args.source.now.rows in
-    let table = g.F.Lookup.table c.args.source.now.objects in
-    let keys : List ObjectId = c.walk.new.self.ids.keys in
-    let nodes : List Node = c.walk.new.self.nodes.items in
     let (high, full, walking) = c.in_ok-walk.ensures.walking in
-    let w : Walking honest may_fail rows table All c.args.ends.now [] [] high keys nodes = subst (λ (ks : List ObjectId). Walking honest may_fail rows table All c.args.ends.now ks [] high keys nodes) c.new-known.ensures.ids (subst (λ (ns : List Node). Walking honest may_fail rows table All c.args.ends.now c.new-known.result.ids.keys ns high keys nodes) c.new-known.ensures.nodes walking) in
-    painted honest may_fail rows table c.args.ends.now keys nodes high w full (record { ids = c.walk.new.self.ids; nodes = c.walk.new.self.nodes; hidden = c.len.result }) refl refl c.len.ensures.len c.in-None.ensures.none
+    let w = from_none c.new-known.result c.new-known.ensures.ids c.new-known.ensures.nodes walking in
+    painted _ _ _ _ c.args.ends.now _ _ high w full (record { ids = c.walk.new.self.ids; nodes = c.walk.new.self.nodes; hidden = c.len.result }) refl refl c.len.ensures.len c.in-None.ensures.none
 
 pub returns-in-None-clause-counted : goal.returns-in-None-clause-counted
 returns-in-None-clause-counted g c =
-    let honest = g.F.Lookup.is_honest c.args.source.now.objects in
-    let may_fail = g.F.Lookup.may_fail c.args.source.now.objects in
-    let rows = rows_of c.args.source.now.rows in
-    let table = g.F.Lookup.table c.args.source.now.objects in
-    let keys : List ObjectId = c.walk.new.self.ids.keys in
-    let nodes : List Node = c.walk.new.self.nodes.items in
     let (high, full, walking) = c.in_ok-walk.ensures.walking in
-    let w : Walking honest may_fail rows table All c.args.ends.now [] [] high keys nodes = subst (λ (ks : List ObjectId). Walking honest may_fail rows table All c.args.ends.now ks [] high keys nodes) c.new-known.ensures.ids (subst (λ (ns : List Node). Walking honest may_fail rows table All c.args.ends.now c.new-known.result.ids.keys ns high keys nodes) c.new-known.ensures.nodes walking) in
-    let many : length nodes ≡ length keys = as_many honest may_fail rows table c.args.ends.now keys nodes high w full in
+    let w = from_none c.new-known.result c.new-known.ensures.ids c.new-known.ensures.nodes walking in
+    let many = as_many _ _ _ _ c.args.ends.now _ _ high w full in
     omega (arith, c.in_ok-walk.ensures.counted, many)
 
 pub returns-in-None-clause-each : goal.returns-in-None-clause-each
 returns-in-None-clause-each g c = λ bare zero.
-    let honest = g.F.Lookup.is_honest c.args.source.now.objects in
-    let may_fail = g.F.Lookup.may_fail c.args.source.now.objects in
-    let rows = rows_of c.args.source.now.rows in
-    let table = g.F.Lookup.table c.args.source.now.objects in
-    let keys : List ObjectId = c.walk.new.self.ids.keys in
-    let nodes : List Node = c.walk.new.self.nodes.items in
     let (high, full, walking) = c.in_ok-walk.ensures.walking in
-    let w : Walking honest may_fail rows table All c.args.ends.now [] [] high keys nodes = subst (λ (ks : List ObjectId). Walking honest may_fail rows table All c.args.ends.now ks [] high keys nodes) c.new-known.ensures.ids (subst (λ (ns : List Node). Walking honest may_fail rows table All c.args.ends.now c.new-known.result.ids.keys ns high keys nodes) c.new-known.ensures.nodes walking) in
-    let many : length nodes ≡ length keys = as_many honest may_fail rows table c.args.ends.now keys nodes high w full in
+    let w = from_none c.new-known.result c.new-known.ensures.ids c.new-known.ensures.nodes walking in
+    let many = as_many _ _ _ _ c.args.ends.now _ _ high w full in
     let none : length c.new-known.result.nodes.items ≡ 0 = ap length c.new-known.ensures.nodes in
     let none_either : length c.new-known.result.ids.keys ≡ 0 = ap length c.new-known.ensures.ids in
     let each = c.in_ok-walk.ensures.each (none ∙ sym none_either) bare (omega (arith, zero)) in
