@@ -17,5 +17,6 @@ pub mod Gotten
 pub mod Standing
 pub mod Entered
 pub mod Raised
+pub mod Refused
 pub mod Grafted
 pub mod WrittenEditor

@@ -17,8 +17,8 @@ use Rattle.gix_object_editor.proofs.Entered.{none_met, made_keeps, no_folder_at_
 use Rattle.gix_object_editor.proofs.Raised.{made_folders, stood_folders}
 use Rattle.gix_object_editor.specs.Laid.{made_at}
 use Rattle.gix_object_editor.proofs.SlotChange.{way_above}
-use Rattle.gix_object_editor.proofs.Marked.{opened_marked, laid_marked, read_same, marks_then}
-use Rattle.gix_object_editor.proofs.Changes.{opened_changed, failed_changed, laid_as_read, laid_changed, opened_same_changed, SameChanged, one_more_left, begins}
+use Rattle.gix_object_editor.proofs.Marked.{keeps_then, opened_marked, laid_marked, marks_then}
+use Rattle.gix_object_editor.proofs.Changes.{opened_changed, laid_as_read, laid_changed, opened_same_changed, SameChanged, one_more_left, begins}
 use Rattle.gix_object_editor.proofs.Opening.{opened_then, as_function}
 use Rattle.gix_object_editor.proofs.Edits.{rest_is, first_left, stopped_tree, end_tree, leads_into, edit_fault}
 use Rattle.gix_object_editor.proofs.Walked.{names, names_length, leads_kept, folder_found}
@@ -29,6 +29,7 @@ use Rattle.gix_object_editor.specs.Entries.{EachHas, MayStandMade}
 use Rattle.gix_object_editor.proofs.Kept.{made_drop, full_rest}
 use Rattle.gix_object_editor.specs.Asked.{front_of}
 use Rattle.gix_object_editor.proofs.Asking.{into_asked, into_stops, walk_into_stops, some_names, late_opening, last_whole, some_all}
+use Rattle.gix_object_editor.proofs.Refused as Refused
 use Rattle.gix_object_editor.proofs.tree.editor.state.Editor.folder_at.Goals as goal
 
 pub returns-in_err-at-clause-refused : goal.returns-in_err-at-clause-refused
@@ -248,134 +249,26 @@ invariant_of-self-in-None g c =
 pub returns-in_err-at-clause-kept : goal.returns-in_err-at-clause-kept
 returns-in_err-at-clause-kept g c =
     let p = err_from_is_err_and c.from_residual-in_err-at.result c.from_residual-in_err-at.ensures.1 in
-    rw p.1 (record {
-      store =
-          refl;
-      counted =
-          omega (arith, c.in_err-at.ensures.counted);
-      as_read =
-          λ honest trees has read. c.in_err-at.ensures.kept.as_read honest trees has read;
-      named =
-          tt;
-      full =
-          inr c.in_ok-check_names.ensures.ok;
-      unchanged =
-          λ honest trees has q. c.in_err-at.ensures.opened.files honest trees has q 0 c.args.self.now.forest.rooted;
-      same_entries =
-          λ honest.
-          λ trees has q. c.in_err-at.ensures.opened.entries honest trees has none_met q 0 c.args.self.now.forest.rooted;
-      still =
-          λ tree is. opened_changed (slots_of c.args.self.now.nodes.items) (slots_of c.walk.new.nodes.items) (marks_of c.args.self.now.nodes.items) (marks_of c.walk.new.nodes.items)
-          (length c.args.self.now.nodes.items) (length c.walk.new.nodes.items) c.in_err-at.ensures.opened.forest c.in_err-at.ensures.kept.marks tree is.0 is.1 is.2;
-    })
+    rw p.1 (Refused.stopped g.S.Lookup.is_honest g.S.Lookup.table c.args.path.now c.args.self.now _ refl (omega (arith, c.in_err-at.ensures.counted)) c.in_ok-check_names.ensures.ok _ c.walk.new.nodes.items c.in_err-at.ensures.opened c.in_err-at.ensures.kept (search rules))
 
 pub returns-in_err-found-clause-kept : goal.returns-in_err-found-clause-kept
 returns-in_err-found-clause-kept g c =
     let p = err_from_is_err_and c.from_residual-in_err-found.result c.from_residual-in_err-found.ensures.1 in
-    rw p.1 (record {
-      store =
-          refl;
-      counted =
-          omega (arith, c.in_ok-at.ensures.counted, c.in_err-found.ensures.counted);
-      as_read =
-          λ honest trees has read. c.in_err-found.ensures.kept.as_read honest trees has (c.in_ok-at.ensures.kept.as_read honest trees has read);
-      named =
-          tt;
-      full =
-          inr c.in_ok-check_names.ensures.ok;
-      unchanged =
-          λ honest.
-          let old = c.args.self.now.nodes.items in
-          let mid = c.walk.new.nodes.items in
-          let new = c.folder_below.new.nodes.items in
-          let opened = opened_then _ _ (slots_of old) (slots_of mid) (slots_of new) (length old) (length mid) (length new) c.in_ok-at.ensures.opened c.in_err-found.ensures.opened in
-          λ trees has q. opened.files honest trees has q 0 c.args.self.now.forest.rooted;
-      same_entries =
-          λ honest.
-          let old = c.args.self.now.nodes.items in
-          let mid = c.walk.new.nodes.items in
-          let new = c.folder_below.new.nodes.items in
-          let opened = opened_then _ _ (slots_of old) (slots_of mid) (slots_of new) (length old) (length mid) (length new) c.in_ok-at.ensures.opened c.in_err-found.ensures.opened in
-          λ trees has q. opened.entries honest trees has none_met q 0 c.args.self.now.forest.rooted;
-      still =
-          let old = c.args.self.now.nodes.items in
-          let mid = c.walk.new.nodes.items in
-          let new = c.folder_below.new.nodes.items in
-          let both = marks_then false (slots_of old) (slots_of mid) (slots_of new) (marks_of old) (marks_of mid) (marks_of new) (length old) (length mid) (length new)
-          c.in_ok-at.ensures.opened.longer c.in_err-found.ensures.opened.longer c.in_ok-at.ensures.kept.marks c.in_err-found.ensures.kept.marks in
-          λ tree is. opened_changed (slots_of old) (slots_of new) (marks_of old) (marks_of new) (length old) (length new) c.in_err-found.ensures.opened.forest both tree is.0 is.1 is.2;
-    })
+    rw p.1 (Refused.stopped g.S.Lookup.is_honest g.S.Lookup.table c.args.path.now c.args.self.now _ refl (omega (arith, c.in_ok-at.ensures.counted, c.in_err-found.ensures.counted)) c.in_ok-check_names.ensures.ok _ c.folder_below.new.nodes.items
+    (opened_then _ _ (slots_of c.args.self.now.nodes.items) (slots_of c.walk.new.nodes.items) (slots_of c.folder_below.new.nodes.items) (length c.args.self.now.nodes.items) (length c.walk.new.nodes.items) (length c.folder_below.new.nodes.items) c.in_ok-at.ensures.opened c.in_err-found.ensures.opened)
+    (keeps_then (g.S.Lookup.is_honest c.args.self.now.store) (g.S.Lookup.table c.args.self.now.store) c.args.self.now.nodes.items c.walk.new.nodes.items c.folder_below.new.nodes.items c.in_ok-at.ensures.opened.longer c.in_err-found.ensures.opened.longer c.in_ok-at.ensures.kept c.in_err-found.ensures.kept) (search rules))
 
 pub returns-in_err-made-in-None-clause-kept : goal.returns-in_err-made-in-None-clause-kept
 returns-in_err-made-in-None-clause-kept g c =
     let p = err_from_is_err_and c.from_residual-in_err-made-in-None.result c.from_residual-in_err-made-in-None.ensures.1 in
-    rw p.1 (record {
-      store =
-          refl;
-      counted =
-          omega (arith, c.in_ok-at.ensures.counted, c.in_ok-found.ensures.counted);
-      as_read =
-          λ honest trees has read.
-          let new = c.folder_below.new.nodes.items in
-          let mk = c.make_folders.new.nodes.items in
-          read_same trees (slots_of new) (slots_of mk) (marks_of new) (marks_of mk) (length new) c.in_ok-found.ensures.opened.forest (as_function (slots_of mk) (slots_of new) c.in_err-made-in-None.ensures.err) c.make_folders.ensures.marks.same
-          (c.in_ok-found.ensures.kept.as_read honest trees has (c.in_ok-at.ensures.kept.as_read honest trees has read));
-      named =
-          tt;
-      full =
-          inr c.in_ok-check_names.ensures.ok;
-      unchanged =
-          λ honest.
-          let old = c.args.self.now.nodes.items in
-          let mid = c.walk.new.nodes.items in
-          let new = c.folder_below.new.nodes.items in
-          let mk = c.make_folders.new.nodes.items in
-          let opened = opened_then _ _ (slots_of old) (slots_of mid) (slots_of new) (length old) (length mid) (length new) c.in_ok-at.ensures.opened c.in_ok-found.ensures.opened in
-          λ trees has q.
-          ap (λ f. files_of_node trees f 0 q) (as_function (slots_of mk) (slots_of new) c.in_err-made-in-None.ensures.err)
-          ∙ opened.files honest trees has q 0 c.args.self.now.forest.rooted;
-      same_entries =
-          λ honest.
-          let old = c.args.self.now.nodes.items in
-          let mid = c.walk.new.nodes.items in
-          let new = c.folder_below.new.nodes.items in
-          let mk = c.make_folders.new.nodes.items in
-          let opened = opened_then _ _ (slots_of old) (slots_of mid) (slots_of new) (length old) (length mid) (length new) c.in_ok-at.ensures.opened c.in_ok-found.ensures.opened in
-          λ trees has q.
-          ap (λ f. entry_from none_met trees f 0 q) (as_function (slots_of mk) (slots_of new) c.in_err-made-in-None.ensures.err)
-          ∙ opened.entries honest trees has none_met q 0 c.args.self.now.forest.rooted;
-      still =
-          let old = c.args.self.now.nodes.items in
-          let mid = c.walk.new.nodes.items in
-          let new = c.folder_below.new.nodes.items in
-          let both = marks_then false (slots_of old) (slots_of mid) (slots_of new) (marks_of old) (marks_of mid) (marks_of new) (length old) (length mid) (length new)
-          c.in_ok-at.ensures.opened.longer c.in_ok-found.ensures.opened.longer c.in_ok-at.ensures.kept.marks c.in_ok-found.ensures.kept.marks in
-          let mk = c.make_folders.new.nodes.items in
-          λ tree is.
-          failed_changed (slots_of old) (slots_of new) (slots_of mk) (marks_of old) (marks_of new) (marks_of mk) (length old) (length new) (length mk) c.in_ok-found.ensures.opened.forest both c.make_folders.ensures.marks
-          (as_function (slots_of mk) (slots_of new) c.in_err-made-in-None.ensures.err) tree is.0 is.1 is.2;
-    })
+    rw p.1 (Refused.failed g.S.Lookup.is_honest g.S.Lookup.table c.args.path.now c.args.self.now _ refl (omega (arith, c.in_ok-at.ensures.counted, c.in_ok-found.ensures.counted)) c.in_ok-check_names.ensures.ok _ c.folder_below.new.nodes.items
+    (opened_then _ _ (slots_of c.args.self.now.nodes.items) (slots_of c.walk.new.nodes.items) (slots_of c.folder_below.new.nodes.items) (length c.args.self.now.nodes.items) (length c.walk.new.nodes.items) (length c.folder_below.new.nodes.items) c.in_ok-at.ensures.opened c.in_ok-found.ensures.opened)
+    (keeps_then (g.S.Lookup.is_honest c.args.self.now.store) (g.S.Lookup.table c.args.self.now.store) c.args.self.now.nodes.items c.walk.new.nodes.items c.folder_below.new.nodes.items c.in_ok-at.ensures.opened.longer c.in_ok-found.ensures.opened.longer c.in_ok-at.ensures.kept c.in_ok-found.ensures.kept)
+    c.make_folders.ensures.marks c.in_err-made-in-None.ensures.err)
 
 pub returns-in-Some-clause-kept : goal.returns-in-Some-clause-kept
-returns-in-Some-clause-kept g c =
-    record {
-      store =
-          refl;
-      counted =
-          omega (arith, c.in_ok-at.ensures.counted, c.in_ok-found.ensures.counted);
-      as_read =
-          λ honest trees has read. c.in_ok-found.ensures.kept.as_read honest trees has (c.in_ok-at.ensures.kept.as_read honest trees has read);
-      named =
-          c.in_ok-check_names.ensures.ok;
-      full =
-          tt;
-      unchanged =
-          λ honest. tt;
-      same_entries =
-          λ honest. tt;
-      still =
-          tt;
-    }
+returns-in-Some-clause-kept g c = Refused.made g.S.Lookup.is_honest g.S.Lookup.table c.args.path.now c.args.self.now _ refl (omega (arith, c.in_ok-at.ensures.counted, c.in_ok-found.ensures.counted)) c.in_ok-check_names.ensures.ok _
+    (λ honest trees has read. c.in_ok-found.ensures.kept.as_read honest trees has (c.in_ok-at.ensures.kept.as_read honest trees has read))
 
 pub returns-in-Some-clause-made : goal.returns-in-Some-clause-made
 returns-in-Some-clause-made g c =

@@ -1,4 +1,4 @@
-use Rattle.std.proofs.Common.{ℕ, ◌⊎◌, inl, true, false, drop, refl, None, [], ◌∷◌, ◌≡◌, ◌∙◌, ◌<◌, ◌+◌, List, ap, sym, subst, arith, length, get_or, ◌≤◌, inr}
+use Rattle.std.proofs.Common.{rules, ℕ, ◌⊎◌, inl, true, false, drop, refl, None, [], ◌∷◌, ◌≡◌, ◌∙◌, ◌<◌, ◌+◌, List, ap, sym, subst, arith, length, get_or, ◌≤◌}
 use Rattle.std.specs.Borrow.{Bor}
 use Rattle.std.proofs.lemmas.Result.{err_from_is_err_and}
 use Rattle.gix_object_editor.specs.declared.tree.editor.state.Editor.{Editor}
@@ -19,6 +19,7 @@ use Rattle.gix_object_editor.proofs.SlotChange.{way_kept}
 use Rattle.gix_object_editor.proofs.Folders.{still_way}
 use Rattle.gix_object_editor.specs.Asked.{front_of, unopened_into, AsksAll}
 use Rattle.gix_object_editor.proofs.Asking.{through_asked, through_stops}
+use Rattle.gix_object_editor.proofs.Refused as Refused
 use Rattle.gix_object_editor.proofs.tree.editor.state.Editor.remove_from.Goals.{then-depth-path, else-depth-path}
 use Rattle.gix_object_editor.proofs.tree.editor.state.Editor.remove_from.Goals as goal
 
@@ -116,26 +117,7 @@ returns-clause-asked g c = λ honest trees has.
 pub returns-in_err-at-clause-kept : goal.returns-in_err-at-clause-kept
 returns-in_err-at-clause-kept g c =
     let p = err_from_is_err_and c.from_residual-in_err-at.result c.from_residual-in_err-at.ensures.1 in
-    rw p.1 (record {
-      store =
-          refl;
-      counted =
-          omega (arith, c.in_err-at.ensures.counted);
-      as_read =
-          λ honest trees has read. c.in_err-at.ensures.kept.as_read honest trees has read;
-      named =
-          tt;
-      full =
-          inr c.in_ok-check_names.ensures.ok;
-      unchanged =
-          λ honest trees has q. c.in_err-at.ensures.opened.files honest trees has q 0 c.args.self.now.forest.rooted;
-      same_entries =
-          λ honest.
-          λ trees has q. c.in_err-at.ensures.opened.entries honest trees has none_met q 0 c.args.self.now.forest.rooted;
-      still =
-          λ tree is. opened_changed (slots_of c.args.self.now.nodes.items) (slots_of c.walk.new.nodes.items) (marks_of c.args.self.now.nodes.items) (marks_of c.walk.new.nodes.items)
-          (length c.args.self.now.nodes.items) (length c.walk.new.nodes.items) c.in_err-at.ensures.opened.forest c.in_err-at.ensures.kept.marks tree is.0 is.1 is.2;
-    })
+    rw p.1 (Refused.stopped g.S.Lookup.is_honest g.S.Lookup.table c.args.path.now c.args.self.now _ refl (omega (arith, c.in_err-at.ensures.counted)) c.in_ok-check_names.ensures.ok _ c.walk.new.nodes.items c.in_err-at.ensures.opened c.in_err-at.ensures.kept (search rules))
 
 pub returns-clause-kept : goal.returns-clause-kept
 returns-clause-kept g c =

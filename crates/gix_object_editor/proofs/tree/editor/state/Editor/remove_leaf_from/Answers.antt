@@ -1,4 +1,4 @@
-use Rattle.std.proofs.Common.{refl, None, ◌⊎◌, inl, true, false, ℕ, List, ◌≡◌, ◌∙◌, ◌<◌, ◌+◌, [], ◌∷◌, ap, sym, subst, arith, length, drop, get_or, ◌≤◌, inr}
+use Rattle.std.proofs.Common.{rules, refl, None, ◌⊎◌, inl, true, false, ℕ, List, ◌≡◌, ◌∙◌, ◌<◌, ◌+◌, [], ◌∷◌, ap, sym, subst, arith, length, drop, get_or, ◌≤◌}
 use Rattle.std.specs.Borrow.{Bor}
 use Rattle.std.proofs.lemmas.Result.{err_from_is_err_and}
 use Rattle.gix_object_editor.specs.declared.tree.editor.state.Editor.{Editor}
@@ -6,7 +6,7 @@ use Rattle.gix_object_editor.specs.Editor.{files_of, entry_over, names_of, Leads
 use Rattle.gix_object_nodes.specs.Nodes.{slots_of, entry_from, files_of_node, child_of, onto, Way, LeadsTo, AreFilled, IsForest}
 use Rattle.gix_object_nodes.specs.Files.{Bytes}
 use Rattle.gix_object_nodes.specs.Marks.{marks_of, AreMarked, AreAsRead, IsMarkedFor, IsIdle, IsChangedIn}
-use Rattle.gix_object_editor.proofs.Marked.{opened_marked, marks_then}
+use Rattle.gix_object_editor.proofs.Marked.{keeps_then, opened_marked, marks_then}
 use Rattle.gix_object_editor.proofs.Changes.{opened_changed, cut_as_read, cut_changed, cut_unmarked, opened_same_changed}
 use Rattle.gix_object_editor.proofs.Standing.{nothing_idle, made_there}
 use Rattle.gix_object_editor.proofs.Entered.{none_met, cut_entries, removes_entries, removes_no_entries}
@@ -20,6 +20,7 @@ use Rattle.gix_object_editor.proofs.SlotChange.{way_kept}
 use Rattle.gix_object_editor.proofs.Folders.{still_way}
 use Rattle.gix_object_editor.specs.Asked.{unopened_into, AsksAll}
 use Rattle.gix_object_editor.proofs.Asking.{into_asked, into_stops, walk_into_stops, some_names, late_folder, front_whole}
+use Rattle.gix_object_editor.proofs.Refused as Refused
 use Rattle.gix_object_editor.proofs.tree.editor.state.Editor.remove_leaf_from.Goals.{then-depth-path+in_ok-refuse_folder, else-depth-path}
 use Rattle.gix_object_editor.proofs.tree.editor.state.Editor.remove_leaf_from.Goals as goal
 
@@ -160,61 +161,14 @@ returns-clause-asked g c = λ honest trees has.
 pub returns-in_err-at-clause-kept : goal.returns-in_err-at-clause-kept
 returns-in_err-at-clause-kept g c =
     let p = err_from_is_err_and c.from_residual-in_err-at.result c.from_residual-in_err-at.ensures.1 in
-    rw p.1 (record {
-      store =
-          refl;
-      counted =
-          omega (arith, c.in_err-at.ensures.counted);
-      as_read =
-          λ honest trees has read. c.in_err-at.ensures.kept.as_read honest trees has read;
-      named =
-          tt;
-      full =
-          inr c.in_ok-check_names.ensures.ok;
-      unchanged =
-          λ honest trees has q. c.in_err-at.ensures.opened.files honest trees has q 0 c.args.self.now.forest.rooted;
-      same_entries =
-          λ honest.
-          λ trees has q. c.in_err-at.ensures.opened.entries honest trees has none_met q 0 c.args.self.now.forest.rooted;
-      still =
-          λ tree is. opened_changed (slots_of c.args.self.now.nodes.items) (slots_of c.walk.new.nodes.items) (marks_of c.args.self.now.nodes.items) (marks_of c.walk.new.nodes.items)
-          (length c.args.self.now.nodes.items) (length c.walk.new.nodes.items) c.in_err-at.ensures.opened.forest c.in_err-at.ensures.kept.marks tree is.0 is.1 is.2;
-    })
+    rw p.1 (Refused.stopped g.S.Lookup.is_honest g.S.Lookup.table c.args.path.now c.args.self.now _ refl (omega (arith, c.in_err-at.ensures.counted)) c.in_ok-check_names.ensures.ok _ c.walk.new.nodes.items c.in_err-at.ensures.opened c.in_err-at.ensures.kept (search rules))
 
 pub returns-in_err-refuse_folder-clause-kept : goal.returns-in_err-refuse_folder-clause-kept
 returns-in_err-refuse_folder-clause-kept g c =
     let p = err_from_is_err_and c.from_residual-in_err-refuse_folder.result c.from_residual-in_err-refuse_folder.ensures.1 in
-    rw p.1 (record {
-      store =
-          refl;
-      counted =
-          omega (arith, c.in_ok-at.ensures.counted, c.in_err-refuse_folder.ensures.counted);
-      as_read =
-          λ honest trees has read. c.in_err-refuse_folder.ensures.kept.as_read honest trees has (c.in_ok-at.ensures.kept.as_read honest trees has read);
-      named =
-          tt;
-      full =
-          inr c.in_ok-check_names.ensures.ok;
-      unchanged =
-          λ honest.
-          let old = c.args.self.now.nodes.items in
-          let mid = c.walk.new.nodes.items in
-          let more = c.refuse_folder.new.nodes.items in
-          let opened = opened_then _ _ (slots_of old) (slots_of mid) (slots_of more) (length old) (length mid) (length more) c.in_ok-at.ensures.opened c.in_err-refuse_folder.ensures.opened in
-          λ trees has q. opened.files honest trees has q 0 c.args.self.now.forest.rooted;
-      same_entries =
-          λ honest.
-          let old = c.args.self.now.nodes.items in
-          let mid = c.walk.new.nodes.items in
-          let more = c.refuse_folder.new.nodes.items in
-          let opened = opened_then _ _ (slots_of old) (slots_of mid) (slots_of more) (length old) (length mid) (length more) c.in_ok-at.ensures.opened c.in_err-refuse_folder.ensures.opened in
-          λ trees has q. opened.entries honest trees has none_met q 0 c.args.self.now.forest.rooted;
-      still =
-          let both = (marks_then false (slots_of c.args.self.now.nodes.items) (slots_of c.walk.new.nodes.items) (slots_of c.refuse_folder.new.nodes.items) (marks_of c.args.self.now.nodes.items) (marks_of c.walk.new.nodes.items) (marks_of c.refuse_folder.new.nodes.items)
-          (length c.args.self.now.nodes.items) (length c.walk.new.nodes.items) (length c.refuse_folder.new.nodes.items) c.in_ok-at.ensures.opened.longer c.in_err-refuse_folder.ensures.opened.longer c.in_ok-at.ensures.kept.marks c.in_err-refuse_folder.ensures.kept.marks) in
-          λ tree is. opened_changed (slots_of c.args.self.now.nodes.items) (slots_of c.refuse_folder.new.nodes.items) (marks_of c.args.self.now.nodes.items) (marks_of c.refuse_folder.new.nodes.items)
-          (length c.args.self.now.nodes.items) (length c.refuse_folder.new.nodes.items) c.in_err-refuse_folder.ensures.opened.forest both tree is.0 is.1 is.2;
-    })
+    rw p.1 (Refused.stopped g.S.Lookup.is_honest g.S.Lookup.table c.args.path.now c.args.self.now _ refl (omega (arith, c.in_ok-at.ensures.counted, c.in_err-refuse_folder.ensures.counted)) c.in_ok-check_names.ensures.ok _ c.refuse_folder.new.nodes.items
+    (opened_then _ _ (slots_of c.args.self.now.nodes.items) (slots_of c.walk.new.nodes.items) (slots_of c.refuse_folder.new.nodes.items) (length c.args.self.now.nodes.items) (length c.walk.new.nodes.items) (length c.refuse_folder.new.nodes.items) c.in_ok-at.ensures.opened c.in_err-refuse_folder.ensures.opened)
+    (keeps_then (g.S.Lookup.is_honest c.args.self.now.store) (g.S.Lookup.table c.args.self.now.store) c.args.self.now.nodes.items c.walk.new.nodes.items c.refuse_folder.new.nodes.items c.in_ok-at.ensures.opened.longer c.in_err-refuse_folder.ensures.opened.longer c.in_ok-at.ensures.kept c.in_err-refuse_folder.ensures.kept) (search rules))
 
 pub returns-clause-kept : goal.returns-clause-kept
 returns-clause-kept g c =

@@ -1,4 +1,4 @@
-use Rattle.std.proofs.Common.{refl, Some, List, ◌⊎◌, inl, true, false, ℕ, Bool, ◌≡◌, ◌≢◌, ◌∙◌, ◌<◌, ◌+◌, ◌-◌, ap, sym, subst, arith, length, drop, take, None, get_or, [], ◌∷◌, ◌++◌, inr}
+use Rattle.std.proofs.Common.{rules, refl, Some, List, ◌⊎◌, inl, true, false, ℕ, Bool, ◌≡◌, ◌≢◌, ◌∙◌, ◌<◌, ◌+◌, ◌-◌, ap, sym, subst, arith, length, drop, take, None, get_or, [], ◌∷◌, ◌++◌}
 use Rattle.std.proofs.lemmas.List.{length-drop, get_or-map}
 use Rattle.gix_hash.specs.Id.{id_of}
 use Rattle.gix_object_tree.specs.Mode.{kind_value}
@@ -11,8 +11,8 @@ use Rattle.std.specs.Borrow.{Bor}
 use Rattle.gix_object_editor.specs.Entries.{EachHas, MayStand}
 use Rattle.gix_object_editor.proofs.Kept.{may_drop, cut_each}
 use Rattle.gix_object_nodes.proofs.Slots.{back}
-use Rattle.gix_object_editor.proofs.Marked.{opened_marked, laid_marked, read_same}
-use Rattle.gix_object_editor.proofs.Changes.{opened_changed, failed_changed, laid_as_read, laid_changed, some_left, cut_as_read, cut_changed_on, cut_unmarked, opened_same_changed}
+use Rattle.gix_object_editor.proofs.Marked.{opened_marked, laid_marked}
+use Rattle.gix_object_editor.proofs.Changes.{opened_changed, laid_as_read, laid_changed, some_left, cut_as_read, cut_changed_on, cut_unmarked, opened_same_changed}
 use Rattle.gix_object_editor.proofs.Standing.{nothing_idle, made_there, already_there, name_left, last_left}
 use Rattle.gix_object_editor.proofs.Entered.{none_met, cut_entries, cut_keeps, laid_keeps, rest_dropped}
 use Rattle.gix_object_editor.proofs.Raised.{laid_stands, already_stands, cut_gone, cut_way, laid_folders, none_above, none_after}
@@ -28,6 +28,7 @@ use Rattle.gix_object_editor.proofs.Asking.{through_asked, through_stops, some_a
 use Rattle.gix_object_editor.proofs.Walked.{names, names_step}
 use Rattle.gix_object_editor.proofs.SlotChange.{way_kept, way_above}
 use Rattle.gix_object_editor.proofs.Folders.{still_way}
+use Rattle.gix_object_editor.proofs.Refused as Refused
 use Rattle.gix_object_editor.proofs.tree.editor.state.Editor.upsert_from.Goals as goal
 
 pub returns-in_err-at-clause-refused : goal.returns-in_err-at-clause-refused
@@ -201,99 +202,28 @@ returns-then-is_null-clause-asked g c = λ honest trees has. through_asked (g.S.
 pub returns-in_err-at-clause-kept : goal.returns-in_err-at-clause-kept
 returns-in_err-at-clause-kept g c =
     let p = err_from_is_err_and c.from_residual-in_err-at.result c.from_residual-in_err-at.ensures.1 in
-    rw p.1 (record {
-      store =
-          refl;
-      counted =
-          omega (arith, c.in_err-at.ensures.counted);
-      as_read =
-          λ honest trees has read. c.in_err-at.ensures.kept.as_read honest trees has read;
-      named =
-          tt;
-      full =
-          inr c.in_ok-check_names.ensures.ok;
-      unchanged =
-          λ honest trees has q. c.in_err-at.ensures.opened.files honest trees has q 0 c.args.self.now.forest.rooted;
-      same_entries =
-          λ honest.
-          λ trees has q. c.in_err-at.ensures.opened.entries honest trees has none_met q 0 c.args.self.now.forest.rooted;
-      still =
-          λ tree is. opened_changed (slots_of c.args.self.now.nodes.items) (slots_of c.walk.new.nodes.items) (marks_of c.args.self.now.nodes.items) (marks_of c.walk.new.nodes.items)
-          (length c.args.self.now.nodes.items) (length c.walk.new.nodes.items) c.in_err-at.ensures.opened.forest c.in_err-at.ensures.kept.marks tree is.0 is.1 is.2;
-    })
+    rw p.1 (Refused.stopped g.S.Lookup.is_honest g.S.Lookup.table c.args.path.now c.args.self.now _ refl (omega (arith, c.in_err-at.ensures.counted)) c.in_ok-check_names.ensures.ok _ c.walk.new.nodes.items c.in_err-at.ensures.opened c.in_err-at.ensures.kept (search rules))
 
 pub returns-in_err-lay_entry-clause-kept : goal.returns-in_err-lay_entry-clause-kept
 returns-in_err-lay_entry-clause-kept g c =
     let p = err_from_is_err_and c.from_residual-in_err-lay_entry.result c.from_residual-in_err-lay_entry.ensures.1 in
-    rw p.1 (record {
-      store =
-          refl;
-      counted =
-          omega (arith, c.in_ok-at.ensures.counted);
-      as_read =
-          λ honest trees has read.
-          let mid = c.walk.new.nodes.items in
-          let gr = c.lay_entry.new.nodes.items in
-          read_same trees (slots_of mid) (slots_of gr) (marks_of mid) (marks_of gr) (length mid) c.in_ok-at.ensures.opened.forest (as_function (slots_of gr) (slots_of mid) c.in_err-lay_entry.ensures.err) c.lay_entry.ensures.marks.same
-          (c.in_ok-at.ensures.kept.as_read honest trees has read);
-      named =
-          tt;
-      full =
-          inr c.in_ok-check_names.ensures.ok;
-      unchanged =
-          λ honest.
-          let mid = c.walk.new.nodes.items in
-          let gr = c.lay_entry.new.nodes.items in
-          λ trees has q.
-          ap (λ f. files_of_node trees f 0 q) (as_function (slots_of gr) (slots_of mid) c.in_err-lay_entry.ensures.err)
-          ∙ c.in_ok-at.ensures.opened.files honest trees has q 0 c.args.self.now.forest.rooted;
-      same_entries =
-          λ honest.
-          let mid = c.walk.new.nodes.items in
-          let gr = c.lay_entry.new.nodes.items in
-          λ trees has q.
-          ap (λ f. entry_from none_met trees f 0 q) (as_function (slots_of gr) (slots_of mid) c.in_err-lay_entry.ensures.err)
-          ∙ c.in_ok-at.ensures.opened.entries honest trees has none_met q 0 c.args.self.now.forest.rooted;
-      still =
-          let old = c.args.self.now.nodes.items in
-          let mid = c.walk.new.nodes.items in
-          let gr = c.lay_entry.new.nodes.items in
-          λ tree is.
-          failed_changed (slots_of old) (slots_of mid) (slots_of gr) (marks_of old) (marks_of mid) (marks_of gr) (length old) (length mid) (length gr) c.in_ok-at.ensures.opened.forest c.in_ok-at.ensures.kept.marks c.lay_entry.ensures.marks
-          (as_function (slots_of gr) (slots_of mid) c.in_err-lay_entry.ensures.err) tree is.0 is.1 is.2;
-    })
+    rw p.1 (Refused.failed g.S.Lookup.is_honest g.S.Lookup.table c.args.path.now c.args.self.now _ refl (omega (arith, c.in_ok-at.ensures.counted)) c.in_ok-check_names.ensures.ok _ c.walk.new.nodes.items c.in_ok-at.ensures.opened c.in_ok-at.ensures.kept
+    c.lay_entry.ensures.marks c.in_err-lay_entry.ensures.err)
 
 pub returns-clause-kept : goal.returns-clause-kept
-returns-clause-kept g c =
-    record {
-      store =
-          refl;
-      counted =
-          omega (arith, c.in_ok-at.ensures.counted);
-      as_read =
-          λ honest trees has read.
-          let old = c.args.self.now.nodes.items in
-          let mid = c.walk.new.nodes.items in
-          let gr = c.lay_entry.new.nodes.items in
-          let fin = c.mark_changed.new.nodes in
-          let n : c.lay_entry.new.nodes.len ≡ length fin = omega (arith, c.mark_changed.auto.nodes, c.as_mut_slice-2.ensures.len) in
-          let whole = back c.lay_entry.new.nodes.len fin _ n in
-          let same_slots : slots_of fin ≡ slots_of gr = as_function (slots_of fin) (slots_of gr) (λ i m. c.mark_changed.ensures.slots i m ∙ ap (λ (ns : List Node). slots_of ns i m) c.as_mut_slice-2.ensures.value) in
-          let up = subst (λ (ns : List Node). AreMarkedUp (slots_of ns) (marks_of ns) (marks_of fin) c.in_ok-at.at.0 (length ns)) c.as_mut_slice-2.ensures.value c.mark_changed.ensures.marked in
-          subst (λ (ns : List Node). AreAsRead trees (slots_of ns) (marks_of ns)) (sym whole)
-          (laid_as_read (slots_of old) (slots_of mid) (slots_of gr) (slots_of fin) (marks_of old) (marks_of mid) (marks_of gr) (marks_of fin) (length old) (length mid) (length gr)
-          c.in_ok-at.ensures.opened.forest c.lay_entry.ensures.forest c.in_ok-at.ensures.kept.marks c.lay_entry.ensures.marks c.in_ok-at.at.0 _ c.in_ok-lay_entry.ensures.others same_slots up trees (c.in_ok-at.ensures.kept.as_read honest trees has read));
-      named =
-          c.in_ok-check_names.ensures.ok;
-      full =
-          tt;
-      unchanged =
-          λ honest. tt;
-      same_entries =
-          λ honest. tt;
-      still =
-          tt;
-    }
+returns-clause-kept g c = Refused.made g.S.Lookup.is_honest g.S.Lookup.table c.args.path.now c.args.self.now _ refl (omega (arith, c.in_ok-at.ensures.counted)) c.in_ok-check_names.ensures.ok _ (
+    λ honest trees has read.
+    let old = c.args.self.now.nodes.items in
+    let mid = c.walk.new.nodes.items in
+    let gr = c.lay_entry.new.nodes.items in
+    let fin = c.mark_changed.new.nodes in
+    let n : c.lay_entry.new.nodes.len ≡ length fin = omega (arith, c.mark_changed.auto.nodes, c.as_mut_slice-2.ensures.len) in
+    let whole = back c.lay_entry.new.nodes.len fin _ n in
+    let same_slots : slots_of fin ≡ slots_of gr = as_function (slots_of fin) (slots_of gr) (λ i m. c.mark_changed.ensures.slots i m ∙ ap (λ (ns : List Node). slots_of ns i m) c.as_mut_slice-2.ensures.value) in
+    let up = subst (λ (ns : List Node). AreMarkedUp (slots_of ns) (marks_of ns) (marks_of fin) c.in_ok-at.at.0 (length ns)) c.as_mut_slice-2.ensures.value c.mark_changed.ensures.marked in
+    subst (λ (ns : List Node). AreAsRead trees (slots_of ns) (marks_of ns)) (sym whole)
+    (laid_as_read (slots_of old) (slots_of mid) (slots_of gr) (slots_of fin) (marks_of old) (marks_of mid) (marks_of gr) (marks_of fin) (length old) (length mid) (length gr)
+    c.in_ok-at.ensures.opened.forest c.lay_entry.ensures.forest c.in_ok-at.ensures.kept.marks c.lay_entry.ensures.marks c.in_ok-at.at.0 _ c.in_ok-lay_entry.ensures.others same_slots up trees (c.in_ok-at.ensures.kept.as_read honest trees has read)))
 
 pub returns-clause-put : goal.returns-clause-put
 returns-clause-put g c = λ way w.
@@ -465,33 +395,16 @@ returns-clause-put g c = λ way w.
     }
 
 pub returns-then-is_null-clause-kept : goal.returns-then-is_null-clause-kept
-returns-then-is_null-clause-kept g c =
-    record {
-      store =
-          refl;
-      counted =
-          omega (arith, c.in_ok-at.ensures.counted);
-      as_read =
-          λ honest trees has read.
-          let mid = c.walk.new.nodes.items in
-          let new = c.cut.new.nodes in
-          let before = c.as_mut_slice.ensures.value in
-          let n : c.walk.new.nodes.len ≡ length new = omega (arith, c.cut.auto.nodes, c.as_mut_slice.ensures.len) in
-          let marks = subst (λ ns. IsMarkedFor (slots_of ns) (slots_of new) (marks_of ns) (marks_of new) c.in_ok-at.at.0 (length ns) (length ns)) before c.cut.ensures.marks in
-          subst (λ ns. AreAsRead trees (slots_of ns) (marks_of ns)) (sym (back c.walk.new.nodes.len new _ n))
-          (cut_as_read trees (slots_of mid) (slots_of new) (marks_of mid) (marks_of new) (length mid) c.in_ok-at.at.0 _ c.in_ok-at.ensures.opened.forest c.cut.ensures.here
-          (λ i m off. c.cut.ensures.others i m off ∙ ap (λ ns. slots_of ns i m) before) marks (c.in_ok-at.ensures.kept.as_read honest trees has read));
-      named =
-          c.in_ok-check_names.ensures.ok;
-      full =
-          tt;
-      unchanged =
-          λ honest. tt;
-      same_entries =
-          λ honest. tt;
-      still =
-          tt;
-    }
+returns-then-is_null-clause-kept g c = Refused.made g.S.Lookup.is_honest g.S.Lookup.table c.args.path.now c.args.self.now _ refl (omega (arith, c.in_ok-at.ensures.counted)) c.in_ok-check_names.ensures.ok _ (
+    λ honest trees has read.
+    let mid = c.walk.new.nodes.items in
+    let new = c.cut.new.nodes in
+    let before = c.as_mut_slice.ensures.value in
+    let n : c.walk.new.nodes.len ≡ length new = omega (arith, c.cut.auto.nodes, c.as_mut_slice.ensures.len) in
+    let marks = subst (λ ns. IsMarkedFor (slots_of ns) (slots_of new) (marks_of ns) (marks_of new) c.in_ok-at.at.0 (length ns) (length ns)) before c.cut.ensures.marks in
+    subst (λ ns. AreAsRead trees (slots_of ns) (marks_of ns)) (sym (back c.walk.new.nodes.len new _ n))
+    (cut_as_read trees (slots_of mid) (slots_of new) (marks_of mid) (marks_of new) (length mid) c.in_ok-at.at.0 _ c.in_ok-at.ensures.opened.forest c.cut.ensures.here
+    (λ i m off. c.cut.ensures.others i m off ∙ ap (λ ns. slots_of ns i m) before) marks (c.in_ok-at.ensures.kept.as_read honest trees has read)))
 
 pub returns-then-is_null-clause-put : goal.returns-then-is_null-clause-put
 returns-then-is_null-clause-put g c = λ way w.
@@ -630,25 +543,7 @@ returns-then-is_null-clause-put g c = λ way w.
     }
 
 pub returns-then-stands_already-clause-kept : goal.returns-then-stands_already-clause-kept
-returns-then-stands_already-clause-kept g c =
-    record {
-      store =
-          refl;
-      counted =
-          omega (arith, c.in_ok-at.ensures.counted);
-      as_read =
-          λ honest trees has read. c.in_ok-at.ensures.kept.as_read honest trees has read;
-      named =
-          c.in_ok-check_names.ensures.ok;
-      full =
-          tt;
-      unchanged =
-          λ honest. tt;
-      same_entries =
-          λ honest. tt;
-      still =
-          tt;
-    }
+returns-then-stands_already-clause-kept g c = Refused.made g.S.Lookup.is_honest g.S.Lookup.table c.args.path.now c.args.self.now _ refl (omega (arith, c.in_ok-at.ensures.counted)) c.in_ok-check_names.ensures.ok _ c.in_ok-at.ensures.kept.as_read
 
 pub returns-then-stands_already-clause-put : goal.returns-then-stands_already-clause-put
 returns-then-stands_already-clause-put g c = λ way w.
