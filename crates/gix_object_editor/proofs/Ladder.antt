@@ -402,70 +402,79 @@ rest_names [] lt = absurd (omega arith)
 rest_names (p ∷ []) lt = absurd (omega arith)
 rest_names (p ∷ q ∷ path) lt = (q.now, names path, refl, refl)
 
-module _ (old mid new : List Node) (ok : IsForest (slots_of old) (length old)) (path tail : List (Bor (List ℕ))) (two : 1 < length path) (tail_is : tail ≡ drop 1 path)
-    (s top : Slot) (closed : s.child ≡ None) (front : (i : ℕ) (m : Bytes) → i < length old → slots_of mid i m ≡ slots_of old i m)
-    (rungs : (k : ℕ) → k < length tail → IsRung (slots_of mid) (length old) (names tail) s k) (len : length mid ≡ length old + length tail) (same_len : length new ≡ length mid)
-    (at : ℕ) (name : Bytes) (name_is : get_or (names path) 0 [] ≡ name) (below : at < length old) (stands : slots_of new at name ≡ Some top) (linked : child_of (Some top) ≡ Some (length old))
-    (others : (i : ℕ) (m : Bytes) → ((i ≡ at) → (m ≡ name) → ⊥) → slots_of new i m ≡ slots_of mid i m) where
+-- trees that were pushed, each in the one before it, of which the first was put into the slot of a name
+pub record Hung (old mid new : List Node) (path tail : List (Bor (List ℕ))) (s top : Slot) (at : ℕ) (name : Bytes) : Type 0 where
+  pub ok : IsForest (slots_of old) (length old)
+  pub two : 1 < length path
+  pub tail_is : tail ≡ drop 1 path
+  pub closed : s.child ≡ None
+  pub front : (i : ℕ) (m : Bytes) → i < length old → slots_of mid i m ≡ slots_of old i m
+  pub rungs : (k : ℕ) → k < length tail → IsRung (slots_of mid) (length old) (names tail) s k
+  pub len : length mid ≡ length old + length tail
+  pub same_len : length new ≡ length mid
+  pub name_is : get_or (names path) 0 [] ≡ name
+  pub below : at < length old
+  pub stands : slots_of new at name ≡ Some top
+  pub linked : child_of (Some top) ≡ Some (length old)
+  pub others : (i : ℕ) (m : Bytes) → ((i ≡ at) → (m ≡ name) → ⊥) → slots_of new i m ≡ slots_of mid i m
+
+module _ {old mid new : List Node} {path tail : List (Bor (List ℕ))} {s top : Slot} {at : ℕ} {name : Bytes} (h : Hung old mid new path tail s top at name) where
   tail_long : length (names tail) ≡ length tail
   tail_long = names_length tail
 
   some : 0 < length (names tail)
-  some = omega (arith, tail_long, ap length tail_is, length-drop 1 path)
+  some = omega (arith, h.two, tail_long, ap length h.tail_is, length-drop 1 path)
 
   rungs_named : (k : ℕ) → k < length (names tail) → IsRung (slots_of mid) (length old) (names tail) s k
-  rungs_named k lt = let less : k < length tail = omega (arith, tail_long) in rungs k less
+  rungs_named k lt = let less : k < length tail = omega (arith, tail_long) in h.rungs k less
 
   long : length mid ≡ length old + length (names tail)
-  long = omega (arith, tail_long)
+  long = omega (arith, h.len, tail_long)
 
   past : (i : ℕ) (m : Bytes) → length mid ≤ i → slots_of mid i m ≡ None
   past i m le = none_past mid i m le
 
   pub hung_forest : IsForest (slots_of new) (length new)
   hung_forest =
-      subst (IsForest (slots_of new)) (sym same_len)
-      (linked_forest (slots_of old) (slots_of mid) (length old) (length mid) ok (names tail) s closed front rungs_named long past (slots_of new) at name top below some stands linked others)
+      subst (IsForest (slots_of new)) (sym h.same_len)
+      (linked_forest (slots_of old) (slots_of mid) (length old) (length mid) h.ok (names tail) s h.closed h.front rungs_named long past (slots_of new) at name top h.below some h.stands h.linked h.others)
 
   pub hung_files : IsFolderAt (slots_of old) at (get_or (names path) 0 []) None → (trees : Trees) (way : Path) → Way (slots_of old) way at
       → (q : Path) → files_of_node trees (slots_of new) 0 q ≡ put trees (onto way (names path)) (leaf_in s) (files_of_node trees (slots_of old) 0) q
   hung_files plain trees way reached q =
-      let parts = rest_names path two in
-      let is : names path ≡ name ∷ parts.0 ∷ parts.1 = parts.2 ∙ ap (λ n. n ∷ parts.0 ∷ parts.1) name_is in
-      let plain_here : IsFolderAt (slots_of old) at name None = subst (λ n. IsFolderAt (slots_of old) at n None) name_is plain in
-      linked_files (slots_of old) (slots_of mid) (length old) (length mid) ok (names tail) s closed front rungs_named long past (slots_of new) at name top below some stands linked others
-      parts.0 parts.1 (ap names tail_is ∙ parts.3) plain_here trees way reached q
+      let parts = rest_names path h.two in
+      let is : names path ≡ name ∷ parts.0 ∷ parts.1 = parts.2 ∙ ap (λ n. n ∷ parts.0 ∷ parts.1) h.name_is in
+      let plain_here : IsFolderAt (slots_of old) at name None = subst (λ n. IsFolderAt (slots_of old) at n None) h.name_is plain in
+      linked_files (slots_of old) (slots_of mid) (length old) (length mid) h.ok (names tail) s h.closed h.front rungs_named long past (slots_of new) at name top h.below some h.stands h.linked h.others
+      parts.0 parts.1 (ap names h.tail_is ∙ parts.3) plain_here trees way reached q
       ∙ ap (λ p. put trees (onto way p) (leaf_in s) (files_of_node trees (slots_of old) 0) q) (sym is)
 
   pub hung_entries : leaf_in top ≡ made_leaf (id_of s.oid).kind → (trees : Trees) (way : Path) → Way (slots_of old) way at
       → (q : Path) → entry_from none_met trees (slots_of new) 0 q ≡ laid_at trees (leaf_in s) (names tail) (behind (onto way (name ∷ [])) q) (entry_from none_met trees (slots_of old) 0 q)
   hung_entries made trees way reached q =
-      linked_entries (slots_of old) (slots_of mid) (length old) (length mid) ok (names tail) s closed front rungs_named long past (slots_of new) at name top below some stands linked others
+      linked_entries (slots_of old) (slots_of mid) (length old) (length mid) h.ok (names tail) s h.closed h.front rungs_named long past (slots_of new) at name top h.below some h.stands h.linked h.others
       made trees way reached q
 
   pub hung_end : (k : ℕ) → suc k ≡ length mid → (way : Path) → Way (slots_of old) way at → IsPutIn (slots_of new) (onto way (names path)) k
   hung_end k end way reached =
-      let parts = rest_names path two in
-      let is : name ∷ names tail ≡ names path = ap (λ p. name ∷ p) (ap names tail_is ∙ parts.3) ∙ ap (λ n. n ∷ parts.0 ∷ parts.1) (sym name_is) ∙ sym parts.2 in
+      let parts = rest_names path h.two in
+      let is : name ∷ names tail ≡ names path = ap (λ p. name ∷ p) (ap names h.tail_is ∙ parts.3) ∙ ap (λ n. n ∷ parts.0 ∷ parts.1) (sym h.name_is) ∙ sym parts.2 in
       let last : length old + (length (names tail) - 1) ≡ k = omega (arith, long, some, end) in
       subst (IsPutIn (slots_of new) (onto way (names path))) last
       (subst (λ p. IsPutIn (slots_of new) (onto way p) (length old + (length (names tail) - 1))) is
-      (linked_end (slots_of old) (slots_of mid) (length old) (length mid) ok (names tail) s closed front rungs_named long past (slots_of new) at name top below some stands linked others way reached))
+      (linked_end (slots_of old) (slots_of mid) (length old) (length mid) h.ok (names tail) s h.closed h.front rungs_named long past (slots_of new) at name top h.below some h.stands h.linked h.others way reached))
 
   pub hung_marks : (state : Bool) (was now : Marks) → ((i : ℕ) → i < length old → now i ≡ was i) → ((k : ℕ) → k < length tail → now (length old + k) ≡ mark_below (rung_parent at (length old) k) state)
       → AreMarksKept state (slots_of old) (slots_of new) was now (length old) (length new)
   hung_marks state was now same made =
-      subst (AreMarksKept state (slots_of old) (slots_of new) was now (length old)) (sym same_len)
-      (linked_marks (slots_of old) (slots_of mid) (length old) (length mid) ok (names tail) s closed front rungs_named long past (slots_of new) at name top below some stands linked others
+      subst (AreMarksKept state (slots_of old) (slots_of new) was now (length old)) (sym h.same_len)
+      (linked_marks (slots_of old) (slots_of mid) (length old) (length mid) h.ok (names tail) s h.closed h.front rungs_named long past (slots_of new) at name top h.below some h.stands h.linked h.others
       state was now same (λ k lt. let less : k < length tail = omega (arith, tail_long, lt) in made k less))
 
   pub hung_ways : (way : Path) → Way (slots_of old) way at → AreOnPath (slots_of new) (onto way (names path)) (length old) (length new)
   hung_ways way reached =
-      let parts = rest_names path two in
-      let is : name ∷ names tail ≡ names path = ap (λ p. name ∷ p) (ap names tail_is ∙ parts.3) ∙ ap (λ n. n ∷ parts.0 ∷ parts.1) (sym name_is) ∙ sym parts.2 in
-      subst (AreOnPath (slots_of new) (onto way (names path)) (length old)) (sym same_len)
+      let parts = rest_names path h.two in
+      let is : name ∷ names tail ≡ names path = ap (λ p. name ∷ p) (ap names h.tail_is ∙ parts.3) ∙ ap (λ n. n ∷ parts.0 ∷ parts.1) (sym h.name_is) ∙ sym parts.2 in
+      subst (AreOnPath (slots_of new) (onto way (names path)) (length old)) (sym h.same_len)
       (subst (λ p. AreOnPath (slots_of new) (onto way p) (length old) (length mid)) is
-      (linked_ways (slots_of old) (slots_of mid) (length old) (length mid) ok (names tail) s closed front rungs_named long past (slots_of new) at name top below some stands linked others way reached))
-
-  pub hung_others : (i : ℕ) (m : Bytes) → i < length old → ((i ≡ at) → (m ≡ get_or (names path) 0 []) → ⊥) → slots_of new i m ≡ slots_of old i m
-  hung_others i m lt off = others i m (λ e same. off e (same ∙ sym name_is)) ∙ front i m lt
+      (linked_ways (slots_of old) (slots_of mid) (length old) (length mid) h.ok (names tail) s h.closed h.front rungs_named long past (slots_of new) at name top h.below some h.stands h.linked h.others way reached))

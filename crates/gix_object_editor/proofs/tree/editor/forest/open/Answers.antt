@@ -1,10 +1,11 @@
-use Rattle.std.proofs.Common.{inl, inr, false, refl, ◌≡◌, ◌∙◌, ◌≤◌, ap, sym, subst, arith, true, length, suc, rules, None, Some, [], ◌∷◌}
+use Rattle.std.proofs.Common.{ℕ, List, Option, ◌<◌, inl, inr, false, refl, ◌≡◌, ◌∙◌, ap, sym, subst, arith, true, length, suc, rules, None, Some, [], ◌∷◌}
 use Rattle.std.specs.Prelude.{is_ok}
 use Rattle.std.proofs.lemmas.Result.{err_from_is_err_and}
 use Rattle.gix_hash.specs.Id.{id_of}
 use Rattle.gix_object_tree.specs.Mode.{is_tree_value}
+use Rattle.gix_object_nodes.specs.declared.node.Node.{Node}
 use Rattle.gix_object_nodes.specs.declared.node.Slot.{Slot}
-use Rattle.gix_object_nodes.specs.Files.{Bytes, leads_on, named}
+use Rattle.gix_object_nodes.specs.Files.{Bytes, is_null, leads_on, named}
 use Rattle.gix_object_nodes.specs.Nodes.{slots_of, slot_in, leaf_in, child_of, StandsFor, IsUnopened}
 use Rattle.gix_object_nodes.proofs.WrittenEntries.{not_null, null_by_test}
 use Rattle.gix_object_editor.proofs.Loaded.{no_child}
@@ -16,31 +17,53 @@ use Rattle.gix_object_nodes.proofs.Slots.{none_past}
 use Rattle.gix_object_editor.specs.Asked.{unopened_into}
 use Rattle.gix_object_editor.proofs.Asking.{is_tree, isnt_tree, plain_split, folder_split, loaded_split, stops_opening, asks_one, asks_same}
 use Rattle.gix_object_editor.proofs.tree.editor.forest.open.Goals.{then-not-is_tree-via-then-not-is_tree, then-not-is_tree-via-else-not-is_tree+then-is_null}
+use Rattle.gix_object_editor.proofs.tree.editor.forest.open.Given as Given
 use Rattle.gix_object_editor.proofs.tree.editor.forest.open.Goals as goal
+
+-- the entry of the name
+there : {old now : List Node} {s : Slot} {found : Option Slot} (at : ℕ) (name : Bytes) → now ≡ old → found ≡ slots_of now at name → found ≡ Some s → slots_of old at name ≡ Some s
+there at name same is some = ap (λ ns. slots_of ns at name) (sym same) ∙ sym is ∙ some
+
+unopened : (s : Slot) → s.child ≡ None → is_tree_value s.mode.value ≡ true → is_null (id_of s.oid) ≡ false → IsUnopened s
+unopened s none tree some = record { closed = none; is_tree = tree; isnt_null = some }
+
+-- once its tree is attached
+stood : (g : Given.Over) (c : goal.In_ok-attach g) → slots_of c.args.nodes.now.items c.args.at.0 c.args.name.now ≡ Some c.in-Some.slot
+stood g c = there c.args.at.0 c.args.name.now c.as_slice.ensures.value c.slot_at.ensures c.in-Some.is
+
+folder : (g : Given.Over) (c : goal.In_ok-attach g) → IsUnopened c.in-Some.slot
+folder g c =
+    let s : Slot = c.in-Some.slot in
+    let tree_mode : is_tree_value s.mode.value ≡ true = search rules in
+    unopened s (no_child s.child (sym c.is_some.ensures ∙ c.if-is_some.false)) tree_mode (not_null (id_of s.oid) c.is_null.result c.is_null.ensures c.if-is_null.false)
+
+abbrev linked : (g : Given.Over) (c : goal.In_ok-attach g) → Slot
+linked g c = record { mode = c.in-Some.slot.mode; oid = c.in-Some.slot.oid; child = Some c.in_ok-attach.field-0 }
+
+next : (g : Given.Over) (c : goal.In_ok-attach g) → length c.attach.new.nodes.items ≡ suc (length c.args.nodes.now.items)
+next g c = let ok : is_ok c.attach.result ≡ true = search rules in search rules
+
+fresh : (g : Given.Over) (c : goal.In_ok-attach g) (m : Bytes) → child_of (slots_of c.attach.new.nodes.items (length c.args.nodes.now.items) m) ≡ None
+fresh g c m = ap child_of (c.in_ok-attach.ensures.behind m) ∙ c.in_ok-tree.ensures.fresh m
+
+past : (g : Given.Over) (c : goal.In_ok-attach g) (i : ℕ) (m : Bytes) → length c.args.nodes.now.items < i → slots_of c.attach.new.nodes.items i m ≡ None
+past g c i m lt = none_past c.attach.new.nodes.items i m (omega (arith, lt, next g c))
 
 pub returns-in_err-tree-clause-refused : goal.returns-in_err-tree-clause-refused
 returns-in_err-tree-clause-refused g c =
     let s : Slot = c.in-Some.slot in
-    let stood : slots_of c.args.nodes.now.items c.args.at.0 c.args.name.now ≡ Some s = ap (λ ns. slots_of ns c.args.at.0 c.args.name.now) (sym c.as_slice.ensures.value) ∙ sym c.slot_at.ensures ∙ c.in-Some.is in
+    let stood = there c.args.at.0 c.args.name.now c.as_slice.ensures.value c.slot_at.ensures c.in-Some.is in
     let tree_mode : is_tree_value s.mode.value ≡ true = search rules in
-    let folder : IsUnopened s = record {
-      closed = no_child s.child (sym c.is_some.ensures ∙ c.if-is_some.false);
-      is_tree = tree_mode;
-      isnt_null = not_null (id_of s.oid) c.is_null.result c.is_null.ensures c.if-is_null.false;
-    } in
+    let folder = unopened s (no_child s.child (sym c.is_some.ensures ∙ c.if-is_some.false)) tree_mode (not_null (id_of s.oid) c.is_null.result c.is_null.ensures c.if-is_null.false) in
     let p = err_from_is_err_and c.from_residual.result c.from_residual.ensures.1 in
     rw (p.1, p.2) (s, stood, folder, c.in_err-tree.ensures.refused)
 
 pub returns-in_err-attach-clause-refused : goal.returns-in_err-attach-clause-refused
 returns-in_err-attach-clause-refused g c =
     let s : Slot = c.in-Some.slot in
-    let stood : slots_of c.args.nodes.now.items c.args.at.0 c.args.name.now ≡ Some s = ap (λ ns. slots_of ns c.args.at.0 c.args.name.now) (sym c.as_slice.ensures.value) ∙ sym c.slot_at.ensures ∙ c.in-Some.is in
+    let stood = there c.args.at.0 c.args.name.now c.as_slice.ensures.value c.slot_at.ensures c.in-Some.is in
     let tree_mode : is_tree_value s.mode.value ≡ true = search rules in
-    let folder : IsUnopened s = record {
-      closed = no_child s.child (sym c.is_some.ensures ∙ c.if-is_some.false);
-      is_tree = tree_mode;
-      isnt_null = not_null (id_of s.oid) c.is_null.result c.is_null.ensures c.if-is_null.false;
-    } in
+    let folder = unopened s (no_child s.child (sym c.is_some.ensures ∙ c.if-is_some.false)) tree_mode (not_null (id_of s.oid) c.is_null.result c.is_null.ensures c.if-is_null.false) in
     let p = err_from_is_err_and c.from_residual-in_err-attach.result c.from_residual-in_err-attach.ensures.1 in
     rw (p.1, p.2) (s, c.in_err-attach.ensures.err c.args.at.0 c.args.name.now ∙ stood, folder, tt)
 
@@ -48,24 +71,14 @@ pub returns-clause-opened : goal.returns-clause-opened
 returns-clause-opened g c =
     let old = c.args.nodes.now.items in
     let new = c.attach.new.nodes.items in
-    let s : Slot = c.in-Some.slot in
-    let t : Slot = record { mode = s.mode; oid = s.oid; child = Some c.in_ok-attach.field-0 } in
-    let ok : is_ok c.attach.result ≡ true = search rules in
-    let next : length new ≡ suc (length old) = search rules in
-    let stood : slots_of old c.args.at.0 c.args.name.now ≡ Some s = ap (λ ns. slots_of ns c.args.at.0 c.args.name.now) (sym c.as_slice.ensures.value) ∙ sym c.slot_at.ensures ∙ c.in-Some.is in
-    let closed : s.child ≡ None = no_child s.child (sym c.is_some.ensures ∙ c.if-is_some.false) in
-    let tree_mode : is_tree_value (leaf_in s).mode.value ≡ true = search rules in
-    let folder : IsUnopened s = record { closed = closed; is_tree = tree_mode; isnt_null = not_null (id_of s.oid) c.is_null.result c.is_null.ensures c.if-is_null.false } in
-    let at : (m : Bytes) → slots_of new (length old) m ≡ slot_in c.in_ok-tree.tree m = c.in_ok-attach.ensures.behind in
-    opened_one _ _ (slots_of old) (slots_of new) (length old) (length new) c.requires.forest next c.args.at.0 c.args.name.now s t c.requires.within stood folder
-    (λ honest. let tree = c.in_ok-tree.ensures.opened honest in (tree.0, λ m. subst (λ o. StandsFor o (named m tree.0)) (sym (at m)) (tree.1 m), tree.2))
-    c.in_ok-attach.ensures.here (ap Some c.in_ok-attach.ensures.number) refl (λ m. ap child_of (at m) ∙ c.in_ok-tree.ensures.fresh m) c.in_ok-attach.ensures.others
-    (λ i m lt. let le : length new ≤ i = omega arith in none_past new i m le) (λ i m le. none_past old i m le)
+    opened_one _ _ (slots_of old) (slots_of new) (length old) (length new) c.requires.forest (next g c) c.args.at.0 c.args.name.now c.in-Some.slot (linked g c) c.requires.within (stood g c) (folder g c)
+    (λ honest. let tree = c.in_ok-tree.ensures.opened honest in (tree.0, λ m. subst (λ o. StandsFor o (named m tree.0)) (sym (c.in_ok-attach.ensures.behind m)) (tree.1 m), tree.2))
+    c.in_ok-attach.ensures.here (ap Some c.in_ok-attach.ensures.number) refl (fresh g c) c.in_ok-attach.ensures.others (past g c) (λ i m le. none_past old i m le)
 
 pub returns-in_err-tree-clause-stops : goal.returns-in_err-tree-clause-stops
 returns-in_err-tree-clause-stops g c = λ honest.
     let s : Slot = c.in-Some.slot in
-    let stood : slots_of c.args.nodes.now.items c.args.at.0 c.args.name.now ≡ Some s = ap (λ ns. slots_of ns c.args.at.0 c.args.name.now) (sym c.as_slice.ensures.value) ∙ sym c.slot_at.ensures ∙ c.in-Some.is in
+    let stood = there c.args.at.0 c.args.name.now c.as_slice.ensures.value c.slot_at.ensures c.in-Some.is in
     let closed : s.child ≡ None = no_child s.child (sym c.is_some.ensures ∙ c.if-is_some.false) in
     let tree_mode : is_tree_value (leaf_in s).mode.value ≡ true = search rules in
     let folder = is_tree (leaf_in s) tree_mode (not_null (id_of s.oid) c.is_null.result c.is_null.ensures c.if-is_null.false) in
@@ -77,7 +90,7 @@ returns-in_err-tree-clause-stops g c = λ honest.
 pub returns-in_err-attach-clause-stops : goal.returns-in_err-attach-clause-stops
 returns-in_err-attach-clause-stops g c = λ honest.
     let s : Slot = c.in-Some.slot in
-    let stood : slots_of c.args.nodes.now.items c.args.at.0 c.args.name.now ≡ Some s = ap (λ ns. slots_of ns c.args.at.0 c.args.name.now) (sym c.as_slice.ensures.value) ∙ sym c.slot_at.ensures ∙ c.in-Some.is in
+    let stood = there c.args.at.0 c.args.name.now c.as_slice.ensures.value c.slot_at.ensures c.in-Some.is in
     let closed : s.child ≡ None = no_child s.child (sym c.is_some.ensures ∙ c.if-is_some.false) in
     let tree_mode : is_tree_value (leaf_in s).mode.value ≡ true = search rules in
     let folder = is_tree (leaf_in s) tree_mode (not_null (id_of s.oid) c.is_null.result c.is_null.ensures c.if-is_null.false) in
@@ -91,14 +104,10 @@ returns-clause-asked g c = λ honest trees has rest.
     let old = c.args.nodes.now.items in
     let new = c.attach.new.nodes.items in
     let s : Slot = c.in-Some.slot in
-    let stood : slots_of old c.args.at.0 c.args.name.now ≡ Some s = ap (λ ns. slots_of ns c.args.at.0 c.args.name.now) (sym c.as_slice.ensures.value) ∙ sym c.slot_at.ensures ∙ c.in-Some.is in
-    let closed : s.child ≡ None = no_child s.child (sym c.is_some.ensures ∙ c.if-is_some.false) in
-    let tree_mode : is_tree_value (leaf_in s).mode.value ≡ true = search rules in
-    let folder = is_tree (leaf_in s) tree_mode (not_null (id_of s.oid) c.is_null.result c.is_null.ensures c.if-is_null.false) in
-    let at : (m : Bytes) → slots_of new (length old) m ≡ slot_in c.in_ok-tree.tree m = c.in_ok-attach.ensures.behind in
+    let leads = is_tree (leaf_in s) (folder g c).is_tree (folder g c).isnt_null in
     let tree = c.in_ok-tree.ensures.opened honest in
     let holds = c.in_ok-tree.ensures.holds honest in
-    let split = loaded_split trees (slots_of old) (slots_of new) c.args.at.0 c.args.name.now rest s (length old) tree.0 stood closed folder (tree.2 trees has) (λ m. subst (λ o. StandsFor o (named m tree.0)) (sym (at m)) (tree.1 m)) in
+    let split = loaded_split trees (slots_of old) (slots_of new) c.args.at.0 c.args.name.now rest s (length old) tree.0 (stood g c) (folder g c).closed leads (tree.2 trees has) (λ m. subst (λ o. StandsFor o (named m tree.0)) (sym (c.in_ok-attach.ensures.behind m)) (tree.1 m)) in
     asks_one (g.S.Lookup.table c.args.store.now) (id_of s.oid) _ _ c.args.lookups.now _ (split ∙ ap (λ k. id_of s.oid ∷ unopened_into trees (slots_of new) k rest) (sym c.in_ok-attach.ensures.number))
     (holds.0, holds.1, holds.2, holds.3, holds.4) (search rules)
 
@@ -106,7 +115,7 @@ pub returns-then-not-is_tree-clause-asked : goal.returns-then-not-is_tree-clause
 returns-then-not-is_tree-clause-asked g c = λ honest trees has rest.
     let old = c.args.nodes.now.items in
     let s : Slot = c.in-Some.slot in
-    let stood : slots_of old c.args.at.0 c.args.name.now ≡ Some s = ap (λ ns. slots_of ns c.args.at.0 c.args.name.now) (sym c.as_slice.ensures.value) ∙ sym c.slot_at.ensures ∙ c.in-Some.is in
+    let stood = there c.args.at.0 c.args.name.now c.as_slice.ensures.value c.slot_at.ensures c.in-Some.is in
     let closed : s.child ≡ None = no_child s.child (sym c.is_some.ensures ∙ c.if-is_some.false) in
     let plain : leads_on (leaf_in s) ≡ false = elim c.then-not-is_tree.branch [
       | then-not-is_tree-via-then-not-is_tree w ↦ isnt_tree (leaf_in s) (inl (search rules))
@@ -136,51 +145,22 @@ returns-in_err-tree-clause-opened g c = opened_none _ _ (slots_of c.args.nodes.n
 
 pub returns-clause-kept : goal.returns-clause-kept
 returns-clause-kept g c =
+    let old = c.args.nodes.now.items in
+    let new = c.attach.new.nodes.items in
+    let opened = returns-clause-opened g c in
     record {
       marks =
-          let old = c.args.nodes.now.items in
-          let new = c.attach.new.nodes.items in
-          let s : Slot = c.in-Some.slot in
-          let t : Slot = record { mode = s.mode; oid = s.oid; child = Some c.in_ok-attach.field-0 } in
-          let ok : is_ok c.attach.result ≡ true = search rules in
-          let next : length new ≡ suc (length old) = search rules in
-          let stood : slots_of old c.args.at.0 c.args.name.now ≡ Some s = ap (λ ns. slots_of ns c.args.at.0 c.args.name.now) (sym c.as_slice.ensures.value) ∙ sym c.slot_at.ensures ∙ c.in-Some.is in
-          let closed : s.child ≡ None = no_child s.child (sym c.is_some.ensures ∙ c.if-is_some.false) in
-          let at : (m : Bytes) → slots_of new (length old) m ≡ slot_in c.in_ok-tree.tree m = c.in_ok-attach.ensures.behind in
-          let opened = returns-clause-opened g c in
-          marks_one (slots_of old) (slots_of new) (marks_of old) (marks_of new) (length old) (length new) c.requires.forest opened.forest next c.args.at.0 c.args.name.now s t c.requires.within stood closed
-          c.in_ok-attach.ensures.here (ap Some c.in_ok-attach.ensures.number) (λ m. ap child_of (at m) ∙ c.in_ok-tree.ensures.fresh m) c.in_ok-attach.ensures.others
-          (λ i m lt. let le : length new ≤ i = omega arith in none_past new i m le) c.in_ok-attach.ensures.marks c.in_ok-attach.ensures.unchanged;
+          marks_one (slots_of old) (slots_of new) (marks_of old) (marks_of new) (length old) (length new) c.requires.forest opened.forest (next g c) c.args.at.0 c.args.name.now c.in-Some.slot (linked g c) c.requires.within (stood g c) (folder g c).closed
+          c.in_ok-attach.ensures.here (ap Some c.in_ok-attach.ensures.number) (fresh g c) c.in_ok-attach.ensures.others (past g c) c.in_ok-attach.ensures.marks c.in_ok-attach.ensures.unchanged;
       as_read =
           λ honest trees has.
-          let old = c.args.nodes.now.items in
-          let new = c.attach.new.nodes.items in
-          let s : Slot = c.in-Some.slot in
-          let t : Slot = record { mode = s.mode; oid = s.oid; child = Some c.in_ok-attach.field-0 } in
-          let ok : is_ok c.attach.result ≡ true = search rules in
-          let next : length new ≡ suc (length old) = search rules in
-          let stood : slots_of old c.args.at.0 c.args.name.now ≡ Some s = ap (λ ns. slots_of ns c.args.at.0 c.args.name.now) (sym c.as_slice.ensures.value) ∙ sym c.slot_at.ensures ∙ c.in-Some.is in
-          let closed : s.child ≡ None = no_child s.child (sym c.is_some.ensures ∙ c.if-is_some.false) in
-          let at : (m : Bytes) → slots_of new (length old) m ≡ slot_in c.in_ok-tree.tree m = c.in_ok-attach.ensures.behind in
-          let opened = returns-clause-opened g c in
-          read_one (slots_of old) (slots_of new) (marks_of old) (marks_of new) (length old) (length new) c.requires.forest opened.forest next c.args.at.0 c.args.name.now s t c.requires.within stood closed
-          c.in_ok-attach.ensures.here (ap Some c.in_ok-attach.ensures.number) (λ m. ap child_of (at m) ∙ c.in_ok-tree.ensures.fresh m) c.in_ok-attach.ensures.others
-          (λ i m lt. let le : length new ≤ i = omega arith in none_past new i m le) c.in_ok-attach.ensures.marks c.in_ok-attach.ensures.unchanged
+          read_one (slots_of old) (slots_of new) (marks_of old) (marks_of new) (length old) (length new) c.requires.forest opened.forest (next g c) c.args.at.0 c.args.name.now c.in-Some.slot (linked g c) c.requires.within (stood g c) (folder g c).closed
+          c.in_ok-attach.ensures.here (ap Some c.in_ok-attach.ensures.number) (fresh g c) c.in_ok-attach.ensures.others (past g c) c.in_ok-attach.ensures.marks c.in_ok-attach.ensures.unchanged
           trees (opened.files honest trees has) refl;
       each =
           λ honest has down each.
-          let old = c.args.nodes.now.items in
-          let new = c.attach.new.nodes.items in
-          let s : Slot = c.in-Some.slot in
-          let t : Slot = record { mode = s.mode; oid = s.oid; child = Some c.in_ok-attach.field-0 } in
-          let ok : is_ok c.attach.result ≡ true = search rules in
-          let next : length new ≡ suc (length old) = search rules in
-          let stood : slots_of old c.args.at.0 c.args.name.now ≡ Some s = ap (λ ns. slots_of ns c.args.at.0 c.args.name.now) (sym c.as_slice.ensures.value) ∙ sym c.slot_at.ensures ∙ c.in-Some.is in
-          let closed : s.child ≡ None = no_child s.child (sym c.is_some.ensures ∙ c.if-is_some.false) in
-          let at : (m : Bytes) → slots_of new (length old) m ≡ slot_in c.in_ok-tree.tree m = c.in_ok-attach.ensures.behind in
-          let tree_mode : is_tree_value (leaf_in s).mode.value ≡ true = search rules in
-          opened_each (slots_of old) (slots_of new) (length old) c.args.at.0 c.args.name.now s t has _ each down stood tree_mode (not_null (id_of s.oid) c.is_null.result c.is_null.ensures c.if-is_null.false)
-          c.in_ok-attach.ensures.here refl c.in_ok-attach.ensures.others (slot_in c.in_ok-tree.tree) at (c.in_ok-tree.ensures.holds honest) (λ i m lt. let le : length new ≤ i = omega arith in none_past new i m le);
+          opened_each (slots_of old) (slots_of new) (length old) c.args.at.0 c.args.name.now c.in-Some.slot (linked g c) has _ each down (stood g c) (folder g c).is_tree (folder g c).isnt_null
+          c.in_ok-attach.ensures.here refl c.in_ok-attach.ensures.others (slot_in c.in_ok-tree.tree) c.in_ok-attach.ensures.behind (c.in_ok-tree.ensures.holds honest) (past g c);
     }
 
 pub returns-in_err-attach-clause-kept : goal.returns-in_err-attach-clause-kept
