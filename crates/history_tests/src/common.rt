@@ -12,6 +12,7 @@ use std::process::Abort;
 pub const KINDS: [Kind; 2] = [Kind::Sha1, Kind::Sha256];
 
 /// A text with ids of each kind.
+#[derive(Drop)]
 pub struct ByKind {
     pub sha1: &'static [u8],
     pub sha256: &'static [u8],

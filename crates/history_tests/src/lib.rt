@@ -4,6 +4,8 @@
 #[cfg(test)]
 mod calls;
 #[cfg(test)]
+mod changes;
+#[cfg(test)]
 mod common;
 #[cfg(test)]
 mod growth;
@@ -25,5 +27,7 @@ mod rounds;
 mod texts;
 #[cfg(test)]
 mod walks;
+#[cfg(test)]
+mod watched;
 #[cfg(test)]
 mod writers;

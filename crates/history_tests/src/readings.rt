@@ -12,7 +12,7 @@ use std::alloc::Global;
 use std::process::Abort;
 
 /// A branch with a file two folders deep, and another with a file one folder deep.
-const BEFORE: &[u8] =
+pub const BEFORE: &[u8] =
     b"commit refs/heads/main new\nput file 5 5\na/b/c\nhello\nauthor 1 3 1 +0000\nA\na@b\ncommitter 1 3 1 +0000\nA\na@b\nmessage 3\none\nend\ncommit refs/heads/other new\nput file 3 4\nd/e\nmore\nauthor 1 3 2 +0000\nA\na@b\ncommitter 1 3 2 +0000\nA\na@b\nmessage 3\ntwo\nend\n";
 
 /// The commit, the root, and the folders `a` and `a/b`.
