@@ -154,6 +154,70 @@ add("find x " + twice.hex(), f"{one} refs/heads/x {one}")
 upper = b"D53C4B0F91F1B29769C9430F2D1C0BCAB1170C75 refs/heads/uppercase\n^E9CDC958E7CE2290E2D7958CDB5AA9323EF35D37\n"
 add("items " + upper.hex(), "d53c4b0f91f1b29769c9430f2d1c0bcab1170c75 refs/heads/uppercase e9cdc958e7ce2290e2d7958cdb5aa9323ef35d37; ")
 
+# ---- files opened again over what is known of them, and after the deletion of a name's record, which git makes
+
+
+def opened(data):
+    """What git prints of the records of this file."""
+    write("packed-refs", data)
+    return "".join(f"{t} {n} {o}; " for t, n, o in records())
+
+
+def without(data, name):
+    """The file that git leaves of this one when it deletes the name."""
+    write("packed-refs", data)
+    git("update-ref", "-d", name)
+    with open(place("packed-refs"), "rb") as f:
+        return f.read()
+
+
+def add_opened(known, file, answer, gone=None):
+    """A row of `known`, or of `less` if a name is gone."""
+    digits = "none" if file is None else file.hex()
+    add(f"less {gone}:{digits} {known.hex()}" if gone else f"known {digits} {known.hex()}", answer)
+
+
+other_header = b"# pack-refs with: peeled fully-peeled \n"
+alone = packed.split(b"\n")[0] + b"\n" + good
+gone = "refs/heads/a"
+left = without(packed, gone)
+# another id in a file of the same length, and a tag without its peeled id, which then is none
+moved = left.replace(three.encode() + b" refs/heads/ab\n", two.encode() + b" refs/heads/ab\n")
+tag, first = [(t, o) for t, n, o in told if n == "refs/tags/v1"][0]
+unpeeled = left.replace(b" refs/tags/v1\n^" + first.encode(), b" refs/tags/v1")
+assert len(moved) == len(left) != len(unpeeled) and moved != left
+unpeeled_shown = opened(left).replace(f"{tag} refs/tags/v1 {first};", f"{tag} refs/tags/v1 {tag};")
+for data in [packed, bare, backwards, other_header + backwards, alone, b""]:
+    add_opened(data, data, opened(data))
+    add_opened(data, data, opened(data), "refs/heads/nosuch")
+    add_opened(data, None, "none")
+    add_opened(data, None, "none", gone)
+for data in [left, moved, bare, backwards, other_header + bare, alone, b""]:
+    add_opened(packed, data, opened(data))
+    add_opened(data, packed, shown)
+    add_opened(packed, data, opened(data), gone)
+    add_opened(data, packed, shown, gone)
+add_opened(left, moved, opened(moved))
+add_opened(packed, unpeeled, unpeeled_shown)
+add_opened(packed, unpeeled, unpeeled_shown, gone)
+for name in [gone, "refs/heads/ab", "refs/heads/z", "refs/notes/x", "refs/tags/v1", "refs/tags/v2", "refs/x"]:
+    data = without(packed, name)
+    for known in [packed, backwards]:
+        add_opened(known, data, opened(data), name)
+    add_opened(packed, packed, shown, name)
+add_opened(packed, without(packed, "refs/x"), opened(without(packed, "refs/x")), gone)
+add_opened(alone, without(alone, "refs/heads/x"), "", "refs/heads/x")
+# both records of a name go, and of both that stay the first is before the other
+last = f"{three} refs/heads/a\n".encode()
+add_opened(twice, alone.split(b"\n")[0] + b"\n" + last, f"{three} refs/heads/a {three}; ", "refs/heads/x")
+add_opened(twice, twice[:-len(last)], f"{one} refs/heads/x {one}; {two} refs/heads/x {two}; ", gone)
+for data in [b"x\n", bare[:-1], good + b"\n", packed + b"^" + one.encode() + b"\n^" + one.encode() + b"\n"]:
+    for name in [None, gone]:
+        add_opened(packed, data, f"bad {bads.get(data) or len(lines) + 2}", name)
+for name in [None, gone]:
+    add_opened(packed, b"#x\n" + bare, "no header", name)
+write("packed-refs", packed)
+
 # ---- loose texts: git reads them if the program should
 
 git("pack-refs", "--all", "--prune")

@@ -91,6 +91,13 @@ def formats():
     for operation in ("find", "must"):
         yield row(f"format {operation} y " + hexed(PACKED), lambda size: last)
     yield row("format whole refs/heads/y " + hexed(PACKED), lambda size: last)
+    only = lambda size: numbered(size, "{1} refs/heads/p{0} {1}; ")
+    less = f"{SORTED}{{{RECORD}}}"
+    for known in (PACKED, less):
+        yield row(f"format known {hexed(PACKED)} {hexed(known)}", every)
+    for known in (PACKED, unsorted):
+        yield row(f"format less refs/heads/y:{hexed(less)} {hexed(known)}", only)
+    yield row(f"format less refs/heads/z:{hexed(unsorted)} {hexed(PACKED)}", every)
 
 
 LINE = f"{ONE} {ZERO}~ A <a@b> 1 +0000\tm~\n"

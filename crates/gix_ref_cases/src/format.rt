@@ -2,10 +2,14 @@
 
 use case_words::Page;
 use gix_hash::Kind;
+use gix_ref_file::{Files, MemoryFiles};
 use gix_ref_format::loose;
 use gix_ref_format::packed::{Buffer, FindError, Iter, Records, Reference, buffer, iter};
 use gix_ref_name::{FullName, FullNameRef, PartialNameRef, TargetRef};
 use std::alloc::Global;
+
+// The path of the file that is opened.
+const PLACE: &[u8] = b"packed-refs";
 
 // The target of a loose file.
 fn target(alloc: Global, text: &[u8], page: &mut Page) {
@@ -105,10 +109,58 @@ fn open(alloc: Global, bytes: &[u8]) -> Result<Buffer, buffer::Error> {
 fn opened(alloc: Global, bytes: &[u8], page: &mut Page) {
     match open(alloc, bytes) {
         Ok(_) => page.text("opened"),
-        Err(buffer::Error::Iter { line_number }) => page.put_between("bad ", line_number, ""),
-        Err(buffer::Error::HeaderParsing) => page.text("no header"),
-        Err(buffer::Error::Io) => page.text("io"),
-        Err(buffer::Error::Memory) => page.text("memory"),
+        Err(error) => put_fault(error, page),
+    }
+}
+
+fn put_fault(error: buffer::Error, page: &mut Page) {
+    match error {
+        buffer::Error::Iter { line_number } => page.put_between("bad ", line_number, ""),
+        buffer::Error::HeaderParsing => page.text("no header"),
+        buffer::Error::Io => page.text("io"),
+        buffer::Error::Memory => page.text("memory"),
+    }
+}
+
+// Files in memory with the one of these digits, if they aren't `none`.
+fn files_with(alloc: Global, digits: &str) -> Option<MemoryFiles> {
+    let mut files = MemoryFiles::new(alloc);
+    if digits != "none" {
+        let bytes = hex::decode(alloc, digits).ok()?;
+        files.write(alloc, PLACE, &bytes).ok()?;
+    }
+    Some(files)
+}
+
+// The file opened again, of which this buffer is known.
+fn known(alloc: Global, digits: &str, buffer: &Buffer, page: &mut Page) {
+    match files_with(alloc, digits) {
+        Some(files) => {
+            let opened = Buffer::open_again(alloc, &files, PLACE, Kind::Sha1, Some(buffer));
+            put_opened(opened, page)
+        }
+        None => page.text("no file"),
+    }
+}
+
+// The file opened after the deletion of a name's record, which this buffer may have.
+fn less(alloc: Global, word: &str, buffer: Buffer, page: &mut Page) {
+    let (name, digits) = word.split_once(':').unwrap_or(("", word));
+    match (FullNameRef::new(name.as_bytes()), files_with(alloc, digits)) {
+        (Ok(gone), Some(files)) => {
+            let opened = buffer.open_without(alloc, &files, PLACE, Kind::Sha1, gone);
+            put_opened(opened, page)
+        }
+        (Ok(_), None) => page.text("no file"),
+        (Err(_), _) => page.text("no name"),
+    }
+}
+
+fn put_opened(opened: Result<Option<Buffer>, buffer::Error>, page: &mut Page) {
+    match opened {
+        Ok(Some(buffer)) => put_all(buffer.iter(), page),
+        Ok(None) => page.text("none"),
+        Err(error) => put_fault(error, page),
     }
 }
 
@@ -156,12 +208,12 @@ pub fn put_answer(alloc: Global, line: &str, page: &mut Page) {
     let (operation, rest) = line.split_once(' ').unwrap_or((line, ""));
     let (word, digits) = rest.split_once(' ').unwrap_or(("", rest));
     match hex::decode(alloc, digits) {
-        Ok(bytes) => put_of_bytes(alloc, operation, word.as_bytes(), &bytes, page),
+        Ok(bytes) => put_of_bytes(alloc, operation, word, &bytes, page),
         Err(_) => page.text("no bytes"),
     }
 }
 
-fn put_of_bytes(alloc: Global, operation: &str, word: &[u8], bytes: &[u8], page: &mut Page) {
+fn put_of_bytes(alloc: Global, operation: &str, word: &str, bytes: &[u8], page: &mut Page) {
     match operation {
         "loose" => target(alloc, bytes, page),
         "again" => again(alloc, bytes, page),
@@ -169,20 +221,22 @@ fn put_of_bytes(alloc: Global, operation: &str, word: &[u8], bytes: &[u8], page:
         "items" => items(bytes, page),
         "open" => opened(alloc, bytes, page),
         _ => match open(alloc, bytes) {
-            Ok(buffer) => put_of_buffer(alloc, operation, word, &buffer, page),
+            Ok(buffer) => put_of_buffer(alloc, operation, word, buffer, page),
             Err(_) => page.text("not opened"),
         },
     }
 }
 
-fn put_of_buffer(alloc: Global, operation: &str, word: &[u8], buffer: &Buffer, page: &mut Page) {
+fn put_of_buffer(alloc: Global, operation: &str, word: &str, buffer: Buffer, page: &mut Page) {
     match operation {
         "bytes" => page.hex(buffer.as_ref()),
         "all" => put_all(buffer.iter(), page),
-        "begin" => put_all(buffer.iter_prefixed(word), page),
-        "find" => found(alloc, word, buffer, page),
-        "whole" => found_whole(word, buffer, page),
-        "must" => must_stand(alloc, word, buffer, page),
+        "begin" => put_all(buffer.iter_prefixed(word.as_bytes()), page),
+        "find" => found(alloc, word.as_bytes(), &buffer, page),
+        "whole" => found_whole(word.as_bytes(), &buffer, page),
+        "must" => must_stand(alloc, word.as_bytes(), &buffer, page),
+        "known" => known(alloc, word, &buffer, page),
+        "less" => less(alloc, word, buffer, page),
         _ => page.text("no operation"),
     }
 }

@@ -1,7 +1,8 @@
 -- What a buffer of `packed-refs` holds, and what an iterator over it has yet to give.
-use Rattle.std.specs.Prelude.{ℕ, List}
+use Rattle.std.specs.Prelude.{◌≡◌, ℕ, List, Option, Some}
+use Rattle.gix_hash.specs.declared.kind.Kind.{Kind}
 use Rattle.gix_ref_format.specs.Packed.{Record}
-use Rattle.gix_ref_format.specs.PackedBuffer.{entry_records}
+use Rattle.gix_ref_format.specs.PackedBuffer.{Keeps, entry_records}
 use Rattle.gix_ref_format.specs.declared.packed.buffer.Buffer.{Buffer}
 use Rattle.gix_ref_format.specs.declared.packed.records.Records.{Records}
 
@@ -15,3 +16,7 @@ text_of buffer = buffer.bytes.items
 
 abbrev pub records_left : Records → List Record
 records_left records = entry_records records.rest.now
+
+-- if the file has the buffer's bytes, the buffer has its records
+abbrev pub IsKnownOf : Kind → Option (List ℕ) → Buffer → Type 0
+IsKnownOf kind file buffer = file ≡ Some (text_of buffer) → Keeps kind (text_of buffer) (kept buffer)

@@ -3,6 +3,7 @@
 ghost use Rattle.std.specs.Prelude.{◌≡◌, false, unwrap_or};
 ghost use Rattle.gix_ref_format.specs.declared.packed.Peeled.TheVariants.{Unspecified};
 
+mod again;
 pub mod buffer;
 mod decode;
 mod edit;

@@ -1,10 +1,8 @@
 -- What a transaction of `packed-refs` holds.
-use Rattle.std.specs.Prelude.{ℕ, ◌≡◌, ⊤, false, List, Option, Some, None, option_map, IsSome}
+use Rattle.std.specs.Prelude.{ℕ, ◌≡◌, ⊤, false, List, Option, Some, None, IsSome}
 use Rattle.gix_hash.specs.declared.kind.Kind.{Kind}
 use Rattle.gix_ref_file.specs.Tree.{Tree, node_at, bytes_of}
 use Rattle.gix_ref_format.specs.Packed.{packed_records}
-use Rattle.gix_ref_format.specs.PackedBuffer.{KeepsFile}
-use Rattle.gix_ref_format.specs.PackedKept.{kept}
 use Rattle.gix_ref_lock.specs.Locks.{lock_of, IsTaken}
 use Rattle.gix_ref_lock.specs.declared.packed.Transaction.{Transaction}
 
@@ -24,11 +22,9 @@ IsRead kind (Some text) = IsSome (packed_records kind text)
 abbrev pub IsReadAt : Kind → List ℕ → Tree → Type 0
 IsReadAt kind place tree = IsRead kind (bytes_of (node_at tree place))
 
--- The transaction is of the file at this place: it has its records, and holds its lock, which is
--- empty.
+-- The transaction is of the file at this place, and holds its lock, which is empty.
 pub record IsBegun (kind : Kind) (place : List ℕ) (old new : Tree) (t : Transaction) : Type 0 where
   pub here : place_of t ≡ place
   pub of_kind : t.kind ≡ kind
-  pub records : KeepsFile kind (bytes_of (node_at old place)) (option_map kept t.buffer)
   pub taken : IsTaken (lock_of place) old new
   pub unwritten : t.is_written ≡ false

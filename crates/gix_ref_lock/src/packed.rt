@@ -1,11 +1,13 @@
 //! Transactions of `packed-refs`: a held lock gets the new text and is then put in its place.
 
-ghost use Rattle.std.specs.Prelude.{◌≡◌, ◌≢◌, ◌≤◌, ◌⊎◌, [], true, false, Some, None, Err, map, option_map, IfOk, IfErr, IsErrOf, OnOk, IsTrue};
-ghost use Rattle.gix_ref_file.specs.Tree.{node_at, bytes_at};
+ghost use Rattle.std.specs.Prelude.{◌≡◌, ◌≢◌, ◌≤◌, ◌⊎◌, [], true, false, Some, None, Err, map, option_map, IfOk, IfErr, IfSome, IsErrOf, OnOk, IsTrue};
+ghost use Rattle.gix_ref_file.specs.Tree.{node_at, bytes_at, bytes_of};
 ghost use Rattle.gix_ref_file.specs.Changes.{is_file_at, may_hold_file};
 ghost use Rattle.gix_ref_file.specs.Calls.{HasFault, Passes};
 ghost use Rattle.gix_ref_file.specs.History.{HasRisen};
 ghost use Rattle.gix_ref_format.specs.Packed.{record_of};
+ghost use Rattle.gix_ref_format.specs.PackedBuffer.{KeepsFile};
+ghost use Rattle.gix_ref_format.specs.PackedKept.{IsKnownOf, kept};
 ghost use Rattle.gix_ref_format.specs.Edited.{line_of, lines_of, IsEdited};
 ghost use Rattle.gix_ref_lock.specs.Records.{records_in, IsTextOf, HoldsEdited};
 ghost use Rattle.gix_ref_lock.specs.RecordEdits.{line_in};
@@ -136,7 +138,8 @@ pub struct Transaction {
 impl Transaction {
     ghost use Rattle.gix_ref_lock.specs.PackedEdits.{IsBegun, IsReadAt, place_of, lock_path_of};
 
-    /// Makes the lock of the file at this place, and reads the file, whose ids are of this kind.
+    /// Makes the lock of the file at this place, and reads the file, whose ids are of this kind. If it
+    /// still has the bytes of `known`, what was read of it before, its records aren't parsed again.
     /// Returns `Held` if something is at the lock's path already; the other errors are those of
     /// `Buffer::open`, and the lock is then removed; if that fails, the error is `Failed`.
     pub fn new<F: Files>(
@@ -144,10 +147,15 @@ impl Transaction {
         files: &mut F,
         place: &[u8],
         kind: Kind,
+        known: Option<&Buffer>,
     ) -> Result<Transaction, Error>
         ensures honest { F.is_honest files.old → F.is_honest files.new }
         ensures begun { F.is_honest files.old → IfOk result (IsBegun kind place.now
             (F.history files.old).tree (F.history files.new).tree) }
+        ensures records { F.is_honest files.old
+            → let file = bytes_of (node_at (F.history files.old).tree place.now) in
+            IfSome known.entry (λ buffer. IsKnownOf kind file buffer.now)
+            → IfOk result (λ t. KeepsFile kind file (option_map kept t.buffer)) }
         ensures moments { Passes F.is_honest F.history files.old files.new
             (OthersStay (lock_of place.now)) }
         ensures folders { Passes F.is_honest F.history files.old files.new SameFolders }
@@ -168,7 +176,7 @@ impl Transaction {
             ⊎ (HasRisen (F.failures files.old) (F.failures files.new) ⊎ IsShort error)) }
     {
         let lock = take_lock(alloc, files, place)?;
-        match Buffer::open(alloc, &*files, place, kind) {
+        match Buffer::open_again(alloc, &*files, place, kind, known) {
             Ok(buffer) => Ok(Transaction {
                 lock,
                 buffer,

@@ -1,6 +1,7 @@
 -- What edits say of packed records.
 use Rattle.std.proofs.Common.{◌≡◌, ◌≢◌, refl, sym, ◌∙◌, ap, subst, Bool, true, false, List, [], ◌∷◌, ◌++◌, append_assoc, append-nil, length, map, ◌||◌, arith, Option, Some, None}
-use Rattle.std.specs.Prelude.{is_some, option_map, option_and_then}
+use Rattle.std.specs.Prelude.{IfSome, is_some, option_map, option_and_then}
+use Rattle.std.proofs.lemmas.Option.{same_Some}
 use Rattle.std.specs.List.{list_any}
 use Rattle.std.specs.Option.{option_to_list}
 use Rattle.gix_hash.specs.Id.{Id, id_of}
@@ -20,8 +21,8 @@ use Rattle.gix_ref_edit.specs.declared.log.RefLog.TheVariants.{AndReference, Onl
 use Rattle.std.specs.Borrow.{Bor}
 use Rattle.gix_ref_format.specs.Lookup.{packed_key, packed_hit}
 use Rattle.gix_ref_format.specs.Packed.{Record}
-use Rattle.gix_ref_format.specs.PackedBuffer.{KeepsFile, Holds, hit}
-use Rattle.gix_ref_format.specs.PackedKept.{kept}
+use Rattle.gix_ref_format.specs.PackedBuffer.{Keeps, KeepsFile, Holds, hit}
+use Rattle.gix_ref_format.specs.PackedKept.{IsKnownOf, kept, text_of}
 use Rattle.gix_ref_format.specs.declared.packed.buffer.Buffer.{Buffer}
 use Rattle.gix_ref_format.specs.Edited.{Line}
 use Rattle.gix_ref_store.specs.Follows.{Ends, follow, follow_from}
@@ -122,14 +123,20 @@ known_changes kind (Some text) None lines keeps = absurd keeps
 known_changes kind None (Some buffer) lines keeps = absurd keeps
 known_changes kind (Some text) (Some buffer) lines (records, reads, holds) = ap (λ rs. changes_records rs lines) reads ∙ same_changes records (kept buffer.now) lines holds
 
+-- what has the file's records is known of it
+pub known_of : (kind : Kind) (file : Option Bytes) (lent : Option (Bor Buffer)) → KeepsFile kind file (option_map (λ (buffer : Bor Buffer). kept buffer.now) lent) → IfSome lent (λ buffer. IsKnownOf kind file buffer.now)
+known_of kind file None keeps = tt
+known_of kind None (Some buffer) keeps = absurd keeps
+known_of kind (Some text) (Some buffer) keeps = λ same. subst (λ t. Keeps kind t (kept buffer.now)) (same_Some text (text_of buffer.now) same) keeps
+
 -- ---- the lock of packed records
-pub holds_records : (kind : Kind) (place : Bytes) (old mid new : Tree) (lines : List Line) (begun t : Transaction) → IsBegun kind place old mid begun → t.lock ≡ begun.lock → t.buffer ≡ begun.buffer → t.is_written ≡ true
+pub holds_records : (kind : Kind) (place : Bytes) (old mid new : Tree) (lines : List Line) (begun t : Transaction) → IsBegun kind place old mid begun → KeepsFile kind (file_at old place) (option_map kept begun.buffer) → t.lock ≡ begun.lock → t.buffer ≡ begun.buffer → t.is_written ≡ true
     → HoldsEdited begun.kind (records_in begun.buffer) lines (lock_path_of begun) new → HoldsRecords kind place old new lines t
-holds_records kind place old mid new lines begun t is lock buffer written held = record {
+holds_records kind place old mid new lines begun t is records lock buffer written held = record {
   here = ap (λ (l : Lock). l.place.items) lock ∙ is.here;
   free = ap (λ (l : Lock). node_at old l.path.items) lock ∙ ap (node_at old) begun.lock.beside ∙ ap (λ (p : Bytes). node_at old (lock_of p)) is.here ∙ is.taken.free;
   written = written;
-  keeps = subst (λ (b : Option Buffer). KeepsFile kind (file_at old place) (option_map kept b)) (sym buffer) is.records;
+  keeps = subst (λ (b : Option Buffer). KeepsFile kind (file_at old place) (option_map kept b)) (sym buffer) records;
   text = held.text;
   holds = ap (λ (l : Lock). file_at new l.path.items) lock ∙ ap bytes_of held.here;
   told = subst (λ (b : Option Buffer). IsTextOf kind (records_in b) lines held.text) (sym buffer) (subst (λ (k : Kind). IsTextOf k (records_in begun.buffer) lines held.text) is.of_kind held.told);

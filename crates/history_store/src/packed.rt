@@ -1,12 +1,12 @@
 //! The records of `packed-refs`: read once and kept, looked up, and replaced.
-ghost use Rattle.std.specs.Prelude.{◌≡◌, ◌≢◌, ◌≤◌, [], None, Some, IfOk, IfErr, OnOk, IsErrOf, IsTrue, option_map};
+ghost use Rattle.std.specs.Prelude.{◌≡◌, ◌≢◌, ◌≤◌, [], None, Some, IfOk, IfErr, MatchResult, OnOk, IsErrOf, IsTrue, option_map};
 ghost use Rattle.gix_hash.specs.Id.{id_of};
 ghost use Rattle.gix_ref_file.specs.Calls.{Achieves, Finds, Passes};
 ghost use Rattle.gix_ref_file.specs.History.{HasRisen};
 ghost use Rattle.gix_ref_file.specs.declared.files.FileError.TheVariants.{Failed, Memory};
 ghost use Rattle.gix_object_lines.specs.Bytes.{is_among};
 ghost use Rattle.gix_ref_format.specs.Packed.{Record, packed_records, record_of};
-ghost use Rattle.gix_ref_format.specs.PackedBuffer.{FileFault, Keeps};
+ghost use Rattle.gix_ref_format.specs.PackedBuffer.{FileFault, Keeps, KeepsFile};
 ghost use Rattle.gix_ref_format.specs.PackedKept.{kept, text_of};
 ghost use Rattle.gix_ref_format.specs.declared.packed.buffer.Error.TheVariants.{Io};
 ghost use Rattle.gix_ref_name.specs.Names.{name_of};
@@ -58,6 +58,39 @@ impl<F: Files> Names<F> {
         let read = Buffer::open(alloc, &self.store.files, PACKED, self.kind)?;
         self.packed = all_of(alloc, read);
         Ok(())
+    }
+
+    // Reads `packed-refs` anew, from which the record of a name went.
+    pub(crate) fn read_less(&mut self, alloc: Global, name: &[u8]) -> Result<(), Error>
+        ensures files { self.new.store.files ≡ self.old.store.files }
+        ensures kind { self.new.kind ≡ self.old.kind }
+        ensures keeps { Finds F.is_honest F.history self.new.store.files
+            (λ tree. OnOk result (KeepsRecords self.new tree)) }
+        ensures faulty { Finds F.is_honest F.history self.new.store.files
+            (λ tree. IfErr result (FileFault self.new.kind (file_at tree packed_place))) }
+        ensures failed { IsErrOf result Io → F.reading_may_fail }
+    {
+        let read = self.records_without(alloc, name)?;
+        self.packed = all_of(alloc, read);
+        Ok(())
+    }
+
+    // Returns the records of `packed-refs`, by those that were kept but for the name's, which are
+    // given up.
+    fn records_without(&mut self, alloc: Global, name: &[u8]) -> Result<Option<Buffer>, Error>
+        ensures files { self.new.store.files ≡ self.old.store.files }
+        ensures kind { self.new.kind ≡ self.old.kind }
+        ensures kept { Finds F.is_honest F.history self.new.store.files (λ tree. MatchResult result
+            (λ found. KeepsFile self.new.kind (file_at tree packed_place) (option_map kept found))
+            (FileFault self.new.kind (file_at tree packed_place))) }
+        ensures failed { IsErrOf result Io → F.reading_may_fail }
+    {
+        match (self.packed.read.take(), FullNameRef::new(name)) {
+            (Some(before), Ok(gone)) => {
+                before.open_without(alloc, &self.store.files, PACKED, self.kind, gone)
+            }
+            _ => Buffer::open(alloc, &self.store.files, PACKED, self.kind),
+        }
     }
 
     // Reads the records anew if one went since they were read.

@@ -111,7 +111,7 @@ fn put_tried(
     edits: Vec<RecordEdit>,
     page: &mut Page,
 ) {
-    match Transaction::new(alloc, files, PLACE, Kind::Sha1) {
+    match Transaction::new(alloc, files, PLACE, Kind::Sha1, None) {
         Ok(begun) => put_begun(alloc, files, operation, begun, edits, page),
         Err(error) => page.name(error),
     }

@@ -12,7 +12,7 @@ use crate::packed::Reference;
 use crate::packed::buffer::{Buffer, Entry, Error, name_of};
 use crate::packed::iter::{self, Iter};
 use gix_hash::Kind;
-use gix_ref_file::{FileError, Files};
+use gix_ref_file::Files;
 use std::alloc::{AllocError, Global};
 
 impl Buffer {
@@ -45,13 +45,7 @@ impl Buffer {
             ≡ bytes_of (node_at (F.history files.now).tree path.now)) }
         ensures failed { IsErrOf result Io → F.reading_may_fail }
     {
-        let mut bytes = Vec::new(alloc);
-        match files.read(path, &mut bytes) {
-            Ok(Some(_)) => Ok(Some(Buffer::from_bytes(alloc, bytes, kind)?)),
-            Ok(None) => Ok(None),
-            Err(FileError::Failed) => Err(Error::Io),
-            Err(FileError::Memory) => Err(Error::Memory),
-        }
+        Buffer::open_again(alloc, files, path, kind, None)
     }
 }
 

@@ -14,7 +14,7 @@ ghost use Rattle.gix_ref_store.specs.Places.{packed_place};
 ghost use Rattle.gix_ref_store.specs.RefStates.{packed_text_in};
 ghost use Rattle.gix_ref_store.specs.Stores.{base_of};
 ghost use Rattle.gix_ref_name.specs.Targets.{target_view};
-ghost use Rattle.gix_ref_way.specs.Ways.{SameFolders};
+ghost use Rattle.gix_ref_way.specs.Ways.{SameFolders, file_at};
 ghost use Rattle.gix_ref_lock.specs.Locks.{lock_of, HasLockPlace, OthersStay};
 ghost use Rattle.gix_ref_lock.specs.PackedEdits.{IsReadAt, lock_path_of, place_of};
 ghost use Rattle.gix_ref_lock.specs.RecordEdits as record_edits;
@@ -98,7 +98,7 @@ pub fn repack<F: Files, O: FindInto>(
     }
     let place = store.packed_refs_path(alloc)?;
     let kind = store.options().object_hash;
-    let held = written(alloc, &mut store.files, &place, kind, lines)?;
+    let held = written(alloc, &mut store.files, &place, kind, packed, lines)?;
     Ok(Some(held))
 }
 
@@ -108,6 +108,7 @@ fn written<F: Files>(
     files: &mut F,
     place: &[u8],
     kind: Kind,
+    packed: Option<&Buffer>,
     lines: Vec<RecordEdit>,
 ) -> Result<Transaction, RepackError>
     ensures honest { F.is_honest files.old → F.is_honest files.new }
@@ -127,13 +128,15 @@ fn written<F: Files>(
         (F.failures files.old) (F.failures files.new) (F.history files.old).tree
         (F.history files.new).tree) }
     ensures held { F.is_honest files.old → lines.items ≢ []
+        → KeepsFile kind (file_at (F.history files.old).tree place.now)
+        (option_map (λ buffer. kept buffer.now) packed.entry)
         → IfOk result (HoldsRecords kind place.now (F.history files.old).tree
         (F.history files.new).tree (map record_edits.line_in lines.items)) }
     ensures failed { F.is_honest files.old → let tree = (F.history files.old).tree in
         HasLockPlace place.now tree → IsReadAt kind place.now tree → IfErr result (λ error.
         WantsMemory error ⊎ HasFault F.failures F.reading_may_fail files.old files.new) }
 {
-    let begun = Transaction::new(alloc, files, place, kind)?;
+    let begun = Transaction::new(alloc, files, place, kind, packed)?;
     let prepared = begun.prepare(alloc, files, lines)?;
     Ok(prepared)
 }

@@ -33,7 +33,7 @@ returns-in-Err-clause-failed g c = λ honest place read.
     let read_now = subst (λ (file : Option (List ℕ)). IsRead c.args.kind file) (ap bytes_of (sym here)) read in
     let path = c.in_ok-lock.lock.beside ∙ ap lock_of c.in_ok-lock.ensures.place in
     let locked = ap (is_file_at mid.tree) path ∙ ap (λ o. is_some (bytes_of o)) (c.in_ok-lock.ensures.taken honest).held in
-    told_so _ _ c.unopened.result c.in-Err.error (c.unopened.ensures.told still locked) (no_fault c.args.kind _ c.in-Err.error _ read_now (c.in-Err.ensures.kept still) (λ io. inr (c.open.ensures.failed (c.in-Err.is ∙ ap Err io))))
+    told_so _ _ c.unopened.result c.in-Err.error (c.unopened.ensures.told still locked) (no_fault c.args.kind _ c.in-Err.error _ read_now (c.in-Err.ensures.faulty still) (λ io. inr (c.open_again.ensures.failed (c.in-Err.is ∙ ap Err io))))
     (λ risen. inl (second_half _ _ _ c.take_lock.ensures.later risen))
 
 pub returns-in-Err-clause-rolled_back : goal.returns-in-Err-clause-rolled_back

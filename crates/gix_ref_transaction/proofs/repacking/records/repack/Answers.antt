@@ -4,6 +4,11 @@ use Rattle.gix_hash.specs.declared.kind.Kind.{Kind}
 use Rattle.gix_ref_lock.specs.Locks.{HasLockPlace, lock_of}
 use Rattle.gix_ref_lock.specs.PackedEdits.{IsReadAt}
 use Rattle.std.specs.List.{list_any}
+use Rattle.std.specs.Borrow.{Bor}
+use Rattle.gix_ref_format.specs.PackedBuffer.{KeepsFile}
+use Rattle.gix_ref_format.specs.PackedKept.{kept}
+use Rattle.gix_ref_format.specs.declared.packed.buffer.Buffer.{Buffer}
+use Rattle.gix_ref_way.specs.Ways.{file_at}
 use Rattle.gix_ref_store.specs.Finds.{records_in}
 use Rattle.gix_ref_store.specs.Places.{packed_place}
 use Rattle.gix_ref_store.specs.Stores.{base_of}
@@ -38,7 +43,9 @@ returns-clause-repacked g c = λ honest told known.
     let lines_some : lines ≢ [] = λ none. some_change records (map line_in lines) some (ap (map line_in) none) in
     let of_kind : c.options-kind.result.object_hash ≡ b.kind = search rules in
     let here : c.deref-2.result.now ≡ packed_place b = c.deref-2.ensures.value ∙ c.in_ok-place.ensures in
-    changed_records b packs c.options-kind.result.object_hash c.deref-2.result.now c.args.packed old new c.args.edits.now (map line_in lines) c.in_ok-held.held known some of_kind here (c.in_ok-lines.ensures.said honest told) (c.in_ok-held.ensures.held honest lines_some)
+    let lent = option_map (λ (buffer : Bor Buffer). kept buffer.now) c.args.packed in
+    let own_known = subst (λ (p : List ℕ). KeepsFile c.options-kind.result.object_hash (file_at old p) lent) (sym here) (subst (λ (k : Kind). KeepsFile k (file_at old (packed_place b)) lent) (sym of_kind) known) in
+    changed_records b packs c.options-kind.result.object_hash c.deref-2.result.now c.args.packed old new c.args.edits.now (map line_in lines) c.in_ok-held.held known some of_kind here (c.in_ok-lines.ensures.said honest told) (c.in_ok-held.ensures.held honest lines_some own_known)
 
 pub returns-in_err-held-clause-failed : goal.returns-in_err-held-clause-failed
 returns-in_err-held-clause-failed g c = λ honest place read.
@@ -74,12 +81,7 @@ returns-in_err-held-clause-resolves g c = λ honest told.
 
 pub returns-clause-here : goal.returns-clause-here
 returns-clause-here g c = λ honest.
-    let records = records_in c.args.packed in
-    let lines = c.in_ok-lines.lines.items in
-    let some = sym (any_line (changes_record records) lines) ∙ ap (list_any (λ (e : RecordEdit). changes_record records (line_in e))) (sym c.deref.ensures.value) ∙ sym c.change_records.ensures ∙ c.if-not-change_records.false in
-    let lines_some : lines ≢ [] = λ none. some_change records (map line_in lines) some (ap (map line_in) none) in
-    let held = c.in_ok-held.ensures.held honest lines_some in
-    c.in_ok-held.held.lock.beside ∙ ap lock_of (held.here ∙ c.deref-2.ensures.value ∙ c.in_ok-place.ensures)
+    c.in_ok-held.held.lock.beside ∙ ap lock_of (c.in_ok-held.ensures.at ∙ c.deref-2.ensures.value ∙ c.in_ok-place.ensures)
 
 pub returns-in_err-held-clause-memory : goal.returns-in_err-held-clause-memory
 returns-in_err-held-clause-memory g c =

@@ -3,13 +3,14 @@ use Rattle.std.specs.Prelude.{is_some}
 use Rattle.std.proofs.lemmas.Result.{err_from_is_err_and}
 use Rattle.gix_ref_file.specs.Tree.{bytes_of}
 use Rattle.gix_ref_file.specs.Changes.{is_file_at}
+use Rattle.gix_ref_way.specs.Ways.{file_at}
 use Rattle.gix_ref_way.proofs.FoldersMade.{risen_later}
 use Rattle.gix_ref_file.specs.History.{Adds}
 use Rattle.gix_ref_lock.specs.Locks.{lock_of, OthersStay}
 use Rattle.gix_ref_lock.specs.RecordEdits.{line_in}
 use Rattle.gix_ref_lock.proofs.GivenUp.{second_half}
 use Rattle.gix_ref_lock.proofs.LockLemmas.{others_joined, folders_joined}
-use Rattle.gix_ref_transaction.proofs.RecordLines.{holds_records}
+use Rattle.gix_ref_transaction.proofs.RecordLines.{holds_records, known_of}
 use Rattle.gix_ref_transaction.proofs.repacking.records.written.Goals as goal
 
 pub returns-in_err-prepared-clause-moments : goal.returns-in_err-prepared-clause-moments
@@ -31,12 +32,13 @@ returns-clause-moments g c = λ honest.
     (subst (λ (l : List ℕ). Adds (OthersStay l mid.tree) mid new) path (c.prepare.ensures.moments (c.new.ensures.honest honest)))
 
 pub returns-clause-held : goal.returns-clause-held
-returns-clause-held g c = λ honest some.
+returns-clause-held g c = λ honest some keeps.
     let old = (g.F.Files.history c.args.files.now).tree in
     let mid = (g.F.Files.history c.new.new.files).tree in
     let new = (g.F.Files.history c.prepare.new.files).tree in
     let told = c.in_ok-prepared.ensures in
-    holds_records c.args.kind c.args.place.now old mid new (map line_in c.args.lines.items) c.in_ok-begun.begun c.in_ok-prepared.prepared (c.in_ok-begun.ensures.begun honest) told.lock told.buffer (told.written some)
+    let records = c.in_ok-begun.ensures.records honest (known_of c.args.kind (file_at old c.args.place.now) c.args.packed keeps) in
+    holds_records c.args.kind c.args.place.now old mid new (map line_in c.args.lines.items) c.in_ok-begun.begun c.in_ok-prepared.prepared (c.in_ok-begun.ensures.begun honest) records told.lock told.buffer (told.written some)
     (told.prepared (c.new.ensures.honest honest) some)
 
 pub returns-in_err-begun-clause-failed : goal.returns-in_err-begun-clause-failed

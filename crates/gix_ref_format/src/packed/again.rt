@@ -1,0 +1,186 @@
+//! Reading `packed-refs` again: what is known of it isn't parsed a second time.
+
+ghost use Rattle.std.specs.Prelude.{◌≡◌, Some, map, option_map, IfErr, IfOk, IfSome, IsErrOf, IsTrue, MatchResult};
+ghost use Rattle.std.specs.List.{filter};
+ghost use Rattle.gix_hash.specs.Id.{id_of};
+ghost use Rattle.gix_ref_file.specs.Tree.{node_at, bytes_of};
+ghost use Rattle.gix_ref_format.specs.Packed.{packed_records, record_of};
+ghost use Rattle.gix_ref_format.specs.PackedBuffer.{entry_records, IsInOrder, Keeps, KeepsFile, OpenFault, FileFault};
+ghost use Rattle.gix_ref_format.specs.PackedKept.{IsKnownOf, kept, text_of};
+ghost use Rattle.gix_ref_format.specs.Written.{AllHaveKind};
+ghost use Rattle.gix_ref_format.specs.declared.packed.buffer.Error.TheVariants.{Io};
+
+use crate::laws::written_records_are_read;
+use crate::packed::buffer::{Buffer, Entry, Error, name_of};
+use crate::packed::{Reference, packed_text};
+use gix_hash::{Kind, ObjectId};
+use gix_ref_file::{FileError, Files};
+use gix_ref_name::FullNameRef;
+use std::alloc::{AllocError, Global};
+
+impl Buffer {
+    /// The buffer of the file at this path, as `open` returns it. If the file still has the bytes
+    /// of `known`, what was read of it before, the records are copied from there.
+    pub fn open_again<F: Files>(
+        alloc: Global,
+        files: &F,
+        path: &[u8],
+        kind: Kind,
+        known: Option<&Buffer>,
+    ) -> Result<Option<Buffer>, Error>
+        ensures kept { F.is_honest files.now
+            → let file = bytes_of (node_at (F.history files.now).tree path.now) in
+            IfSome known.entry (λ buffer. IsKnownOf kind file buffer.now)
+            → IfOk result (λ found. KeepsFile kind file (option_map kept found)) }
+        ensures faulty { F.is_honest files.now → IfErr result
+            (FileFault kind (bytes_of (node_at (F.history files.now).tree path.now))) }
+        ensures bytes { F.is_honest files.now → IfOk result
+            (λ found. option_map text_of found
+            ≡ bytes_of (node_at (F.history files.now).tree path.now)) }
+        ensures failed { IsErrOf result Io → F.reading_may_fail }
+    {
+        let mut bytes = Vec::new(alloc);
+        match files.read(path, &mut bytes) {
+            Ok(Some(_)) => Ok(Some(again(alloc, bytes, kind, known)?)),
+            Ok(None) => Ok(None),
+            Err(FileError::Failed) => Err(Error::Io),
+            Err(FileError::Memory) => Err(Error::Memory),
+        }
+    }
+
+    /// The buffer of the file at this path, as `open` returns it. If the file has the text of this
+    /// one's records but for those of the name, as after its deletion, these are taken over.
+    pub fn open_without<F: Files>(
+        self,
+        alloc: Global,
+        files: &F,
+        path: &[u8],
+        kind: Kind,
+        gone: FullNameRef<'_>,
+    ) -> Result<Option<Buffer>, Error>
+        ensures kept { F.is_honest files.now
+            → let file = bytes_of (node_at (F.history files.now).tree path.now) in
+            MatchResult result (λ found. KeepsFile kind file (option_map kept found))
+            (FileFault kind file) }
+        ensures bytes { F.is_honest files.now → IfOk result
+            (λ found. option_map text_of found
+            ≡ bytes_of (node_at (F.history files.now).tree path.now)) }
+        ensures failed { IsErrOf result Io → F.reading_may_fail }
+    {
+        let mut bytes = Vec::new(alloc);
+        match files.read(path, &mut bytes) {
+            Ok(Some(_)) => Ok(Some(self.without(alloc, bytes, kind, gone)?)),
+            Ok(None) => Ok(None),
+            Err(FileError::Failed) => Err(Error::Io),
+            Err(FileError::Memory) => Err(Error::Memory),
+        }
+    }
+
+    // The buffer of these bytes, by this one's records but for those of the name if they are theirs.
+    fn without(
+        self,
+        alloc: Global,
+        bytes: Vec<u8>,
+        kind: Kind,
+        gone: FullNameRef<'_>,
+    ) -> Result<Buffer, Error>
+        ensures kept { MatchResult result (λ buffer. Keeps kind bytes.items (kept buffer))
+            (OpenFault kind bytes.items) }
+        ensures bytes { IfOk result (λ buffer. buffer.bytes ≡ bytes) }
+    {
+        let entries = others(self.entries, gone.to_path());
+        if are_written(alloc, &entries, &bytes, kind)? {
+            return Ok(Buffer { bytes, entries });
+        }
+        Buffer::from_bytes(alloc, bytes, kind)
+    }
+}
+
+// The buffer of these bytes, by what is known if they are the same.
+fn again(alloc: Global, bytes: Vec<u8>, kind: Kind, known: Option<&Buffer>) -> Result<Buffer, Error>
+    ensures kept { IfSome known.entry (λ buffer. IsKnownOf kind (Some bytes.items) buffer.now)
+        → IfOk result (λ buffer. Keeps kind bytes.items (kept buffer)) }
+    ensures faulty { IfErr result (OpenFault kind bytes.items) }
+    ensures bytes { IfOk result (λ buffer. buffer.bytes ≡ bytes) }
+{
+    if let Some(buffer) = known {
+        if buffer.as_ref() == bytes.as_slice() {
+            let entries = copied(alloc, &buffer.entries)?;
+            return Ok(Buffer { bytes, entries });
+        }
+    }
+    Buffer::from_bytes(alloc, bytes, kind)
+}
+
+fn copied(alloc: Global, entries: &[Entry]) -> Result<Vec<Entry>, AllocError>
+    ensures { IfOk result (λ copies. copies.items ≡ entries.now) }
+{
+    let mut copies = Vec::new(alloc);
+    for entry in entries {
+        copies.push(Entry {
+            name: entry.name.try_clone()?,
+            target: entry.target,
+            object: entry.object,
+        })?;
+    }
+    Ok(copies)
+}
+
+// The entries of other names, in their order.
+fn others(mut entries: Vec<Entry>, gone: &[u8]) -> Vec<Entry>
+    ensures { IsInOrder entries.items → IsInOrder result.items }
+{
+    entries.retain(|entry| name_of(entry) != gone);
+    entries
+}
+
+// Returns whether the bytes are the text of these records, whose ids are all of this kind.
+fn are_written(
+    alloc: Global,
+    entries: &[Entry],
+    bytes: &[u8],
+    kind: Kind,
+) -> Result<bool, AllocError>
+    ensures { IfOk result (λ are. IsTrue are
+        → packed_records kind bytes.now ≡ Some (entry_records entries.now)) }
+{
+    let records = lent(alloc, entries)?;
+    if !have_kind(&records, kind) {
+        return Ok(false);
+    }
+    written_records_are_read(&records, kind);
+    let text = packed_text(alloc, &records)?;
+    Ok(text.as_slice() == bytes)
+}
+
+// The records of the entries.
+fn lent<'a>(alloc: Global, entries: &'a [Entry]) -> Result<Vec<Reference<'a>>, AllocError>
+    ensures { IfOk result (λ records. map record_of records.items ≡ entry_records entries.now) }
+{
+    let mut records = Vec::new(alloc);
+    for entry in entries {
+        records.push(entry.as_reference())?;
+    }
+    Ok(records)
+}
+
+// Returns whether all ids are of this kind.
+fn have_kind(records: &[Reference<'_>], kind: Kind) -> bool
+    ensures { IsTrue result → AllHaveKind kind (map record_of records.now) }
+{
+    for record in records {
+        if record.target.kind() != kind || !is_peeled_of(record.object, kind) {
+            return false;
+        }
+    }
+    true
+}
+
+fn is_peeled_of(peeled: Option<ObjectId>, kind: Kind) -> bool
+    ensures { IsTrue result → IfSome peeled (λ id. (id_of id).kind ≡ kind) }
+{
+    match peeled {
+        Some(id) => id.kind() == kind,
+        None => true,
+    }
+}
