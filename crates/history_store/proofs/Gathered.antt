@@ -1,6 +1,5 @@
 -- What a walk over folders of names gathers.
-use Rattle.std.proofs.Common.{◌≡◌, ◌≢◌, ◌⊎◌, inl, inr, refl, sym, ◌∙◌, ap, subst, ℕ, ◌+◌, ◌-◌, ◌<◌, ◌≤◌, Bool, true, false, cond, ◌&&◌, T, List, [], ◌∷◌, ◌++◌, length, take, map, get_or, append_assoc, Vec, arith}
-use Rattle.std.proofs.lemmas.List.{map-append}
+use Rattle.std.proofs.Common.{◌≡◌, ◌≢◌, ◌⊎◌, inl, inr, refl, sym, ◌∙◌, ap, subst, ℕ, ◌+◌, ◌-◌, ◌<◌, ◌≤◌, Bool, true, false, cond, ◌&&◌, T, List, [], ◌∷◌, length, take, map, get_or, Vec, arith}
 use Rattle.std.specs.Prelude.{IsSome, is_some, IsTrue, Option, Some, None, option_map, option_and_then, MatchOption}
 use Rattle.std.specs.declared.alloc.Global.{Global}
 use Rattle.std.specs.declared.cmp.Ordering.{Ordering}
@@ -25,10 +24,9 @@ use Rattle.history_model.specs.Places.{file_at}
 use Rattle.history_model.proofs.FormatLemmas.{ends_so}
 use Rattle.history_model.proofs.WholePaths.{below_front, below_parts}
 use Rattle.history_layout.proofs.TreeMoves.{line_read}
-use Rattle.history_store.specs.NameLists.{Gathers, ListsNames, NameIds, held_id, id_below, name_entry, spelled_id}
+use Rattle.history_store.specs.NameLists.{Gathers, NameIds, held_id, id_below, spelled_id}
 use Rattle.history_store.specs.References.{SpellsId, NameHolds}
 use Rattle.gix_ref_way.specs.Ways.{IsAtOrBelow, IsAbove}
-use Rattle.history_store.specs.declared.listed.NamedId.{NamedId}
 use Rattle.gix_ref_way.proofs.FoldersMade.{above_above}
 use Rattle.gix_ref_way.proofs.FilesBelow.{folder_over, file_there, listed_part}
 use Rattle.gix_ref_way.proofs.Surveys.{one_more}
@@ -206,17 +204,6 @@ module _ (kind : Kind) (tree : Tree) (rooted : IsRooted tree) (place : Bytes) (s
           let part = listed_part tree rooted place some (HasFrom kind tree new) names listed (λ i near. first.all i (omega (arith, near, far))) name text.0 parts.0 text.1 in
           part.1 name id (elim part.2 [ inl same ↦ inl (sym same) | inr over ↦ inr over ]) parts.1
 
--- ---- the names in order
-
--- one name more
-pub one_named : (names new : List NamedId) (name : Key) (id : ObjectId) (left rest : List (Key × ObjectId)) (all : List (Bytes × Id)) → new ≡ names ++ record { name = name; id = id } ∷ [] → left ≡ (name, id) ∷ rest
-    → map name_entry names ++ named_ids left ≡ all → map name_entry new ++ named_ids rest ≡ all
-one_named names new name id left rest all is first so_far =
-    ap (λ ns. map name_entry ns ++ named_ids rest) is
-    ∙ ap (λ es. es ++ named_ids rest) (map-append name_entry names (record { name = name; id = id } ∷ []))
-    ∙ append_assoc (map name_entry names) ((name.items, id_of id) ∷ []) (named_ids rest)
-    ∙ ap (λ es. map name_entry names ++ named_ids es) (sym first) ∙ so_far
-
 -- what is gathered if nothing was before
 module _ (kind : Kind) (tree : Tree) (place : Bytes) (start : List (Key × ObjectId)) (ids : NameIds) (empty : start ≡ []) (gathers : Gathers kind tree place (from_sorted (named_ids start)) ids) where
   none : (name : Bytes) → get (from_sorted {R = by_bytes} (named_ids start)) name ≡ None
@@ -235,6 +222,3 @@ module _ (kind : Kind) (tree : Tree) (place : Bytes) (start : List (Key × Objec
         | inl old ↦ let wrong : None ≡ Some id = sym (none name) ∙ old in cc
         | inr below ↦ sym below
       ]
-
-pub lists_names : (kind : Kind) (tree : Tree) (place : Bytes) (start : List (Key × ObjectId)) (ids : NameIds) (names : List NamedId) → start ≡ [] → Gathers kind tree place (from_sorted (named_ids start)) ids → map name_entry names ≡ entries ids → ListsNames kind tree place names
-lists_names kind tree place start ids names empty gathers are = record { ids = ids; each = all_below kind tree place start ids empty gathers; are = are }

@@ -1,8 +1,8 @@
--- The names that exist below a folder, with the ids that their files hold.
+-- The names below a folder, with the ids that their files hold.
 use Rattle.std.specs.Prelude.{◌≡◌, ◌⊎◌, ℕ, List, map, option_and_then, if◌then◌else◌, Option, Some, None, Vec, IsSome}
 use Rattle.std.specs.declared.alloc.Global.{Global}
 use Rattle.std.specs.BTreeMap.{BTreeMap}
-use Rattle.std.specs.FinMap.{FinMap, entries, from_sorted, get}
+use Rattle.std.specs.FinMap.{FinMap, from_sorted, get}
 use Rattle.gix_ref_file.specs.Tree.{Tree}
 use Rattle.gix_hash.specs.Id.{Id, id_of}
 use Rattle.gix_hash.specs.declared.kind.Kind.{Kind}
@@ -32,13 +32,6 @@ NameIds = FinMap by_bytes Id
 -- a name and its id
 abbrev pub name_entry : NamedId → Bytes × Id
 name_entry named = (named.name.items, id_of named.id)
-
--- The names below the folder whose files hold an id, with these, each once and in order.
-pub record ListsNames (kind : Kind) (tree : Tree) (folder : Bytes)
-    (names : List NamedId) : Type 0 where
-  pub ids : NameIds
-  pub each : (name : Bytes) → get ids name ≡ id_below kind tree folder name
-  pub are : map name_entry names ≡ entries ids
 
 -- ---- on the way
 

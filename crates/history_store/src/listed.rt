@@ -1,4 +1,4 @@
-//! The names that exist below a folder, with the ids that their files hold.
+//! The names below a folder, with the ids that they read as.
 ghost use Rattle.std.specs.Prelude.{◌≡◌, ◌≢◌, ◌++◌, [], ◌∷◌, map, bytes_eq, if◌then◌else◌, IfOk, OnOk, IsErrOf};
 ghost use Rattle.std.specs.FinMap.{entries, get};
 ghost use Rattle.std.specs.List.{filter};
@@ -10,7 +10,7 @@ ghost use Rattle.gix_ref_format.specs.PackedKept.{records_left};
 ghost use Rattle.history_model.specs.Bytes.{Bytes};
 ghost use Rattle.history_model.specs.Forms.{is_name};
 ghost use Rattle.history_store.specs.AllNames.{ListsAll, has_record, is_packed_below, told_if};
-ghost use Rattle.history_store.specs.NameLists.{Gathers, ListsNames, ids_in, name_entry};
+ghost use Rattle.history_store.specs.NameLists.{Gathers, ids_in, name_entry};
 ghost use Rattle.history_store.specs.Packing.{KeepsRecords};
 
 use crate::names::Names;
@@ -22,7 +22,7 @@ use history_texts::is_name;
 use std::alloc::{AllocError, Global};
 use std::collections::BTreeMap;
 
-/// A name, and the id that its file holds.
+/// A name, and the id that it reads as.
 #[derive(Drop)]
 pub struct NamedId {
     pub name: Vec<u8>,
@@ -30,22 +30,6 @@ pub struct NamedId {
 }
 
 impl<F: Files> Names<F> {
-    /// Returns the names below a folder, which isn't the root, with the ids that their files hold,
-    /// ascending by the names' bytes. A file that isn't an id's hex digits and a line feed is
-    /// passed over. Only the folder and those below it are listed.
-    ///
-    /// Returns `Failed` if a file call failed, and `Memory` if memory ran out.
-    pub fn list(&self, alloc: Global, folder: &[u8]) -> Result<Vec<NamedId>, FileError>
-        ensures found { folder.now ≢ [] → Finds F.is_honest F.history self.now.store.files
-            (λ tree. IfOk result (λ names.
-            ListsNames self.now.kind tree folder.now names.items)) }
-        ensures failed { IsErrOf result Failed → F.reading_may_fail }
-    {
-        let mut ids = BTreeMap::new(alloc);
-        self.gather(alloc, folder, &mut ids)?;
-        Ok(in_order(alloc, ids)?)
-    }
-
     /// Returns the names below a folder, which isn't the root, packed or not, with the ids that
     /// they read as, ascending by the names' bytes: the id in the name's own file, or that in its
     /// record if there is no such file. What is no name is passed over. Only the folder and those
@@ -153,18 +137,7 @@ impl<F: Files> Names<F> {
     }
 }
 
-// Returns the names in a map, ascending, with their ids.
-fn in_order(alloc: Global, ids: BTreeMap<Vec<u8>, ObjectId>) -> Result<Vec<NamedId>, AllocError>
-    ensures { IfOk result (λ names. map name_entry names.items ≡ entries (ids_in ids)) }
-{
-    let mut names = Vec::new(alloc);
-    for (name, id) in ids {
-        names.push(NamedId { name, id })?;
-    }
-    Ok(names)
-}
-
-// Returns those names in a map that are names of references, ascending, with their ids.
+// Returns those in a map that are names of references, ascending, with their ids.
 fn names_in_order(
     alloc: Global,
     ids: BTreeMap<Vec<u8>, ObjectId>,
