@@ -127,9 +127,6 @@ pub record GathersFirst (kind : Kind) (tree : Tree) (place : Bytes) (old now : N
   pub came : (name : Bytes) (id : Id) → get now name ≡ Some id → (get old name ≡ Some id) ⊎ (id_below kind tree place name ≡ Some id)
   pub all : (i : ℕ) → i < count → HasFrom kind tree now (under place (get_or names i []))
 
-pub none_first : (kind : Kind) (tree : Tree) (place : Bytes) (old : NameIds) (names : List Bytes) → GathersFirst kind tree place old old names 0
-none_first kind tree place old names = record { kept = λ name is. is; came = λ name id is. inl is; all = λ i below. absurd (omega (arith, below)) }
-
 module _ (kind : Kind) (tree : Tree) (rooted : IsRooted tree) (place : Bytes) (some : place ≢ []) (old : NameIds) (names : List Bytes) where
   -- one of the names that are listed more
   pub one_gathered : (now new : NameIds) (path : Bytes) (count : ℕ) → IsAbove place path → path ≡ under place (get_or names count []) → GathersFirst kind tree place old now names count

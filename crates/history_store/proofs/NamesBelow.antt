@@ -62,10 +62,6 @@ module _ (kind : Kind) (tree : Tree) where
 
   -- a name that was read and added, if it reads as an id
   module _ (name : Bytes) (found : Option ObjectId) (reads : NameReads kind tree name found) where
-    put_told : (other : Bytes) (b : Bool) → bytes_eq name other ≡ b → option_map id_of found ≡ cond b (told other) (option_map id_of found)
-    put_told other true e = reads ∙ ap told (one_text name other e)
-    put_told other false e = refl
-
     pub none_put : (other : Bytes) (old : Option Id) → found ≡ None → old ≡ option_or (told_if (bytes_eq name other) kind tree other) old
     none_put other old none = go (bytes_eq name other) refl
       where

@@ -1,5 +1,5 @@
 -- The names below a folder, with the ids that their files hold.
-use Rattle.std.specs.Prelude.{◌≡◌, ◌⊎◌, ℕ, List, map, option_and_then, if◌then◌else◌, Option, Some, None, Vec, IsSome}
+use Rattle.std.specs.Prelude.{◌≡◌, ◌⊎◌, ℕ, map, option_and_then, if◌then◌else◌, Option, Some, None, Vec, IsSome}
 use Rattle.std.specs.declared.alloc.Global.{Global}
 use Rattle.std.specs.BTreeMap.{BTreeMap}
 use Rattle.std.specs.FinMap.{FinMap, from_sorted, get}
