@@ -47,6 +47,12 @@ found_among id (e ∷ es) content found = go (λ there. found_among id es conten
 pub is_among : (contents : Contents) (id : Id) (content : Vec ℕ Global) → content_of contents id ≡ Some content → Contains (ids_of contents) id
 is_among contents id content found = found_among id contents.entries content found
 
+-- what is kept of a tree is in the table
+pub kept_there : (table : Table) (contents : Contents) → AreKept table contents → (id : Id) (content : Vec ℕ Global) → content_of contents id ≡ Some content → table id ≡ Some (tree_object content)
+kept_there table contents kept id content is =
+    let key = found_key id contents.entries content is in
+    ap table key.1 ∙ kept key.0 content (ap (content_of contents) (sym key.1) ∙ is)
+
 -- the store with what is kept is the store
 pub kept_same : (table : Table) (contents : Contents) → AreKept table contents → kept_or contents table ≡ table
 kept_same table contents kept = λ i. λ id. at id (content_of contents id) refl i

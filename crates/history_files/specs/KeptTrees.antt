@@ -7,6 +7,7 @@ use Rattle.gix_hash.specs.Order.{id_cmp}
 use Rattle.gix_hash.specs.declared.object_id.ObjectId.{ObjectId}
 use Rattle.gix_object_lookup.specs.Table.{Object, Table}
 use Rattle.gix_object_lines.specs.declared.kind.Kind.TheVariants as kinds
+use Rattle.history_files.specs.declared.read_trees.ReadTrees.{ReadTrees}
 
 -- contents under the ids of their trees
 abbrev pub Contents : Type 0
@@ -34,3 +35,7 @@ abbrev pub AreKept : Table → Contents → Type 0
 AreKept table contents = (key : ObjectId) (content : Vec ℕ Global)
     → content_of contents (id_of key) ≡ Some content
     → table (id_of key) ≡ Some (tree_object content)
+
+-- each tree that was read is the table's
+abbrev pub AreOf : Table → ReadTrees → Type 0
+AreOf table read = AreKept table read.contents

@@ -11,6 +11,8 @@ pub mod laws;
 mod listing;
 mod names;
 mod opening;
+mod read_paths;
+mod read_trees;
 mod trees;
 
 pub use editing::edit_files;
@@ -22,4 +24,6 @@ pub use gix_traverse_tree::EntriesState;
 pub use kept::files_by_trees;
 pub use listing::{File, files};
 pub use opening::open_editor;
+pub use read_paths::read_on_paths;
+pub use read_trees::{ReadTrees, TreeStore};
 pub use trees::{EditedFiles, EditedTree};

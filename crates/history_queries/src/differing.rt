@@ -8,7 +8,7 @@ ghost use Rattle.history_model.specs.Answers.{differs_at};
 ghost use Rattle.history_model.specs.FileMap.{FileMap};
 ghost use Rattle.history_model.specs.Objects.{StoredFolder, entry_at};
 ghost use Rattle.history_model.specs.Repository.{HoldsCommit};
-ghost use Rattle.history_repository.specs.Reads.{GivesMeant};
+ghost use Rattle.history_repository.specs.Reads.{AreTrees, GivesMeant, ReadsTrees};
 ghost use Rattle.history_repository.specs.Stands.{Stands};
 ghost use Rattle.history_queries.specs.Seen.{IsCompared, IsSeen, IsSeenAt};
 ghost use Rattle.history_queries.specs.Walked.{AllHold, AreRead};
@@ -18,7 +18,7 @@ use crate::rows::told_of;
 use gix_hash::ObjectId;
 use gix_ref_file::Files;
 use gix_traverse_graph::ParentIds;
-use history_files::{EntriesState, Found, entries_at};
+use history_files::{EntriesState, Found, ReadTrees, TreeStore, entries_at, read_on_paths};
 use history_repository::{Repository, Stopped};
 use history_walks::ReadCommits;
 use std::alloc::{AllocError, Global};
@@ -32,21 +32,50 @@ fn nothing_at(alloc: Global, paths: usize) -> Result<Vec<Option<Found>>, AllocEr
     Ok(found)
 }
 
+/// How many bytes of trees are kept at most from one commit to the next.
+const KEPT_BYTES: usize = 1 << 20;
+
+/// What comparing commits keeps from one to the next: the last trees that were read.
+#[derive(Drop)]
+struct Trees {
+    read: ReadTrees,
+    state: EntriesState,
+}
+
+impl Trees {
+    fn new(alloc: Global) -> Trees
+        ensures { (r : plain.Repository) → AreTrees r result.read }
+    {
+        Trees {
+            read: ReadTrees::new(alloc),
+            state: EntriesState::new(alloc),
+        }
+    }
+}
+
 /// Returns what is at each of some paths below a stored tree, in their order. Only the trees on the
-/// paths are read, each once. The faults are those of `see`.
+/// paths are read, each only if it isn't kept. The faults are those of `see`.
 fn found_each<F: Files>(
     repository: &Repository<F>,
     alloc: Global,
     tree: &ObjectId,
     paths: &[&[u8]],
-    state: &mut EntriesState,
+    trees: &mut Trees,
 ) -> Result<Vec<Option<Found>>, Stopped>
     ensures { (r : plain.Repository) (below : FileMap) → Stands F.is_honest F.history repository.now r
         → get r.objects (id_of tree.now) ≡ Some (StoredFolder below)
-        → GivesMeant F.reading_may_fail (λ found. map (option_map entry_of) found.items
+        → ReadsTrees F.reading_may_fail r trees.old.read trees.new.read (λ found.
+        map (option_map entry_of) found.items
         ≡ map (λ path. entry_at r.kind below path.now) paths.now) result }
 {
-    Ok(entries_at(alloc, &repository.objects, tree, paths, state)?)
+    trees.read.bound(KEPT_BYTES);
+    let ways = Vec::from_slice(alloc, paths)?;
+    read_on_paths(alloc, &repository.objects, &mut trees.read, tree, ways)?;
+    let store = TreeStore {
+        store: &repository.objects,
+        read: &trees.read,
+    };
+    Ok(entries_at(alloc, &store, tree, paths, &mut trees.state)?)
 }
 
 /// A commit that was seen: its parents, and what it has at some paths.
@@ -67,22 +96,23 @@ struct Compared {
 
 /// Returns the parents of a stored commit, and what it has at some paths.
 ///
-/// Its content is read, unless it has a row or is kept, and the trees on the paths, each once. It
-/// is a fault if a call of the files failed, or if no memory is left.
+/// Its content is read, unless it has a row or is kept, and the trees on the paths that aren't
+/// kept. It is a fault if a call of the files failed, or if no memory is left.
 fn see<F: Files>(
     repository: &Repository<F>,
     alloc: Global,
     read: &ReadCommits,
     id: &ObjectId,
     paths: &[&[u8]],
-    state: &mut EntriesState,
+    trees: &mut Trees,
 ) -> Result<Seen, Stopped>
     ensures { (r : plain.Repository) → Stands F.is_honest F.history repository.now r
-        → AreRead r read.now → HoldsCommit r (id_of id.now) → GivesMeant F.reading_may_fail
+        → AreRead r read.now → HoldsCommit r (id_of id.now)
+        → ReadsTrees F.reading_may_fail r trees.old.read trees.new.read
         (IsSeenAt r paths.now (id_of id.now)) result }
 {
     let told = told_of(repository, alloc, read, id)?;
-    let found = found_each(repository, alloc, &told.tree, paths, state)?;
+    let found = found_each(repository, alloc, &told.tree, paths, trees)?;
     Ok(Seen {
         id: told.id,
         parents: told.parents,
@@ -98,18 +128,19 @@ fn see_next<F: Files>(
     last: Option<Seen>,
     id: &ObjectId,
     paths: &[&[u8]],
-    state: &mut EntriesState,
+    trees: &mut Trees,
 ) -> Result<Seen, Stopped>
     ensures { (r : plain.Repository) → Stands F.is_honest F.history repository.now r
         → AreRead r read.now → HoldsCommit r (id_of id.now) → IfSome last (IsSeen r paths.now)
-        → GivesMeant F.reading_may_fail (IsSeenAt r paths.now (id_of id.now)) result }
+        → ReadsTrees F.reading_may_fail r trees.old.read trees.new.read
+        (IsSeenAt r paths.now (id_of id.now)) result }
 {
     if let Some(seen) = last {
         if seen.id == *id {
             return Ok(seen);
         }
     }
-    see(repository, alloc, read, id, paths, state)
+    see(repository, alloc, read, id, paths, trees)
 }
 
 /// Returns whether what a commit has at some paths isn't what its first parent has there.
@@ -122,10 +153,11 @@ fn compare<F: Files>(
     read: &ReadCommits,
     here: &Seen,
     paths: &[&[u8]],
-    state: &mut EntriesState,
+    trees: &mut Trees,
 ) -> Result<Compared, Stopped>
     ensures { (r : plain.Repository) → Stands F.is_honest F.history repository.now r
-        → AreRead r read.now → IsSeen r paths.now here.now → GivesMeant F.reading_may_fail
+        → AreRead r read.now → IsSeen r paths.now here.now
+        → ReadsTrees F.reading_may_fail r trees.old.read trees.new.read
         (IsCompared r paths.now (id_of here.now.id)) result }
 {
     let Some(parent) = here.parents.as_slice().first() else {
@@ -135,7 +167,7 @@ fn compare<F: Files>(
             before: None,
         });
     };
-    let before = see(repository, alloc, read, parent, paths, state)?;
+    let before = see(repository, alloc, read, parent, paths, trees)?;
     Ok(Compared {
         differs: here.found.as_slice() != before.found.as_slice(),
         before: Some(before),
@@ -145,9 +177,10 @@ fn compare<F: Files>(
 /// Returns those of some commits that differ at some paths from their first parents, in their
 /// order.
 ///
-/// The commits are stored. Of each, its content is read, unless it has a row or is kept, and the
-/// trees on the paths; and of its first parent the same, unless it is the commit that comes next,
-/// which is then read once. It is a fault if a call of the files failed, or if no memory is left.
+/// The commits are stored. Of each and of its first parent the content is read, unless it has a row
+/// or is kept, and the trees on the paths. The trees that were read are kept, up to a megabyte of
+/// them, so that those in which no commit changes anything are read once. It is a fault if a call of
+/// the files failed, or if no memory is left.
 pub(crate) fn differing<F: Files>(
     repository: &Repository<F>,
     alloc: Global,
@@ -160,13 +193,13 @@ pub(crate) fn differing<F: Files>(
         (λ differing. map id_of differing.items
         ≡ filter (differs_at r (map (λ path. path.now) paths.now)) (map id_of ids.now)) result }
 {
-    let mut state = EntriesState::new(alloc);
+    let mut trees = Trees::new(alloc);
     let mut differing = Vec::new(alloc);
     let mut last = None;
     for id in ids {
-        let here = see_next(repository, alloc, read, last.take(), id, paths, &mut state)?;
+        let here = see_next(repository, alloc, read, last.take(), id, paths, &mut trees)?;
         let Compared { differs, before } = compare(
-            repository, alloc, read, &here, paths, &mut state,
+            repository, alloc, read, &here, paths, &mut trees,
         )?;
         if differs {
             differing.push(*id)?;

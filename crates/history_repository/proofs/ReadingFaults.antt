@@ -1,10 +1,12 @@
 -- A fault of reading, handed on.
-use Rattle.std.proofs.Common.{◌≡◌, sym, subst}
+use Rattle.std.proofs.Common.{◌≡◌, refl, sym, subst}
 use Rattle.std.specs.Prelude.{Result, Ok, Err, IsErrAnd}
+use Rattle.gix_object_lookup.specs.declared.find.Error as find
+use Rattle.gix_object_lookup.specs.declared.find.Error.TheVariants as looked_up
 use Rattle.history_files.specs.Reading.{OwnFault}
 use Rattle.history_files.specs.declared.error.ReadError.{ReadError}
 use Rattle.history_files.specs.declared.error.ReadError.TheVariants.{Failed, Broken, Memory}
-use Rattle.history_repository.specs.Faults.{read_fault}
+use Rattle.history_repository.specs.Faults.{find_fault, read_fault}
 use Rattle.history_model.specs.Bytes.{Bytes}
 use Rattle.history_model.specs.Repository.{Repository}
 use Rattle.history_repository.specs.Reads.{GivesMeant, IsReadingFault, ReadsMeant}
@@ -26,6 +28,12 @@ read_told MayFail IsMeant (Ok value) error is fails = absurd is
 read_told MayFail IsMeant (Err stopped) Failed is fails = subst (IsReadingFault MayFail) (sym is) fails
 read_told MayFail IsMeant (Err stopped) (Broken oid) is fails = absurd fails
 read_told MayFail IsMeant (Err stopped) Memory is fails = subst (IsReadingFault MayFail) (sym is) tt
+
+-- so is why a lookup failed
+pub find_told : {T : Type 0} (MayFail : Type 0) (IsMeant : T → Type 0) (result : Result T Stopped) (error : find.Error) → IsErrAnd result (λ stopped. stopped ≡ Fault (find_fault error)) → (error ≡ looked_up.Failed → MayFail) → GivesMeant MayFail IsMeant result
+find_told MayFail IsMeant (Ok value) error is fails = absurd is
+find_told MayFail IsMeant (Err stopped) looked_up.Failed is fails = subst (IsReadingFault MayFail) (sym is) (fails refl)
+find_told MayFail IsMeant (Err stopped) looked_up.Memory is fails = subst (IsReadingFault MayFail) (sym is) tt
 
 -- why a call gave nothing is handed on
 pub fault_told : {T : Type 0} (MayFail : Type 0) (IsMeant : T → Type 0) (result : Result T Stopped) (stopped : Stopped) → IsErrAnd result (λ other. other ≡ stopped) → IsReadingFault MayFail stopped → GivesMeant MayFail IsMeant result

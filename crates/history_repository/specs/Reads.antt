@@ -7,6 +7,9 @@ use Rattle.history_model.specs.Replies.{reply_text}
 use Rattle.history_model.specs.Causes.{first_cause}
 use Rattle.history_model.specs.Answers.{Answers}
 use Rattle.history_model.specs.declared.Fault.TheVariants.{Memory, File, IdTaken}
+use Rattle.history_files.specs.KeptTrees.{AreOf}
+use Rattle.history_files.specs.Laws.{table_of}
+use Rattle.history_files.specs.declared.read_trees.ReadTrees.{ReadTrees}
 use Rattle.history_repository.specs.Known.{AreMeant}
 use Rattle.history_repository.specs.Meanings.{commit_or_cause}
 use Rattle.history_repository.specs.Meant.{HasContent}
@@ -40,6 +43,17 @@ abbrev pub ReadsMore : {T : Type 0} → Type 0 → plain.Repository → ReadObje
     → (T → Type 0) → Result T Stopped → Type 0
 ReadsMore MayFail r before now IsMeant result =
     AreMeant r before → GivesMeant MayFail (λ value. IsMeant value × AreMeant r now) result
+
+-- the trees that were read are as they are stored
+abbrev pub AreTrees : plain.Repository → ReadTrees → Type 0
+AreTrees r read = AreOf (table_of r) read
+
+-- if the trees that were read before are so, what is meant, and all that were read since are so too;
+-- or a fault of reading
+abbrev pub ReadsTrees : {T : Type 0} → Type 0 → plain.Repository → ReadTrees → ReadTrees
+    → (T → Type 0) → Result T Stopped → Type 0
+ReadsTrees MayFail r before now IsMeant result =
+    AreTrees r before → GivesMeant MayFail (λ value. IsMeant value × AreTrees r now) result
 
 -- ---- words
 
