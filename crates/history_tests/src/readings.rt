@@ -8,7 +8,7 @@ use history::{Command, Graph, Kind};
 use history_plans::{names_to_pack, plan_commit, plan_moves, plan_tag, test_delete};
 use history_queries::{all_rows, list_files, list_names, log, show};
 use history_repository::Repository;
-use std::alloc::Global;
+use std::alloc::{AllocError, Global};
 use std::process::Abort;
 
 /// A branch with a file two folders deep, and another with a file one folder deep.
@@ -133,6 +133,26 @@ const LOGGED_BY_FIRST_DATE: (&[u8], u64) = (b"log date first +v1 path 5\na/b/c\n
 /// three contents.
 const INDEXED: (&[u8], u64) = (b"index\n", 15);
 
+/// A branch whose folders `a` and `b` have the same files, and a commit on it of another file.
+const ALIKE: &[u8] =
+    b"commit refs/heads/main new\nput file 5 5\na/x/c\nhello\nput file 5 5\nb/x/c\nhello\nauthor 1 3 1 +0000\nA\na@b\ncommitter 1 3 1 +0000\nA\na@b\nmessage 3\none\nend\ncommit refs/heads/main any\nput file 1 4\nd\nmore\nauthor 1 3 2 +0000\nA\na@b\ncommitter 1 3 2 +0000\nA\na@b\nmessage 3\ntwo\nend\n";
+
+/// The commit, the root, and the folders `a` and `a/x`, which are also `b` and `b/x`.
+const LISTED_ALIKE: (&[u8], u64) = (b"files main\n", 4);
+
+/// Both commits, both roots, and the folders `a` and `a/x`, which both have.
+const LOGGED_ALIKE: (&[u8], u64) = (b"log topological all +main path 5\na/x/c\n", 6);
+
+/// The same, since `b` is `a`.
+const LOGGED_AT_BOTH: (&[u8], u64) = (
+    b"log topological all +main path 5 path 5\na/x/c\nb/x/c\n",
+    6,
+);
+
+/// A commit up to its message of 8,000 bytes.
+const LONG_FRONT: &[u8] =
+    b"commit refs/heads/main any\nauthor 1 3 3 +0000\nA\na@b\ncommitter 1 3 3 +0000\nA\na@b\nmessage 8000\n";
+
 /// Whether a command succeeds, planned or answered.
 fn is_done<F: Files>(repository: &Repository<F>, alloc: Global, command: Command) -> bool {
     match command {
@@ -235,6 +255,41 @@ fn a_log_reads_each_object_once(rt: HostRuntime) {
             assert!(rt; met == wanted, "{met} for {wanted}");
         }
     }
+}
+
+#[test]
+fn trees_at_several_paths_are_read_once(rt: HostRuntime) {
+    let alloc = rt.alloc();
+    for kind in KINDS {
+        let repository = counted(&rt, alloc, kind, &[ALIKE]);
+        for (input, wanted) in [LISTED_ALIKE, LOGGED_ALIKE, LOGGED_AT_BOTH] {
+            let met = readings(&rt, &repository, alloc, input);
+            assert!(rt; met == wanted, "{met} for {wanted}");
+        }
+    }
+}
+
+/// Returns a commit on `main` whose message has 8,000 bytes.
+fn with_long_message(alloc: Global) -> Result<Vec<u8>, AllocError> {
+    let mut input = LONG_FRONT.to_vec(alloc)?;
+    let before_the_end = input.len().saturating_add(8000);
+    input.extend_from_slice(b"one\n")?;
+    input.resize(before_the_end, b'm')?;
+    input.extend_from_slice(b"\nend\n")?;
+    Ok(input)
+}
+
+#[test]
+fn an_index_reads_a_long_commit_once(rt: HostRuntime) -> Result<(), AllocError> {
+    let alloc = rt.alloc();
+    let long = with_long_message(alloc)?;
+    for kind in KINDS {
+        let repository = counted(&rt, alloc, kind, &[BEFORE, long.as_slice()]);
+        // Three commits, two roots, the folders `a`, `a/b` and `d`, and two contents.
+        let met = readings(&rt, &repository, alloc, b"index\n");
+        assert!(rt; met == 10, "{met}");
+    }
+    Ok(())
 }
 
 /// Returns the number of calls of a pass over a part that reads each object once: the part and
