@@ -1,6 +1,6 @@
 -- A repository's names part has no cause but a call that failed, or memory that was refused.
 use Rattle.std.proofs.Common.{◌≡◌, ◌≢◌, ◌⊎◌, inl, inr, ℕ, ◌≤◌, Bool, true, false, not, ◌&&◌, ◌||◌, List, [], ◌∷◌, ◌++◌, length, take, drop, reverse, Option, Some, None, option_map, option_and_then, unwrap_or, is_some, refl, sym, ◌∙◌, ap, subst, arith, bytes_eq, append_assoc, length-append, take-append-drop, nat_le, ◌==◌, codes, decimal, cond}
-use Rattle.std.specs.Prelude.{IsTrue, IfSome, MatchOption, Result, Ok, Err, IfErr}
+use Rattle.std.specs.Prelude.{IsTrue, IfSome, MatchOption}
 use Rattle.std.specs.List.{Contains, flat_map, list_all, list_any}
 use Rattle.std.specs.FinMap.{get}
 use Rattle.std.proofs.lemmas.Bool.{and_parts, not-true, or_cases, or_parts}
@@ -32,14 +32,15 @@ use Rattle.history_model.proofs.PartLemmas.{split_at, head_same, tail_same}
 use Rattle.history_model.proofs.PlaceLemmas.{one_text, id_length}
 use Rattle.history_model.proofs.WholeLists.{one_passes, passes_one}
 use Rattle.history_model.proofs.WholePaths.{begins_parts}
-use Rattle.history_check_names.specs.Causes.{HasCause, may_hold_file, IsFault}
+use Rattle.history_check_names.specs.Causes.{HasCause, may_hold_file, IsOpenFault}
 use Rattle.history_check_names.specs.Logs.{HasBadLine, HasLongLine, max_log_line}
 use Rattle.history_check_names.specs.Parts.{StandsNames}
 use Rattle.history_check_names.specs.Packed.{has_record, is_good_file, is_packed_text, record_names, records_at, records_in}
 use Rattle.history_check_names.specs.Stored.{is_of_wrong_kind, is_tag_of, is_well_peeled}
 use Rattle.history_check_objects.specs.Stored.{Fact, Facts, AreFactsOf, fact_of}
-use Rattle.history_check_names.specs.declared.error.NamesError.{NamesError}
-use Rattle.history_check_names.specs.declared.error.NamesError.TheVariants.{NoHead, BadHead, Stray, Unfinished, BadName, PrivateName, Symbolic, Missing, WrongKind, BadPacked, BadPeeled, Collides, BadLog, LongLogLine, LogWithoutName, File, Memory}
+use Rattle.history_texts.specs.declared.open_error.NamedBy.TheVariants.{Name}
+use Rattle.history_texts.specs.declared.open_error.OpenError.{OpenError}
+use Rattle.history_texts.specs.declared.open_error.OpenError.TheVariants.{NoHead, BadHead, Stray, Unfinished, BadName, PrivateName, Symbolic, Missing, WrongKind, BadPacked, BadPeeled, Collides, BadLog, LongLogLine, LogWithoutName, File, Memory}
 use Rattle.history_check_names.proofs.LogTexts.{body, body_lacks, all_reverse}
 use Rattle.history_check_names.proofs.Told.{text_of}
 use Rattle.history_check_names.proofs.PackedReads.{all_of, file_records, form_good, form_public, never_faulty, never_symbolic, packed_read, read_by}
@@ -386,7 +387,7 @@ module _ (tree : Tree) (r : Repository) (facts : Facts) (are : AreFactsOf facts 
           ∙ ap (λ fact. is_tag_of fact commit) (are entry.target) ∙ of_tag commit (get r.objects entry.target) both.0 both.1
 
   -- no cause holds but these two
-  pub no_cause : (A : Type 0) (error : NamesError) → HasCause A r.kind facts tree error → IsFault error
+  pub no_cause : (A : Type 0) (error : OpenError) → HasCause A r.kind facts tree error → IsOpenFault error
   no_cause A NoHead h = cc (sym h ∙ s.holds.head)
   no_cause A BadHead h = h.bad r.branch s.branch (inside (sym h.stands ∙ s.holds.head))
   no_cause A (Stray path) (inl (there, none)) = may_hold path.items (file_there path.items there) none
@@ -401,8 +402,8 @@ module _ (tree : Tree) (r : Repository) (facts : Facts) (are : AreFactsOf facts 
     | inr there ↦ no_private name.items there h.1
   ]
   no_cause A (Symbolic name) h = let found = has_file name.items h.0 h.1 in cc (sym (below_refs name.items found.1 (name_front name.items found.0)).reads ∙ h.1)
-  no_cause A (Missing id name) h = held_kind (id_of id) (get r.objects (id_of id)) (s.whole.held name.items (id_of id) ((s.holds.names name.items (id_of id)).0 h.0)) (inl (ap (option_map (λ (fact : Fact). fact.kind)) (sym (are (id_of id))) ∙ h.1))
-  no_cause A (WrongKind id name) h = held_kind (id_of id) (get r.objects (id_of id)) (s.whole.held name.items (id_of id) ((s.holds.names name.items (id_of id)).0 h.0)) (inr (ap (λ o. is_of_wrong_kind (option_map (λ (fact : Fact). fact.kind) o)) (sym (are (id_of id))) ∙ h.1))
+  no_cause A (Missing id (Name name)) h = held_kind (id_of id) (get r.objects (id_of id)) (s.whole.held name.items (id_of id) ((s.holds.names name.items (id_of id)).0 h.0)) (inl (ap (option_map (λ (fact : Fact). fact.kind)) (sym (are (id_of id))) ∙ h.1))
+  no_cause A (WrongKind id (Name name)) h = held_kind (id_of id) (get r.objects (id_of id)) (s.whole.held name.items (id_of id) ((s.holds.names name.items (id_of id)).0 h.0)) (inr (ap (λ o. is_of_wrong_kind (option_map (λ (fact : Fact). fact.kind) o)) (sym (are (id_of id))) ∙ h.1))
   no_cause A (BadPacked number) h = clash (first_stand r.kind (bytes_at tree packed_place) good_file number) h.bad
   no_cause A (BadPeeled name) h = clash (well_peeled h.entry (subst (λ rs. Contains rs h.entry) packs.records h.among)) h.wrong
   no_cause A (Collides name other) h =
@@ -412,7 +413,4 @@ module _ (tree : Tree) (r : Repository) (facts : Facts) (are : AreFactsOf facts 
   no_cause A (LogWithoutName path) h = clash h.2 (ap is_absent (below_logs path.items h.0 h.1).reads)
   no_cause A File h = tt
   no_cause A Memory h = tt
-
-  pub no_error : {T : Type 0} (A : Type 0) (result : Result T NamesError) → IfErr result (HasCause A r.kind facts tree) → IfErr result IsFault
-  no_error A (Ok t) h = h
-  no_error A (Err error) h = no_cause A error h
+  no_cause A _ h = absurd h

@@ -23,7 +23,7 @@ use Rattle.history_check_names.specs.PackedRead.{ReadsPacked}
 use Rattle.history_check_names.specs.Sound.{IsApart, IsSoundRecord}
 use Rattle.history_check_names.specs.Stored.{is_well_peeled, may_be_held}
 use Rattle.history_check_objects.specs.Stored.{Facts, kind_in}
-use Rattle.history_check_names.specs.declared.error.NamesError.{NamesError}
+use Rattle.history_texts.specs.declared.open_error.OpenError.{OpenError}
 use Rattle.history_check_names.specs.declared.packed.Packed.{Packed}
 use Rattle.history_check_names.proofs.GoodNames.{good_parts}
 use Rattle.history_check_names.proofs.PackedReads.{all_of, file_of, record_read}
@@ -86,10 +86,10 @@ module _ (kind : Kind) (facts : Facts) (tree : Tree) (packed : Packed) (reads : 
       either true h = refl
       either false h = h
 
-  pub collides : (A : Type 0) (error : NamesError) → is_private e.name ≡ false → IsCollision A kind tree e.name error → HasCause A kind facts tree error
+  pub collides : (A : Type 0) (error : OpenError) → is_private e.name ≡ false → IsCollision A kind tree e.name error → HasCause A kind facts tree error
   collides A error common h = collision_cause A kind facts tree e.name error reads.good common (sym (record_there kind tree e.name named has)) h
 
-  pub unheld : {T : Type 0} (A : Type 0) (id : ObjectId) (name : Vec ℕ Global) (r : Result T NamesError) → is_private e.name ≡ false → is_file_at tree e.name ≡ false → name.items ≡ e.name → id_of id ≡ e.target
+  pub unheld : {T : Type 0} (A : Type 0) (id : ObjectId) (name : Vec ℕ Global) (r : Result T OpenError) → is_private e.name ≡ false → is_file_at tree e.name ≡ false → name.items ≡ e.name → id_of id ≡ e.target
       → IfErr r (IsUnheld (kind_in facts (id_of id)) id name) → IfErr r (HasCause A kind facts tree)
   unheld A id name r common bare is id_is h =
       unheld_causes A kind facts tree id name r (ap (name_state kind tree) is ∙ record_read kind tree e reads.good common bare there ∙ ap states.Holds (sym id_is)) h

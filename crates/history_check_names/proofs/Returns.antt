@@ -9,8 +9,8 @@ use Rattle.history_model.specs.Bytes.{Bytes, has_byte}
 use Rattle.history_model.specs.PackedNames.{says_sorted}
 use Rattle.history_check_names.specs.Packed.{HasBadRecord, are_good_names, first_lines, is_packed_text, record_names}
 use Rattle.history_check_names.specs.PackedRead.{AreLinesOf, IsPackedFault}
-use Rattle.history_check_names.specs.declared.error.NamesError.{NamesError}
-use Rattle.history_check_names.specs.declared.error.NamesError.TheVariants.{NoHead, BadHead, Stray, Unfinished, BadName, PrivateName, Symbolic, Missing, WrongKind, BadPacked, BadPeeled, Collides, BadLog, LongLogLine, LogWithoutName, File, Memory}
+use Rattle.history_texts.specs.declared.open_error.OpenError.{OpenError}
+use Rattle.history_texts.specs.declared.open_error.OpenError.TheVariants.{BadPacked}
 use Rattle.history_check_names.proofs.PackedTexts.{text_by, text_none}
 
 -- ---- the first lines
@@ -151,24 +151,9 @@ module _ (kind : Kind) (text front back whole : Bytes) (count : ℕ) (cut : text
           sym (ap (is_packed_text kind) (sym (all_first bad.before (omega (arith, many, bad.number_is)))) ∙ bad.good)
           ∙ ap (is_packed_text kind) (sym (all_first number (omega (arith, many)))) ∙ bad.bad))
 
-  pub fault_bad : (error : NamesError) → IsPackedFault kind whole error → IsPackedFault kind text error
+  pub fault_bad : (error : OpenError) → IsPackedFault kind whole error → IsPackedFault kind text error
   fault_bad (BadPacked number) fault = line_bad number fault
-  fault_bad Memory fault = fault
-  fault_bad NoHead fault = fault
-  fault_bad BadHead fault = fault
-  fault_bad (Stray path) fault = fault
-  fault_bad (Unfinished path) fault = fault
-  fault_bad (BadName path) fault = fault
-  fault_bad (PrivateName path) fault = fault
-  fault_bad (Symbolic path) fault = fault
-  fault_bad (Missing id name) fault = fault
-  fault_bad (WrongKind id name) fault = fault
-  fault_bad (BadPeeled name) fault = fault
-  fault_bad (Collides name other) fault = fault
-  fault_bad (BadLog path number) fault = fault
-  fault_bad (LongLogLine path number) fault = fault
-  fault_bad (LogWithoutName path) fault = fault
-  fault_bad File fault = fault
+  fault_bad _ fault = fault
 
   -- the lines before it have none
   pub whole_plain : has_byte 13 front ≡ false → has_byte 13 whole ≡ false

@@ -6,12 +6,12 @@ use Rattle.gix_ref_file.specs.Tree.{Tree, IsRooted, bytes_at}
 use Rattle.history_model.specs.Bytes.{Bytes}
 use Rattle.history_model.specs.Places.{packed_place}
 use Rattle.history_model.specs.Repository.{Repository}
-use Rattle.history_check_names.specs.Causes.{HasCause, IsFault}
+use Rattle.history_check_names.specs.Causes.{HasCause, IsOpenFault}
 use Rattle.history_check_names.specs.Parts.{IsNamesPart, NamesBranch, StandsNames}
 use Rattle.history_check_names.specs.Packed.{is_packed_text}
 use Rattle.history_check_names.specs.Sound.{AreSoundRecords, IsSound, IsSoundBelow}
 use Rattle.history_check_objects.specs.Stored.{Facts, AreFactsOf}
-use Rattle.history_check_names.specs.declared.error.NamesError.{NamesError}
+use Rattle.history_texts.specs.declared.open_error.OpenError.{OpenError}
 use Rattle.history_check_names.proofs.Accepted.{no_cause}
 use Rattle.history_check_names.proofs.Found.{all_at}
 use Rattle.history_check_names.proofs.Standing.{is_names_part}
@@ -29,5 +29,5 @@ seen_so IsHonest What files known kind known_kind e same honest told =
     subst (λ k. What known k) same ((subst (λ f. IsHonest f → What f kind) e told) honest)
 
 -- a repository's names part has none but faults
-pub fault_alone : (A : Type 0) (kind : Kind) (facts : Facts) (tree : Tree) (r : Repository) (error : NamesError) → r.kind ≡ kind → AreFactsOf facts r.objects → StandsNames tree r → HasCause A kind facts tree error → IsFault error
+pub fault_alone : (A : Type 0) (kind : Kind) (facts : Facts) (tree : Tree) (r : Repository) (error : OpenError) → r.kind ≡ kind → AreFactsOf facts r.objects → StandsNames tree r → HasCause A kind facts tree error → IsOpenFault error
 fault_alone A kind facts tree r error same are stands wrong = no_cause tree r facts are stands A error (subst (λ k. HasCause A k facts tree error) (sym same) wrong)

@@ -22,8 +22,9 @@ use Rattle.history_check_names.specs.Packed.{has_name, has_record, is_packed_tex
 use Rattle.history_check_names.specs.PackedRead.{IsPackedFault, ReadsPacked, names_in}
 use Rattle.history_check_names.specs.Stored.{is_of_wrong_kind, may_be_held}
 use Rattle.history_check_objects.specs.Stored.{Facts, kind_in}
-use Rattle.history_check_names.specs.declared.error.NamesError.{NamesError}
-use Rattle.history_check_names.specs.declared.error.NamesError.TheVariants.{NoHead, BadHead, Stray, Unfinished, BadName, PrivateName, Symbolic, Missing, WrongKind, BadPacked, BadPeeled, Collides, BadLog, LongLogLine, LogWithoutName, File, Memory}
+use Rattle.history_texts.specs.declared.open_error.NamedBy.TheVariants.{Name}
+use Rattle.history_texts.specs.declared.open_error.OpenError.{OpenError}
+use Rattle.history_texts.specs.declared.open_error.OpenError.TheVariants.{Missing, WrongKind, BadPacked, Collides, File, Memory}
 use Rattle.history_check_names.specs.declared.log.LogFault.{LogFault}
 use Rattle.history_check_names.specs.declared.packed.Packed.{Packed}
 use Rattle.history_check_names.proofs.PackedReads.{stands_so}
@@ -82,31 +83,17 @@ kept_record kind packed tree name b is reads = is ∙ reads.names name
 -- ---- causes
 
 -- where the id that a name reads as isn't a stored commit's or tag's
-pub unheld_causes : {T : Type 0} (A : Type 0) (kind : Kind) (facts : Facts) (tree : Tree) (id : ObjectId) (name : Vec ℕ Global) (r : Result T NamesError) → name_state kind tree name.items ≡ states.Holds (id_of id)
+pub unheld_causes : {T : Type 0} (A : Type 0) (kind : Kind) (facts : Facts) (tree : Tree) (id : ObjectId) (name : Vec ℕ Global) (r : Result T OpenError) → name_state kind tree name.items ≡ states.Holds (id_of id)
     → IfErr r (IsUnheld (kind_in facts (id_of id)) id name) → IfErr r (HasCause A kind facts tree)
 unheld_causes A kind facts tree id name (Ok t) reads h = h
 unheld_causes A kind facts tree id name (Err error) reads h = go error h
   where
-    go : (error : NamesError) → IsUnheld (kind_in facts (id_of id)) id name error → HasCause A kind facts tree error
-    go NoHead h = absurd h
-    go BadHead h = absurd h
-    go (Stray path) h = absurd h
-    go (Unfinished path) h = absurd h
-    go (BadName path) h = absurd h
-    go (PrivateName holder) h = absurd h
-    go (Symbolic holder) h = absurd h
-    go (Missing missing holder) (none, is, by) =
+    go : (error : OpenError) → IsUnheld (kind_in facts (id_of id)) id name error → HasCause A kind facts tree error
+    go (Missing missing (Name holder)) (none, is, by) =
         (ap (λ (n : Vec ℕ Global). name_state kind tree n.items) by ∙ reads ∙ ap (λ (i : ObjectId). states.Holds (id_of i)) (sym is), ap (λ (i : ObjectId). kind_in facts (id_of i)) is ∙ none)
-    go (WrongKind wrong holder) (other, is, by) =
+    go (WrongKind wrong (Name holder)) (other, is, by) =
         (ap (λ (n : Vec ℕ Global). name_state kind tree n.items) by ∙ reads ∙ ap (λ (i : ObjectId). states.Holds (id_of i)) (sym is), ap (λ (i : ObjectId). is_of_wrong_kind (kind_in facts (id_of i))) is ∙ other)
-    go (BadPacked number) h = absurd h
-    go (BadPeeled holder) h = absurd h
-    go (Collides one other) h = absurd h
-    go (BadLog path number) h = absurd h
-    go (LongLogLine path number) h = absurd h
-    go (LogWithoutName path) h = absurd h
-    go File h = absurd h
-    go Memory h = absurd h
+    go _ h = absurd h
 
 -- why a log's text isn't one
 pub log_causes : (A : Type 0) (kind : Kind) (facts : Facts) (tree : Tree) (path : Vec ℕ Global) (text : Bytes) (fault : LogFault) → is_log_place path.items ≡ true → file_at tree path.items ≡ Some text → HasFault kind text fault
@@ -123,46 +110,18 @@ stray_file tree path there head packed lock refs log = inl (there, or_from _ _ (
 
 -- ---- a file of packed names
 
-pub fault_cause : (A : Type 0) (kind : Kind) (facts : Facts) (tree : Tree) (error : NamesError) → IsPackedFault kind (bytes_at tree packed_place) error → HasCause A kind facts tree error
-fault_cause A kind facts tree NoHead h = absurd h
-fault_cause A kind facts tree BadHead h = absurd h
-fault_cause A kind facts tree (Stray path) h = absurd h
-fault_cause A kind facts tree (Unfinished path) h = absurd h
-fault_cause A kind facts tree (BadName path) h = absurd h
-fault_cause A kind facts tree (PrivateName name) h = absurd h
-fault_cause A kind facts tree (Symbolic name) h = absurd h
-fault_cause A kind facts tree (Missing id name) h = absurd h
-fault_cause A kind facts tree (WrongKind id name) h = absurd h
+pub fault_cause : (A : Type 0) (kind : Kind) (facts : Facts) (tree : Tree) (error : OpenError) → IsPackedFault kind (bytes_at tree packed_place) error → HasCause A kind facts tree error
 fault_cause A kind facts tree (BadPacked number) h = h
-fault_cause A kind facts tree (BadPeeled name) h = absurd h
-fault_cause A kind facts tree (Collides name other) h = absurd h
-fault_cause A kind facts tree (BadLog path number) h = absurd h
-fault_cause A kind facts tree (LongLogLine path number) h = absurd h
-fault_cause A kind facts tree (LogWithoutName path) h = absurd h
-fault_cause A kind facts tree File h = absurd h
 fault_cause A kind facts tree Memory h = tt
+fault_cause A kind facts tree _ h = absurd h
 
 -- ---- names that collide
 
 -- the error of two names that collide
-pub collision_of : (A : Type 0) (kind : Kind) (tree : Tree) (folder name : Bytes) (error : NamesError) → IsCollisionOf folder name error → is_below folder name ≡ true → has_name kind tree folder ≡ true → IsCollision A kind tree name error
-collision_of A kind tree folder name NoHead h below has = absurd h
-collision_of A kind tree folder name BadHead h below has = absurd h
-collision_of A kind tree folder name (Stray path) h below has = absurd h
-collision_of A kind tree folder name (Unfinished path) h below has = absurd h
-collision_of A kind tree folder name (BadName path) h below has = absurd h
-collision_of A kind tree folder name (PrivateName holder) h below has = absurd h
-collision_of A kind tree folder name (Symbolic holder) h below has = absurd h
-collision_of A kind tree folder name (Missing id holder) h below has = absurd h
-collision_of A kind tree folder name (WrongKind id holder) h below has = absurd h
-collision_of A kind tree folder name (BadPacked number) h below has = absurd h
-collision_of A kind tree folder name (BadPeeled holder) h below has = absurd h
+pub collision_of : (A : Type 0) (kind : Kind) (tree : Tree) (folder name : Bytes) (error : OpenError) → IsCollisionOf folder name error → is_below folder name ≡ true → has_name kind tree folder ≡ true → IsCollision A kind tree name error
 collision_of A kind tree folder name (Collides one other) (first, second) below has = (second, ap (λ f. is_below f name) first ∙ below, ap (has_name kind tree) first ∙ has)
-collision_of A kind tree folder name (BadLog path number) h below has = absurd h
-collision_of A kind tree folder name (LongLogLine path number) h below has = absurd h
-collision_of A kind tree folder name (LogWithoutName path) h below has = absurd h
-collision_of A kind tree folder name File h below has = absurd h
 collision_of A kind tree folder name Memory h below has = tt
+collision_of A kind tree folder name _ h below has = absurd h
 
 pub file_named : (kind : Kind) (tree : Tree) (name : Bytes) → is_name name ≡ true → is_file_at tree name ≡ true → has_name kind tree name ≡ true
 file_named kind tree name named there = λ i. named i && (there i || has_record kind tree name)
@@ -171,32 +130,19 @@ pub private_file : (kind : Kind) (tree : Tree) (name : Bytes) → is_file_at tre
 private_file kind tree name there = ap (λ b. b || has_record kind tree name) there
 
 -- if one exists that is a folder of this one, the two collide
-pub collision_cause : (A : Type 0) (kind : Kind) (facts : Facts) (tree : Tree) (name : Bytes) (error : NamesError) → is_packed_text kind (bytes_at tree packed_place) ≡ true → is_private name ≡ false → has_name kind tree name ≡ true
+pub collision_cause : (A : Type 0) (kind : Kind) (facts : Facts) (tree : Tree) (name : Bytes) (error : OpenError) → is_packed_text kind (bytes_at tree packed_place) ≡ true → is_private name ≡ false → has_name kind tree name ≡ true
     → IsCollision A kind tree name error → HasCause A kind facts tree error
 collision_cause A kind facts tree name error good common there h = go error h
   where
-    go : (error : NamesError) → IsCollision A kind tree name error → HasCause A kind facts tree error
-    go NoHead h = absurd h
-    go BadHead h = absurd h
-    go (Stray path) h = absurd h
-    go (Unfinished path) h = absurd h
-    go (BadName path) h = absurd h
-    go (PrivateName holder) h = absurd h
-    go (Symbolic holder) h = absurd h
-    go (Missing missing holder) h = absurd h
-    go (WrongKind wrong holder) h = absurd h
-    go (BadPacked number) h = absurd h
-    go (BadPeeled holder) h = absurd h
+    go : (error : OpenError) → IsCollision A kind tree name error → HasCause A kind facts tree error
     go (Collides one other) (is, below, stands) = (
       ap (is_below one.items) is ∙ below,
       stands_so kind tree one.items good (folder_common one.items name below common) stands,
       ap (λ n. is_absent (name_state kind tree n)) is ∙ stands_so kind tree name good common there,
     )
-    go (BadLog path number) h = absurd h
-    go (LongLogLine path number) h = absurd h
-    go (LogWithoutName path) h = absurd h
     go File h = h
     go Memory h = tt
+    go _ h = absurd h
 
 -- ---- a name's file
 
@@ -213,7 +159,7 @@ module _ (kind : Kind) (facts : Facts) (tree : Tree) (name text found : Bytes) (
   name_sound id (Err e) common apart holds held = held
 
   -- one that doesn't says why
-  pub name_causes : {T : Type 0} (A : Type 0) (id : ObjectId) (holder : Vec ℕ Global) (r : Result T NamesError) → holder.items ≡ name → loose_state kind found ≡ states.Holds (id_of id)
+  pub name_causes : {T : Type 0} (A : Type 0) (id : ObjectId) (holder : Vec ℕ Global) (r : Result T OpenError) → holder.items ≡ name → loose_state kind found ≡ states.Holds (id_of id)
       → IfErr r (IsUnheld (kind_in facts (id_of id)) id holder) → IfErr r (HasCause A kind facts tree)
   name_causes A id holder r is holds unheld = unheld_causes A kind facts tree id holder r (ap (name_state kind tree) is ∙ state_is (states.Holds (id_of id)) holds) unheld
 

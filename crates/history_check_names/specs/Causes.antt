@@ -9,8 +9,6 @@ use Rattle.gix_hash.specs.declared.object_id.ObjectId.{ObjectId}
 use Rattle.gix_object_lines.specs.declared.kind.Kind.{Kind as ObjectKind}
 use Rattle.gix_ref_file.specs.Changes.{is_file_at}
 use Rattle.gix_ref_file.specs.Tree.{Tree, bytes_at, is_folder}
-use Rattle.gix_ref_file.specs.declared.files.FileError.{FileError}
-use Rattle.gix_ref_file.specs.declared.files.FileError.TheVariants as files
 use Rattle.gix_ref_format.specs.Packed.{Record}
 use Rattle.history_model.specs.Bytes.{Bytes, begins}
 use Rattle.history_model.specs.FileMap.{is_below}
@@ -23,16 +21,13 @@ use Rattle.history_check_names.specs.Logs.{HasBadLine, HasLongLine}
 use Rattle.history_check_names.specs.Packed.{HasBadRecord, has_name, has_record, records_at}
 use Rattle.history_check_names.specs.Stored.{is_of_wrong_kind, is_well_peeled}
 use Rattle.history_check_objects.specs.Stored.{Facts, kind_in}
-use Rattle.history_check_names.specs.declared.error.NamesError.{NamesError}
-use Rattle.history_check_names.specs.declared.error.NamesError.TheVariants.{NoHead, BadHead, Stray, Unfinished, BadName, PrivateName, Symbolic, Missing, WrongKind, BadPacked, BadPeeled, Collides, BadLog, LongLogLine, LogWithoutName, File, Memory}
+use Rattle.history_texts.specs.declared.open_error.NamedBy.TheVariants.{Name}
+use Rattle.history_texts.specs.declared.open_error.OpenError.{OpenError}
+use Rattle.history_texts.specs.declared.open_error.OpenError.TheVariants.{NoHead, BadHead, Stray, Unfinished, BadName, PrivateName, Symbolic, Missing, WrongKind, BadPacked, BadPeeled, Collides, BadLog, LongLogLine, LogWithoutName, File, Memory}
 use Rattle.history_check_names.specs.declared.log.LogFault.{LogFault}
 use Rattle.history_check_names.specs.declared.log.LogFault.TheVariants as logs
 
-abbrev pub file_fault : FileError → NamesError
-file_fault files.Failed = File
-file_fault files.Memory = Memory
-
-abbrev pub log_error : Vec ℕ Global → LogFault → NamesError
+abbrev pub log_error : Vec ℕ Global → LogFault → OpenError
 log_error path (logs.Bad number) = BadLog path number
 log_error path (logs.Long number) = LongLogLine path number
 log_error path logs.Memory = Memory
@@ -83,7 +78,7 @@ abbrev pub Stands : Kind → Tree → Bytes → Type 0
 Stands kind tree name = IsFalse (is_absent (name_state kind tree name))
 
 -- The cause holds of these files; or a reading may fail, or memory ran out.
-abbrev pub HasCause : Type 0 → Kind → Facts → Tree → NamesError → Type 0
+abbrev pub HasCause : Type 0 → Kind → Facts → Tree → OpenError → Type 0
 HasCause MayFail kind facts tree NoHead = file_at tree head_place ≡ None
 HasCause MayFail kind facts tree BadHead = HasBadHead tree
 HasCause MayFail kind facts tree (Stray path) = IsStray tree path.items
@@ -95,9 +90,9 @@ HasCause MayFail kind facts tree (PrivateName name) =
     × IsTrue (is_private name.items)
 HasCause MayFail kind facts tree (Symbolic name) =
     (target : Bytes) × (name_state kind tree name.items ≡ states.Symbolic target)
-HasCause MayFail kind facts tree (Missing id name) =
+HasCause MayFail kind facts tree (Missing id (Name name)) =
     (name_state kind tree name.items ≡ states.Holds (id_of id)) × (kind_in facts (id_of id) ≡ None)
-HasCause MayFail kind facts tree (WrongKind id name) =
+HasCause MayFail kind facts tree (WrongKind id (Name name)) =
     (name_state kind tree name.items ≡ states.Holds (id_of id))
     × IsTrue (is_of_wrong_kind (kind_in facts (id_of id)))
 HasCause MayFail kind facts tree (BadPacked number) =
@@ -115,31 +110,32 @@ HasCause MayFail kind facts tree (LogWithoutName path) =
     × IsTrue (is_absent (name_state kind tree (log_name path.items)))
 HasCause MayFail kind facts tree File = MayFail
 HasCause MayFail kind facts tree Memory = ⊤
+HasCause MayFail kind facts tree _ = ⊥
 
 -- ---- calls
 
 -- if there is a file at the path, an error has its cause
-abbrev pub Excuses : {T : Type 0} → Type 0 → Kind → Facts → Bytes → Result T NamesError → Tree
+abbrev pub Excuses : {T : Type 0} → Type 0 → Kind → Facts → Bytes → Result T OpenError → Tree
     → Type 0
 Excuses MayFail kind facts path result tree =
     IsTrue (is_file_at tree path) → IfErr result (HasCause MayFail kind facts tree)
 
 -- why no commit or tag is found under the id that a name holds
-abbrev pub IsUnheld : Option ObjectKind → ObjectId → Vec ℕ Global → NamesError → Type 0
-IsUnheld stored id name (Missing missing holder) =
+abbrev pub IsUnheld : Option ObjectKind → ObjectId → Vec ℕ Global → OpenError → Type 0
+IsUnheld stored id name (Missing missing (Name holder)) =
     (stored ≡ None) × (missing ≡ id) × (holder ≡ name)
-IsUnheld stored id name (WrongKind wrong holder) =
+IsUnheld stored id name (WrongKind wrong (Name holder)) =
     IsTrue (is_of_wrong_kind stored) × (wrong ≡ id) × (holder ≡ name)
 IsUnheld stored id name _ = ⊥
 
 -- the first name is a folder of the second one, unless memory ran out for the error
-abbrev pub IsCollisionOf : Bytes → Bytes → NamesError → Type 0
+abbrev pub IsCollisionOf : Bytes → Bytes → OpenError → Type 0
 IsCollisionOf folder name (Collides one other) = (one.items ≡ folder) × (other.items ≡ name)
 IsCollisionOf folder name Memory = ⊤
 IsCollisionOf folder name _ = ⊥
 
 -- why a name isn't found to be apart from all others: an existing one is a folder of it
-abbrev pub IsCollision : Type 0 → Kind → Tree → Bytes → NamesError → Type 0
+abbrev pub IsCollision : Type 0 → Kind → Tree → Bytes → OpenError → Type 0
 IsCollision MayFail kind tree name (Collides one other) =
     (other.items ≡ name) × IsTrue (is_below one.items name) × IsTrue (has_name kind tree one.items)
 IsCollision MayFail kind tree name File = MayFail
@@ -147,7 +143,7 @@ IsCollision MayFail kind tree name Memory = ⊤
 IsCollision MayFail kind tree name _ = ⊥
 
 -- a call of the files failed, or memory ran out
-abbrev pub IsFault : NamesError → Type 0
-IsFault File = ⊤
-IsFault Memory = ⊤
-IsFault _ = ⊥
+abbrev pub IsOpenFault : OpenError → Type 0
+IsOpenFault File = ⊤
+IsOpenFault Memory = ⊤
+IsOpenFault _ = ⊥

@@ -6,4 +6,3 @@ pub mod Sound
 pub mod Parts
 pub mod Causes
 pub mod Joined
-pub mod Told

@@ -8,8 +8,8 @@ use Rattle.gix_ref_format.specs.Packed.{record_of}
 use Rattle.history_model.specs.Bytes.{Bytes, has_byte}
 use Rattle.history_model.specs.Places.{packed_place}
 use Rattle.history_check_names.specs.Packed.{HasBadRecord, first_lines, is_packed_text, record_names, records_in}
-use Rattle.history_check_names.specs.declared.error.NamesError.{NamesError}
-use Rattle.history_check_names.specs.declared.error.NamesError.TheVariants.{BadPacked, Memory}
+use Rattle.history_texts.specs.declared.open_error.OpenError.{OpenError}
+use Rattle.history_texts.specs.declared.open_error.OpenError.TheVariants.{BadPacked, Memory}
 use Rattle.history_check_names.specs.declared.packed.Packed.{Packed}
 
 -- the names in a set
@@ -37,7 +37,7 @@ pub record AreLinesOf (text whole : Bytes) (count : ℕ) : Type 0 where
       → first_lines (count + n) (whole ++ more) ≡ whole ++ first_lines n more
 
 -- why a text is no such file
-abbrev pub IsPackedFault : Kind → Bytes → NamesError → Type 0
+abbrev pub IsPackedFault : Kind → Bytes → OpenError → Type 0
 IsPackedFault kind text (BadPacked number) = HasBadRecord kind text number
 IsPackedFault kind text Memory = ⊤
 IsPackedFault kind text _ = ⊥

@@ -9,15 +9,14 @@ ghost use Rattle.gix_ref_file.specs.declared.files.FileError.TheVariants.{Failed
 ghost use Rattle.history_model.specs.Bytes.{begins};
 ghost use Rattle.history_model.specs.Forms.{is_private, refs_front};
 ghost use Rattle.history_model.specs.Places.{file_at, is_lock_file, is_log_place, log_name};
-ghost use Rattle.history_check_names.specs.Causes.{Excuses, IsCollision, IsCollisionOf, IsUnheld};
+ghost use Rattle.history_check_names.specs.Causes.{Excuses, IsCollision, IsCollisionOf, IsUnheld, log_error};
 ghost use Rattle.history_check_names.specs.Packed.{has_name};
 ghost use Rattle.history_check_names.specs.PackedRead.{ReadsPacked};
 ghost use Rattle.history_check_names.specs.Sound.{IsApart, Sounds};
 ghost use Rattle.history_check_names.specs.Stored.{may_be_held};
 ghost use Rattle.history_check_objects.specs.Stored.{Facts, facts_in, kind_in};
 
-use crate::error::NamesError;
-use crate::log::log_fault;
+use crate::log::{LogFault, log_fault};
 use crate::loose::{Loose, MAX_LOOSE, read_loose};
 use crate::packed::Packed;
 use crate::records::PACKED_REFS;
@@ -26,7 +25,7 @@ use gix_object_lines::Kind as ObjectKind;
 use gix_ref_file::{FileError, Files, Place};
 use history_check_objects::Stored;
 use history_model::names::{HEAD, REFS};
-use history_texts::is_name;
+use history_texts::{NamedBy, OpenError, is_name};
 use std::alloc::Global;
 
 /// How the path of a log begins.
@@ -47,7 +46,7 @@ pub(crate) fn test_file<F: Files>(
     packed: &Packed<'_>,
     path: Vec<u8>,
     len: u64,
-) -> Result<(), NamesError>
+) -> Result<(), OpenError>
     requires packed { Finds F.is_honest F.history files.now (ReadsPacked kind packed.now) }
     requires size { Finds F.is_honest F.history files.now
         (λ tree. len ≡ length (bytes_at tree path.items)) }
@@ -63,7 +62,7 @@ pub(crate) fn test_file<F: Files>(
         return Ok(());
     }
     if path.ends_with(LOCK_END) {
-        return Err(NamesError::Unfinished(path));
+        return Err(OpenError::Unfinished(path));
     }
     if path.starts_with(REFS) {
         return test_name(alloc, files, kind, stored, packed, path, len);
@@ -71,7 +70,7 @@ pub(crate) fn test_file<F: Files>(
     if path.starts_with(LOGS) {
         return test_log_file(alloc, files, kind, packed, path, len);
     }
-    Err(NamesError::Stray(path))
+    Err(OpenError::Stray(path))
 }
 
 // Tests the file of a name.
@@ -83,7 +82,7 @@ fn test_name<F: Files>(
     packed: &Packed<'_>,
     name: Vec<u8>,
     len: u64,
-) -> Result<(), NamesError>
+) -> Result<(), OpenError>
     requires packed { Finds F.is_honest F.history files.now (ReadsPacked kind packed.now) }
     requires size { Finds F.is_honest F.history files.now
         (λ tree. len ≡ length (bytes_at tree name.items)) }
@@ -95,35 +94,35 @@ fn test_name<F: Files>(
         (Excuses F.reading_may_fail kind (facts_in stored.now) name.items result) }
 {
     if !is_name(&name) {
-        return Err(NamesError::BadName(name));
+        return Err(OpenError::BadName(name));
     }
     if is_private(&name) {
-        return Err(NamesError::PrivateName(name));
+        return Err(OpenError::PrivateName(name));
     }
     test_apart(alloc, files, packed, &name)?;
     if len > MAX_LOOSE {
-        return Err(NamesError::BadName(name));
+        return Err(OpenError::BadName(name));
     }
     let text = text_at(alloc, files, &name)?;
     match read_loose(kind, &text) {
         Loose::Holds(id) => test_held(stored, id, name),
-        Loose::Symbolic => Err(NamesError::Symbolic(name)),
-        Loose::Faulty => Err(NamesError::BadName(name)),
+        Loose::Symbolic => Err(OpenError::Symbolic(name)),
+        Loose::Faulty => Err(OpenError::BadName(name)),
     }
 }
 
 /// Tests that a commit or a tag is stored under the id that a name holds. Otherwise returns
 /// `Missing` or `WrongKind`.
-pub(crate) fn test_held(stored: &Stored, id: ObjectId, name: Vec<u8>) -> Result<(), NamesError>
+pub(crate) fn test_held(stored: &Stored, id: ObjectId, name: Vec<u8>) -> Result<(), OpenError>
     ensures held { OnOk result (IsTrue (may_be_held (kind_in (facts_in stored.now) (id_of id)))) }
     ensures unheld { IfErr result (IsUnheld (kind_in (facts_in stored.now) (id_of id)) id name) }
 {
     let Some(kind) = stored.kind_of(&id) else {
-        return Err(NamesError::Missing(id, name));
+        return Err(OpenError::Missing(id, NamedBy::Name(name)));
     };
     match kind {
         ObjectKind::Commit | ObjectKind::Tag => Ok(()),
-        ObjectKind::Tree | ObjectKind::Blob => Err(NamesError::WrongKind(id, name)),
+        ObjectKind::Tree | ObjectKind::Blob => Err(OpenError::WrongKind(id, NamedBy::Name(name))),
     }
 }
 
@@ -144,7 +143,7 @@ fn test_log_file<F: Files>(
     packed: &Packed<'_>,
     path: Vec<u8>,
     len: u64,
-) -> Result<(), NamesError>
+) -> Result<(), OpenError>
     requires packed { Finds F.is_honest F.history files.now (ReadsPacked kind packed.now) }
     requires size { Finds F.is_honest F.history files.now
         (λ tree. len ≡ length (bytes_at tree path.items)) }
@@ -155,11 +154,22 @@ fn test_log_file<F: Files>(
         (Excuses F.reading_may_fail kind facts path.items result) }
 {
     if !stands(files, packed, log_name(&path))? {
-        return Err(NamesError::LogWithoutName(path));
+        return Err(OpenError::LogWithoutName(path));
     }
     match log_fault(alloc, files, kind, &path, len)? {
         None => Ok(()),
-        Some(fault) => Err(NamesError::of_log(path, fault)),
+        Some(fault) => Err(log_error(path, fault)),
+    }
+}
+
+// Returns the error of a log at this path.
+fn log_error(path: Vec<u8>, fault: LogFault) -> OpenError
+    ensures { result ≡ log_error path fault }
+{
+    match fault {
+        LogFault::Bad(line) => OpenError::BadLog(path, line),
+        LogFault::Long(line) => OpenError::LongLogLine(path, line),
+        LogFault::Memory => OpenError::Memory,
     }
 }
 
@@ -177,7 +187,7 @@ pub(crate) fn test_apart<F: Files>(
     files: &F,
     packed: &Packed<'_>,
     name: &[u8],
-) -> Result<(), NamesError>
+) -> Result<(), OpenError>
     ensures apart { (kind : Kind) → Finds F.is_honest F.history files.now
         (λ tree. ReadsPacked kind packed.now tree → OnOk result (IsApart kind tree name.now)) }
     ensures collides { (kind : Kind) → Finds F.is_honest F.history files.now
@@ -195,12 +205,12 @@ pub(crate) fn test_apart<F: Files>(
 }
 
 // Returns the error of two names that collide.
-fn collision(alloc: Global, folder: &[u8], name: &[u8]) -> NamesError
+fn collision(alloc: Global, folder: &[u8], name: &[u8]) -> OpenError
     ensures { IsCollisionOf folder.now name.now result }
 {
     match (Vec::from_slice(alloc, folder), Vec::from_slice(alloc, name)) {
-        (Ok(folder), Ok(name)) => NamesError::Collides(folder, name),
-        _ => NamesError::Memory,
+        (Ok(folder), Ok(name)) => OpenError::Collides(folder, name),
+        _ => OpenError::Memory,
     }
 }
 

@@ -1,7 +1,6 @@
 //! The check of a names part: whether HEAD, names and logs are a repository's, and nothing else.
 #![tactic(auto)]
 
-mod error;
 mod file;
 pub mod laws;
 mod log;
@@ -10,6 +9,5 @@ mod packed;
 mod records;
 mod survey;
 
-pub use error::NamesError;
 pub use loose::MAX_LOOSE;
 pub use survey::survey_names;

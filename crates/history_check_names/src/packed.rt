@@ -11,11 +11,10 @@ ghost use Rattle.history_model.specs.PackedNames.{first_header, says_sorted};
 ghost use Rattle.history_check_names.specs.Packed.{is_ascending, record_names};
 ghost use Rattle.history_check_names.specs.PackedRead.{AreLinesOf, IsPackedFault, IsReadOf, names_in};
 
-use crate::error::NamesError;
 use gix_hash::Kind;
 use gix_object_lines::cut::split_once;
 use gix_ref_format::packed::{Header, Iter, Reference};
-use history_texts::is_name;
+use history_texts::{OpenError, is_name};
 use std::alloc::Global;
 use std::collections::BTreeSet;
 
@@ -31,7 +30,7 @@ impl<'a> Packed<'a> {
     /// without a peeled id, no name occurs twice, they ascend if the header says so, and no line
     /// has a carriage return. Otherwise returns `BadPacked` with the first line that may not come
     /// after those before it.
-    pub(crate) fn read(alloc: Global, kind: Kind, text: &'a [u8]) -> Result<Packed<'a>, NamesError>
+    pub(crate) fn read(alloc: Global, kind: Kind, text: &'a [u8]) -> Result<Packed<'a>, OpenError>
         ensures { MatchResult result (IsReadOf kind text.now) (IsPackedFault kind text.now) }
     {
         match split_once(text, b'\r') {
@@ -39,18 +38,18 @@ impl<'a> Packed<'a> {
             Some((front, _)) => {
                 let (whole, count) = whole_lines(front);
                 Packed::read_plain(alloc, kind, whole)?;
-                Err(NamesError::BadPacked(count + 1))
+                Err(OpenError::BadPacked(count + 1))
             }
         }
     }
 
     // Returns the records of a text without a carriage return.
-    fn read_plain(alloc: Global, kind: Kind, text: &'a [u8]) -> Result<Packed<'a>, NamesError>
+    fn read_plain(alloc: Global, kind: Kind, text: &'a [u8]) -> Result<Packed<'a>, OpenError>
         requires { IsFalse (has_byte 13 text.now) }
         ensures { MatchResult result (IsReadOf kind text.now) (IsPackedFault kind text.now) }
     {
         let Ok(mut left) = Iter::new(text, kind) else {
-            return Err(NamesError::BadPacked(1));
+            return Err(OpenError::BadPacked(1));
         };
         let sorted = says_sorted(text);
         let mut number = first_number(text);
@@ -59,13 +58,13 @@ impl<'a> Packed<'a> {
         while let Some(item) = left.next() {
             let record = match item {
                 Ok(record) => record,
-                Err(_) => return Err(NamesError::BadPacked(number)),
+                Err(_) => return Err(OpenError::BadPacked(number)),
             };
             if !may_follow(&records, sorted, &record) {
-                return Err(NamesError::BadPacked(number));
+                return Err(OpenError::BadPacked(number));
             }
             if !names.insert(record.name.to_path())? {
-                return Err(NamesError::BadPacked(number));
+                return Err(OpenError::BadPacked(number));
             }
             records.push(record)?;
             number += lines_of(&record);

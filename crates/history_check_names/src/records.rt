@@ -10,13 +10,13 @@ ghost use Rattle.history_check_names.specs.Sound.{AreSoundRecords, IsSoundRecord
 ghost use Rattle.history_check_names.specs.Stored.{is_well_peeled};
 ghost use Rattle.history_check_objects.specs.Stored.{facts_in};
 
-use crate::error::NamesError;
 use crate::file::{is_file, is_private, test_apart, test_held};
 use crate::packed::Packed;
 use gix_hash::Kind;
 use gix_ref_file::Files;
 use gix_ref_format::packed::Reference;
 use history_check_objects::Stored;
+use history_texts::OpenError;
 use std::alloc::Global;
 
 /// The file of packed names.
@@ -31,7 +31,7 @@ pub(crate) fn test_records<F: Files>(
     kind: Kind,
     stored: &Stored,
     packed: &Packed<'_>,
-) -> Result<(), NamesError>
+) -> Result<(), OpenError>
     requires { Finds F.is_honest F.history files.now (ReadsPacked kind packed.now) }
     ensures sound { Finds F.is_honest F.history files.now
         (λ tree. OnOk result (AreSoundRecords kind (facts_in stored.now) tree)) }
@@ -52,7 +52,7 @@ fn test_record<F: Files>(
     stored: &Stored,
     packed: &Packed<'_>,
     entry: &Reference<'_>,
-) -> Result<(), NamesError>
+) -> Result<(), OpenError>
     requires packed { Finds F.is_honest F.history files.now (ReadsPacked kind packed.now) }
     requires among { Contains (map record_of packed.now.records.items) (record_of entry.now) }
     ensures sound { Finds F.is_honest F.history files.now
@@ -63,7 +63,7 @@ fn test_record<F: Files>(
 {
     let name = entry.name.to_path();
     if is_private(name) {
-        return Err(NamesError::PrivateName(Vec::from_slice(alloc, name)?));
+        return Err(OpenError::PrivateName(Vec::from_slice(alloc, name)?));
     }
     test_apart(alloc, files, packed, name)?;
     if !is_file(files, name)? {
@@ -72,7 +72,7 @@ fn test_record<F: Files>(
     if is_well_peeled(stored, entry) {
         return Ok(());
     }
-    Err(NamesError::BadPeeled(Vec::from_slice(alloc, name)?))
+    Err(OpenError::BadPeeled(Vec::from_slice(alloc, name)?))
 }
 
 // Returns whether the record has no peeled id, or that of the commit of a stored tag that it holds.

@@ -8,13 +8,12 @@ ghost use Rattle.gix_ref_file.specs.Calls.{Finds};
 ghost use Rattle.history_model.specs.Forms.{is_branch};
 ghost use Rattle.history_model.specs.Repository.{Repository};
 ghost use Rattle.history_store.specs.NamesFace.{files_of_names, kind_of_names};
-ghost use Rattle.history_check_names.specs.Causes.{HasCause, IsFault};
+ghost use Rattle.history_check_names.specs.Causes.{HasCause, IsOpenFault};
 ghost use Rattle.history_check_names.specs.PackedRead.{ReadsPacked};
 ghost use Rattle.history_check_names.specs.Parts.{IsNamesPart, NamesBranch, StandsNames};
 ghost use Rattle.history_check_names.specs.Sound.{IsSound, IsSoundBelow};
 ghost use Rattle.history_check_objects.specs.Stored.{AreFactsOf, Facts, facts_in};
 
-use crate::error::NamesError;
 use crate::file::{file_len, test_file, text_at};
 use crate::loose::MAX_LOOSE;
 use crate::packed::Packed;
@@ -25,7 +24,7 @@ use gix_ref_file::{Files, Place};
 use history_check_objects::Stored;
 use history_model::names::{HEAD, HEADS};
 use history_store::Names;
-use history_texts::{Part, is_name};
+use history_texts::{OpenError, Part, is_name};
 use std::alloc::Global;
 
 /// Returns HEAD's branch, if the names part is a repository's over this store of objects: HEAD
@@ -35,13 +34,13 @@ use std::alloc::Global;
 /// takes precedence over its record. No file is changed; each is read once, a long log in pieces,
 /// and each folder is listed once.
 ///
-/// Otherwise the error names a cause that holds. It is `File` if a call of the files failed, and
-/// `Memory` if no memory is left.
+/// Otherwise the error is a cause that holds of this part, none that only objects have. It is `File`
+/// if a call of the files failed, and `Memory` if no memory is left.
 pub fn survey_names<F: Files>(
     alloc: Global,
     names: &Names<F>,
     stored: &Stored,
-) -> Result<Vec<u8>, NamesError>
+) -> Result<Vec<u8>, OpenError>
     ensures stands { Finds F.is_honest F.history (files_of_names names.now) (λ tree. IfOk result
         (λ branch. IsNamesPart (kind_of_names names.now) (facts_in stored.now) tree branch.items)) }
     ensures wrong { Finds F.is_honest F.history (files_of_names names.now) (λ tree. IfErr result
@@ -53,7 +52,7 @@ pub fn survey_names<F: Files>(
     ensures accepted { (r : Repository) → r.kind ≡ kind_of_names names.now
         → AreFactsOf (facts_in stored.now) r.objects
         → Finds F.is_honest F.history (files_of_names names.now)
-        (λ tree. StandsNames tree r → IfErr result IsFault) }
+        (λ tree. StandsNames tree r → IfErr result IsOpenFault) }
 {
     let branch = head_branch(alloc, names)?;
     test_all(alloc, names.files(), names.kind(), stored)?;
@@ -61,7 +60,7 @@ pub fn survey_names<F: Files>(
 }
 
 // Returns the branch that HEAD names.
-fn head_branch<F: Files>(alloc: Global, names: &Names<F>) -> Result<Vec<u8>, NamesError>
+fn head_branch<F: Files>(alloc: Global, names: &Names<F>) -> Result<Vec<u8>, OpenError>
     ensures found { Finds F.is_honest F.history (files_of_names names.now)
         (λ tree. IfOk result (λ branch. NamesBranch tree branch.items)) }
     ensures wrong { (facts : Facts) → Finds F.is_honest F.history (files_of_names names.now)
@@ -69,18 +68,18 @@ fn head_branch<F: Files>(alloc: Global, names: &Names<F>) -> Result<Vec<u8>, Nam
         (HasCause F.reading_may_fail (kind_of_names names.now) facts tree)) }
 {
     let Some(len) = file_len(names.files(), HEAD)? else {
-        return Err(NamesError::NoHead);
+        return Err(OpenError::NoHead);
     };
     if len > MAX_LOOSE {
-        return Err(NamesError::BadHead);
+        return Err(OpenError::BadHead);
     }
     let Some(branch) = names.head(alloc)? else {
-        return Err(NamesError::BadHead);
+        return Err(OpenError::BadHead);
     };
     if is_branch(&branch) {
         return Ok(branch);
     }
-    Err(NamesError::BadHead)
+    Err(OpenError::BadHead)
 }
 
 // Returns whether it is a branch's name.
@@ -96,7 +95,7 @@ fn test_all<F: Files>(
     files: &F,
     kind: Kind,
     stored: &Stored,
-) -> Result<(), NamesError>
+) -> Result<(), OpenError>
     ensures sound { Finds F.is_honest F.history files.now
         (λ tree. OnOk result (IsSound kind (facts_in stored.now) tree)) }
     ensures wrong { Finds F.is_honest F.history files.now
@@ -116,7 +115,7 @@ fn test_folder<F: Files>(
     stored: &Stored,
     packed: &Packed<'_>,
     folder: &[u8],
-) -> Result<(), NamesError>
+) -> Result<(), OpenError>
     requires { Finds F.is_honest F.history files.now (ReadsPacked kind packed.now) }
     ensures sound { Finds F.is_honest F.history files.now
         (λ tree. OnOk result (IsSoundBelow kind (facts_in stored.now) folder.now tree)) }
@@ -129,10 +128,10 @@ fn test_folder<F: Files>(
             Place::Folder if Part::Names.may_hold_folder(&path) && is_deeper(&path, folder) => {
                 test_folder(alloc, files, kind, stored, packed, &path)?;
             }
-            Place::Folder => return Err(NamesError::Stray(path)),
+            Place::Folder => return Err(OpenError::Stray(path)),
             Place::File(len) => test_file(alloc, files, kind, stored, packed, path, len)?,
             // A name of nothing: the folder changed while it was read.
-            Place::Absent => return Err(NamesError::Stray(path)),
+            Place::Absent => return Err(OpenError::Stray(path)),
         }
     }
     Ok(())

@@ -1,5 +1,5 @@
 -- The two parts that were surveyed, as one repository.
-use Rattle.std.proofs.Common.{◌≡◌, ℕ, ◌&&◌, not, nat_le, length-append, take, drop, unwrap_or, true, [], ◌∷◌, ◌++◌, length, refl, sym, ◌∙◌, ap, subst, arith, inl, inr, codes, Option, Some, None, is_some, option_map}
+use Rattle.std.proofs.Common.{◌≡◌, ℕ, ◌&&◌, not, nat_le, length-append, take, drop, unwrap_or, true, [], ◌∷◌, ◌++◌, length, refl, sym, ◌∙◌, ap, subst, arith, inr, codes, Option, Some, None, is_some, option_map}
 use Rattle.std.specs.FinMap.{contains_key, empty, get}
 use Rattle.std.proofs.lemmas.Bool.{and_parts}
 use Rattle.std.proofs.lemmas.List.{append_cancel_left, append_cancel_right, take-append-le, take_all}
@@ -30,15 +30,14 @@ use Rattle.history_check_objects.specs.Flaws.{IsObjectsFlaw}
 use Rattle.history_store.specs.Opened.{IsOpened, IsOpenedWith}
 use Rattle.history_check_objects.specs.Opened.{IsSoundStore, store_of}
 use Rattle.history_check_objects.specs.Stored.{AreFactsOf, Fact, Facts, fact_of}
+use Rattle.history_texts.specs.declared.open_error.NamedBy.TheVariants.{Name}
 use Rattle.history_texts.specs.declared.open_error.OpenError.{OpenError}
+use Rattle.history_texts.specs.declared.open_error.OpenError.TheVariants.{Missing, WrongKind, BadPeeled}
 use Rattle.history_check_objects.proofs.Joins.{whole_on}
-use Rattle.history_check_names.specs.Causes.{HasCause, IsFault}
+use Rattle.history_check_names.specs.Causes.{HasCause}
 use Rattle.history_check_names.specs.Joined.{StandsStore}
 use Rattle.history_check_names.specs.Parts.{IsNamesPart, StandsNames}
 use Rattle.history_check_names.specs.Stored.{is_of_wrong_kind, is_tag_of}
-use Rattle.history_check_names.specs.declared.error.NamesError.{NamesError}
-use Rattle.history_check_names.specs.declared.error.NamesError.TheVariants.{NoHead, BadHead, Stray, Unfinished, BadName, PrivateName, Symbolic, Missing, WrongKind, BadPacked, BadPeeled, Collides, BadLog, LongLogLine, LogWithoutName, File, Memory}
-use Rattle.history_check_names.specs.Told.{cause_of_names}
 use Rattle.history_repository.specs.Causes.{IsOpenCause, IsOpenFault, facts_of}
 use Rattle.history_repository.specs.Opened.{IsOpenedAs}
 use Rattle.history_repository.specs.declared.folder.OpenedFolder.{OpenedFolder}
@@ -167,7 +166,7 @@ pub part_of : {F : Type 0} (history : F → History) (facts : Facts) (branch : B
 part_of history facts branch known own k kind e f h =
     subst (λ files. IsNamesPart kind facts (history files).tree branch) e (subst (λ (q : Kind). IsNamesPart q facts (history known).tree branch) f h)
 
-pub cause_of : {F : Type 0} (history : F → History) (MayFail : Type 0) (facts : Facts) (error : NamesError) (known own : F) (k kind : Kind) → known ≡ own → k ≡ kind
+pub cause_of : {F : Type 0} (history : F → History) (MayFail : Type 0) (facts : Facts) (error : OpenError) (known own : F) (k kind : Kind) → known ≡ own → k ≡ kind
     → HasCause MayFail k facts (history known).tree error → HasCause MayFail kind facts (history own).tree error
 cause_of history MayFail facts error known own k kind e f h =
     subst (λ files. HasCause MayFail kind facts (history files).tree error) e (subst (λ (q : Kind). HasCause MayFail q facts (history known).tree error) f h)
@@ -218,54 +217,20 @@ module _ (kind : Kind) (pair : Pair) (ids : IdSet) (facts : Facts) (with_facts :
 
   -- ---- causes
 
-  carried : (A : Type 0) (k l : Facts) → ((id : Id) → k id ≡ l id) → (tree : Tree) (error : NamesError) → HasCause A kind k tree error → HasCause A kind l tree error
-  carried A k l same tree NoHead h = h
-  carried A k l same tree BadHead h = h
-  carried A k l same tree (Stray path) h = h
-  carried A k l same tree (Unfinished path) h = h
-  carried A k l same tree (BadName path) h = h
-  carried A k l same tree (PrivateName name) h = h
-  carried A k l same tree (Symbolic name) h = h
-  carried A k l same tree (Missing id name) h = (h.0, ap (option_map (λ (fact : Fact). fact.kind)) (sym (same (id_of id))) ∙ h.1)
-  carried A k l same tree (WrongKind id name) h = (h.0, ap (λ o. is_of_wrong_kind (option_map (λ (fact : Fact). fact.kind) o)) (sym (same (id_of id))) ∙ h.1)
-  carried A k l same tree (BadPacked number) h = h
+  carried : (A : Type 0) (k l : Facts) → ((id : Id) → k id ≡ l id) → (tree : Tree) (error : OpenError) → HasCause A kind k tree error → HasCause A kind l tree error
+  carried A k l same tree (Missing id (Name name)) h = (h.0, ap (option_map (λ (fact : Fact). fact.kind)) (sym (same (id_of id))) ∙ h.1)
+  carried A k l same tree (WrongKind id (Name name)) h = (h.0, ap (λ o. is_of_wrong_kind (option_map (λ (fact : Fact). fact.kind) o)) (sym (same (id_of id))) ∙ h.1)
   carried A k l same tree (BadPeeled name) h = record {
     entry = h.entry;
     among = h.among;
     named = h.named;
     wrong = ap (λ o. unwrap_or (option_map (λ commit. is_tag_of o commit) h.entry.peeled) true) (sym (same h.entry.target)) ∙ h.wrong;
   }
-  carried A k l same tree (Collides name other) h = h
-  carried A k l same tree (BadLog path number) h = h
-  carried A k l same tree (LongLogLine path number) h = h
-  carried A k l same tree (LogWithoutName path) h = h
-  carried A k l same tree File h = h
-  carried A k l same tree Memory h = h
+  carried A k l same tree _ h = h
 
-  pub names_cause : (M : Type 0) (error : NamesError) → HasCause M kind facts pair.names error → IsOpenCause M kind pair (cause_of_names error)
+  pub names_cause : (M : Type 0) (error : OpenError) → HasCause M kind facts pair.names error → IsOpenCause M kind pair error
   names_cause M error h = inr (record {
     values = whole.values;
     store = store;
-    cause = error;
-    told = refl;
     holds = carried M facts (facts_of whole.values) with_facts.told pair.names error h;
   })
-
-pub names_fault : (error : NamesError) → IsFault error → IsOpenFault (cause_of_names error)
-names_fault File h = inl refl
-names_fault Memory h = inr refl
-names_fault NoHead h = absurd h
-names_fault BadHead h = absurd h
-names_fault (Stray path) h = absurd h
-names_fault (Unfinished path) h = absurd h
-names_fault (BadName path) h = absurd h
-names_fault (PrivateName name) h = absurd h
-names_fault (Symbolic name) h = absurd h
-names_fault (Missing id name) h = absurd h
-names_fault (WrongKind id name) h = absurd h
-names_fault (BadPacked number) h = absurd h
-names_fault (BadPeeled name) h = absurd h
-names_fault (Collides name other) h = absurd h
-names_fault (BadLog path number) h = absurd h
-names_fault (LongLogLine path number) h = absurd h
-names_fault (LogWithoutName path) h = absurd h

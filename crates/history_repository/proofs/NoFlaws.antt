@@ -265,6 +265,6 @@ module _ (kind : Kind) (tree : Tree) (stored : Values) (holds : HoldsValues kind
   fault_alone MayFail (flaws.WrongKind id (Object by)) h = absurd (no_wrong_kind (id_of id) (id_of by) h)
   fault_alone MayFail (flaws.Cycle id) h = absurd ((sound.whole).acyclic (id_of id) (reaches h))
   fault_alone MayFail flaws.IdReserved h = absurd (no_reserved h)
-  fault_alone MayFail flaws.File h = inl refl
-  fault_alone MayFail flaws.Memory h = inr refl
+  fault_alone MayFail flaws.File h = tt
+  fault_alone MayFail flaws.Memory h = tt
   fault_alone MayFail _ h = absurd h

@@ -7,7 +7,7 @@ ghost use Rattle.history_model.specs.StandsFor.{StandsWhole};
 ghost use Rattle.history_store.specs.NamesFace.{files_of_names, kind_of_names};
 ghost use Rattle.history_store.specs.ObjectsFace.{files_of_objects, ids_of_objects, kind_of_objects};
 ghost use Rattle.history_store.specs.Packing.{KeepsRecords};
-ghost use Rattle.history_check_names.specs.Causes.{HasCause, IsFault};
+ghost use Rattle.history_check_names.specs.Causes.{HasCause};
 ghost use Rattle.history_check_names.specs.Parts.{IsNamesPart, StandsNames};
 ghost use Rattle.history_check_objects.specs.Stored.{AreFactsOf, facts_in};
 ghost use Rattle.history_store.specs.Opened.{IsOpenedWith};
@@ -18,9 +18,10 @@ use crate::open_error::OpenRefusal;
 use gix_hash::Kind;
 use gix_ref_file::Files;
 use gix_ref_format::packed::buffer as packed;
-use history_check_names::{NamesError, survey_names};
+use history_check_names::survey_names;
 use history_check_objects::Stored;
 use history_store::{Names, Objects, open_objects};
+use history_texts::OpenError;
 use std::alloc::Global;
 
 /// A folder that was opened: its objects, its names, and the branch that HEAD names.
@@ -112,8 +113,8 @@ fn open_names<F: Files>(
             names,
             branch,
         }),
-        Err(cause) => Err(OpenRefusal {
-            error: cause.into(),
+        Err(error) => Err(OpenRefusal {
+            error,
             objects: objects.into_files(),
             names: names.into_files(),
         }),
@@ -126,7 +127,7 @@ fn read_names<F: Files>(
     alloc: Global,
     names: &mut Names<F>,
     stored: &Stored,
-) -> Result<Vec<u8>, NamesError>
+) -> Result<Vec<u8>, OpenError>
     ensures files { files_of_names names.new ≡ files_of_names names.old }
     ensures kind { kind_of_names names.new ≡ kind_of_names names.old }
     ensures stands { Finds F.is_honest F.history (files_of_names names.old) (λ tree. IfOk result
@@ -138,15 +139,15 @@ fn read_names<F: Files>(
     ensures accepted { (r : Repository) → r.kind ≡ kind_of_names names.old
         → AreFactsOf (facts_in stored.now) r.objects
         → Finds F.is_honest F.history (files_of_names names.old)
-        (λ tree. StandsNames tree r → IfErr result IsFault) }
+        (λ tree. StandsNames tree r → IfErr result IsOpenFault) }
 {
     let branch = survey_names(alloc, &*names, stored)?;
     match names.read_packed(alloc) {
         Ok(()) => Ok(branch),
-        Err(packed::Error::Memory) => Err(NamesError::Memory),
-        Err(packed::Error::Io) => Err(NamesError::File),
+        Err(packed::Error::Memory) => Err(OpenError::Memory),
+        Err(packed::Error::Io) => Err(OpenError::File),
         // What was surveyed can be parsed: the file changed meanwhile.
-        Err(packed::Error::Iter { .. }) => Err(NamesError::File),
-        Err(packed::Error::HeaderParsing) => Err(NamesError::File),
+        Err(packed::Error::Iter { .. }) => Err(OpenError::File),
+        Err(packed::Error::HeaderParsing) => Err(OpenError::File),
     }
 }

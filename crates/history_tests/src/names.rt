@@ -2,9 +2,10 @@
 
 use crate::common::{INPUT, KINDS, REPLIES, made_id, parts_after};
 use gix_ref_file::MemoryFiles;
-use history_check_names::{NamesError, survey_names};
+use history_check_names::survey_names;
 use history_check_objects::whole_objects;
 use history_store::Names;
+use history_texts::OpenError;
 use std::test::Fail;
 
 #[test]
@@ -31,7 +32,7 @@ fn names_are_surveyed_over_objects(rt: HostRuntime) -> Result<(), Fail> {
         assert!(rt; branch.as_slice() == b"refs/heads/main".as_slice());
         let none = whole_objects(alloc, &MemoryFiles::new(alloc), kind)?;
         let refused = survey_names(alloc, &names, &none);
-        assert!(rt; matches!(refused, Err(NamesError::Missing(..))));
+        assert!(rt; matches!(refused, Err(OpenError::Missing(..))));
     }
     Ok(())
 }

@@ -29,6 +29,6 @@ pub returns-in-Some-clause-wrong : goal.returns-in-Some-clause-wrong
 returns-in-Some-clause-wrong g c = λ facts honest there.
     let tree = (g.F.Files.history c.args.files.now).tree in
     let fault = subst (IsFoundIn c.args.kind (bytes_at tree c.deref-2.result.now)) c.in-Some.is (c.in_ok-log_fault.ensures.found honest) in
-    subst (HasCause g.F.Files.reading_may_fail c.args.kind facts tree) (sym c.of_log.ensures)
+    subst (HasCause g.F.Files.reading_may_fail c.args.kind facts tree) (sym c.log_error.ensures)
     (log_fault_causes g.F.Files.reading_may_fail c.args.kind facts tree c.args.path (bytes_at tree c.args.path.items) c.in-Some.fault c.requires.place there refl
     (subst (λ p. HasFault c.args.kind (bytes_at tree p) c.in-Some.fault) c.deref-2.ensures.value fault))

@@ -3,9 +3,8 @@ use Rattle.history_check_names.specs.Parts.{StandsNames}
 use Rattle.history_check_objects.specs.Stored.{facts_in}
 use Rattle.history_store.specs.ObjectsFace.{ids_of_objects}
 use Rattle.history_store.specs.Packing.{KeepsRecords}
-use Rattle.history_repository.specs.Causes.{IsOpenCause, IsOpenFault}
 use Rattle.history_repository.specs.Opened.{trees_of}
-use Rattle.history_repository.proofs.Joined.{cause_of, facts_as, names_cause, names_fault, of_kind, opened_as, opened_as_one, part_of, stands_names}
+use Rattle.history_repository.proofs.Joined.{cause_of, facts_as, names_cause, of_kind, opened_as, opened_as_one, part_of, stands_names}
 use Rattle.history_repository.proofs.folder.open_names.Goals as goal
 
 pub returns-in-Ok-clause-stands : goal.returns-in-Ok-clause-stands
@@ -43,9 +42,9 @@ returns-in-Err-clause-refused g c = λ objects names.
     let pair = trees_of history c.args.objects.files c.args.names in
     let fail = g.F.Files.reading_may_fail in
     let honest = subst g.F.Files.is_honest (sym c.new-names.ensures.files) names in
-    let held = cause_of history fail facts c.in-Err.cause c.new-names.result.store.files c.args.names c.new-names.result.kind kind c.new-names.ensures.files (c.new-names.ensures.kind ∙ c.kind.ensures)
+    let held = cause_of history fail facts c.in-Err.error c.new-names.result.store.files c.args.names c.new-names.result.kind kind c.new-names.ensures.files (c.new-names.ensures.kind ∙ c.kind.ensures)
     (c.in-Err.ensures.wrong honest) in
-    subst (IsOpenCause fail kind pair) (sym c.into.ensures) (names_cause kind pair ids facts (c.requires objects) fail c.in-Err.cause held)
+    names_cause kind pair ids facts (c.requires objects) fail c.in-Err.error held
 
 pub returns-in-Err-clause-accepted : goal.returns-in-Err-clause-accepted
 returns-in-Err-clause-accepted g c = λ r objects names stands.
@@ -59,5 +58,4 @@ returns-in-Err-clause-accepted g c = λ r objects names stands.
     let own = of_kind kind pair r stands ∙ sym named in
     let are = facts_as kind pair ids facts (c.requires objects) r stands in
     let part = subst (λ files. StandsNames (history files).tree r) (sym c.new-names.ensures.files) (stands_names kind pair r stands) in
-    subst IsOpenFault (sym c.into.ensures)
-    (names_fault c.in-Err.cause (c.in-Err.ensures.accepted r own are honest part))
+    c.in-Err.ensures.accepted r own are honest part
