@@ -15,8 +15,6 @@ use Rattle.history_model.specs.Places.{Pair, file_at, head_place, packed_place, 
 use Rattle.history_model.specs.StandsFor.{head_text}
 use Rattle.history_check_names.specs.Causes.{HasBadHead}
 use Rattle.history_check_names.specs.Parts.{NamesBranch}
-use Rattle.history_check_names.specs.declared.error.NamesError.{NamesError}
-use Rattle.history_check_names.specs.declared.error.NamesError.TheVariants as names
 use Rattle.history_texts.specs.declared.open_error.OpenError.{OpenError}
 use Rattle.history_texts.specs.declared.open_error.OpenError.TheVariants.{NoHead, BadHead, Stray, File, Memory}
 
@@ -88,18 +86,18 @@ AreOwnBelow part kind place tree =
     (n : ℕ) (path : Bytes) → above (suc n) path ≡ place → IsOwnAt part kind path (get tree path)
 
 -- why a part isn't found to be a repository's
-abbrev pub IsStrayed : Type 0 → Part → Kind → Tree → NamesError → Type 0
-IsStrayed MayFail part kind tree (names.Stray path) = IsStrayFile part kind tree path.items
-IsStrayed MayFail part kind tree names.File = MayFail
-IsStrayed MayFail part kind tree names.Memory = ⊤
+abbrev pub IsStrayed : Type 0 → Part → Kind → Tree → OpenError → Type 0
+IsStrayed MayFail part kind tree (Stray path) = IsStrayFile part kind tree path.items
+IsStrayed MayFail part kind tree File = MayFail
+IsStrayed MayFail part kind tree Memory = ⊤
 IsStrayed MayFail part kind tree _ = ⊥
 
 -- why HEAD isn't found to name a branch
-abbrev pub IsHeadless : Type 0 → Tree → NamesError → Type 0
-IsHeadless MayFail tree names.NoHead = file_at tree head_place ≡ None
-IsHeadless MayFail tree names.BadHead = HasBadHead tree
-IsHeadless MayFail tree names.File = MayFail
-IsHeadless MayFail tree names.Memory = ⊤
+abbrev pub IsHeadless : Type 0 → Tree → OpenError → Type 0
+IsHeadless MayFail tree NoHead = file_at tree head_place ≡ None
+IsHeadless MayFail tree BadHead = HasBadHead tree
+IsHeadless MayFail tree File = MayFail
+IsHeadless MayFail tree Memory = ⊤
 IsHeadless MayFail tree _ = ⊥
 
 -- whether a text is HEAD's on some branch

@@ -6,7 +6,6 @@ ghost use Rattle.history_model.specs.Bytes.{Bytes};
 ghost use Rattle.history_model.specs.Forms.{is_branch, is_name};
 ghost use Rattle.history_model.specs.Places.{is_log_place, is_lower_hex, log_name};
 ghost use Rattle.history_check_names.specs.Parts.{NamesBranch};
-ghost use Rattle.history_check_names.specs.Told.{cause_of_names};
 ghost use Rattle.history_repository.specs.Opened.{trees_of};
 ghost use Rattle.history_actions.specs.Looking.{AreOwnBelow, IsForeign, IsHeadless, IsRecoverable, IsStrayed, TellsHead, is_lock_of_place, is_names_place, is_object_place, may_have_file};
 
@@ -14,9 +13,9 @@ use gix_hash::Kind;
 use gix_object_lines::cut::{strip_prefix, strip_suffix};
 use gix_ref_file::paths::{is_deeper, joined};
 use gix_ref_file::{Files, Place};
-use history_check_names::{MAX_LOOSE, NamesError};
+use history_check_names::MAX_LOOSE;
 use history_model::names::{HEAD, HEADS};
-use history_texts::{Part, is_name};
+use history_texts::{OpenError, Part, is_name};
 use std::alloc::Global;
 
 /// Tests that a folder's two parts are a repository's of this kind, as a stopped run leaves it:
@@ -31,12 +30,11 @@ pub(crate) fn look<F: Files>(
     objects: &F,
     names: &F,
     kind: Kind,
-) -> Result<(), NamesError>
+) -> Result<(), OpenError>
     ensures own { F.is_honest objects.now → F.is_honest names.now → OnOk result
         (IsRecoverable kind (trees_of F.history objects.now names.now)) }
     ensures foreign { F.is_honest objects.now → F.is_honest names.now → IfErr result (λ cause.
-        IsForeign F.reading_may_fail kind (trees_of F.history objects.now names.now)
-        (cause_of_names cause)) }
+        IsForeign F.reading_may_fail kind (trees_of F.history objects.now names.now) cause) }
 {
     look_at_head(alloc, names)?;
     look_below(alloc, objects, Part::Objects, kind, b"")?;
@@ -45,22 +43,22 @@ pub(crate) fn look<F: Files>(
 }
 
 // Tests that HEAD names a branch.
-fn look_at_head<F: Files>(alloc: Global, names: &F) -> Result<(), NamesError>
+fn look_at_head<F: Files>(alloc: Global, names: &F) -> Result<(), OpenError>
     ensures named { Finds F.is_honest F.history names.now
         (λ tree. OnOk result ((branch : Bytes) × NamesBranch tree branch)) }
     ensures wrong { Finds F.is_honest F.history names.now
         (λ tree. IfErr result (IsHeadless F.reading_may_fail tree)) }
 {
     let Place::File(len) = names.kind_of(HEAD)? else {
-        return Err(NamesError::NoHead);
+        return Err(OpenError::NoHead);
     };
     if len > MAX_LOOSE {
-        return Err(NamesError::BadHead);
+        return Err(OpenError::BadHead);
     }
     let mut text = Vec::new(alloc);
     names.read(HEAD, &mut text)?;
     if !names_branch(&text) {
-        return Err(NamesError::BadHead);
+        return Err(OpenError::BadHead);
     }
     Ok(())
 }
@@ -91,7 +89,7 @@ fn look_below<F: Files>(
     part: Part,
     kind: Kind,
     folder: &[u8],
-) -> Result<(), NamesError>
+) -> Result<(), OpenError>
     ensures own { Finds F.is_honest F.history files.now
         (λ tree. OnOk result (AreOwnBelow part kind folder.now tree)) }
     ensures stray { Finds F.is_honest F.history files.now
@@ -106,9 +104,9 @@ fn look_below<F: Files>(
             Place::File(_) if may_have_file(part, kind, &path) => {}
             // The last two are no path, and a name of nothing: the folder changed while it was
             // read.
-            Place::File(_) => return Err(NamesError::Stray(path)),
-            Place::Folder => return Err(NamesError::Stray(path)),
-            Place::Absent => return Err(NamesError::Stray(path)),
+            Place::File(_) => return Err(OpenError::Stray(path)),
+            Place::Folder => return Err(OpenError::Stray(path)),
+            Place::Absent => return Err(OpenError::Stray(path)),
         }
     }
     Ok(())

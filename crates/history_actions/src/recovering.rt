@@ -24,7 +24,7 @@ pub(crate) fn recover_folder<F: Files, W: Sink>(
 {
     match look(alloc, &*objects, &*names, kind) {
         Ok(()) => restore(alloc, objects, names, kind, writer),
-        Err(cause) => Err(Failure::Unopened(cause.into())),
+        Err(cause) => Err(Failure::Unopened(cause)),
     }
 }
 
