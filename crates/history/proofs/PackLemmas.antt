@@ -1,24 +1,25 @@
 -- A `pack` on its way, and what it leaves.
-use Rattle.std.proofs.Common.{◌≡◌, refl, sym, subst, None}
-use Rattle.gix_ref_file.specs.Tree.{Tree}
+use Rattle.std.proofs.Common.{◌≡◌, List, refl, sym, subst, None}
 use Rattle.gix_ref_file.specs.History.{History, Adds}
 use Rattle.gix_ref_file.proofs.Histories.{adds_weaker}
 use Rattle.history_model.specs.Causes.{first_cause}
 use Rattle.history_model.specs.Commands.{Pack}
 use Rattle.history_model.specs.Meaning.{after}
-use Rattle.history_model.specs.Places.{packed_place}
 use Rattle.history_model.specs.Replies.{Packed}
 use Rattle.history_model.specs.StandsFor.{StandsFor}
 use Rattle.history_model.specs.Steps.{Accepts}
 use Rattle.history_layout.specs.PackSteps.{PacksNames, PacksOnTheWay}
 use Rattle.history_layout.specs.Passing.{HoldsBetween}
-use Rattle.history_layout.specs.TreeHalves.{HoldsNames}
 use Rattle.history_layout.proofs.Packs.{packs_pass, packs_stand}
-use Rattle.history_layout.proofs.TreePuts.{halves_stand}
-use Rattle.history_store.specs.Packing.{HasPackedRoom}
-use Rattle.history_store.specs.References.{lock_place}
+use Rattle.history_store.specs.KnownObjects.{HoldsKnown, table_of}
+use Rattle.history_store.specs.Packed.{MayPack}
+use Rattle.history_store.specs.declared.packs.PackedName.{PackedName}
 use Rattle.history_repository.specs.Face.{KeepsAllButNames, names_part}
+use Rattle.history_repository.proofs.Tables.{holds_known, tables_same}
 use Rattle.history_plans.specs.Halves.{names_tree}
+use Rattle.history_plans.specs.Packing.{AreAllNames}
+use Rattle.history_plans.proofs.PackedLines.{all_once, all_records}
+use Rattle.history_plans.proofs.PartsStand.{names_stand}
 use Rattle.history_repository.specs.Stands.{Stands, pair_of}
 use Rattle.history.proofs.NamesAlone.{ChangesNames}
 use Rattle.history_model.specs.Repository as plain
@@ -33,16 +34,17 @@ accepted r = record { no_cause = no_cause r; not_taken = refl; answer = refl; re
 pub names_only : (r : plain.Repository) → ChangesNames r Pack Packed
 names_only r = record { changes = refl; spoken = refl; free = refl; values = refl; branch = refl; accepts = accepted r; steps = accepted r }
 
--- `packed-refs` has room
-pub packed_room : (r : plain.Repository) (tree : Tree) → HoldsNames tree r → HasPackedRoom tree
-packed_room r tree holds = record {
-  place = λ stood. absurd (cc (holds.folders packed_place stood));
-  lock = λ stood. absurd (cc (holds.folders (lock_place packed_place) stood));
-}
-
 module _ {F : Type 0} (IsHonest : F → Type 0) (history : F → History) (old : own.Repository F) (r : plain.Repository) (h : Stands IsHonest history old r) where
-  pub holds_names : HoldsNames (names_tree history old) r
-  holds_names = ((halves_stand r.kind (pair_of history old) r).0 h.whole.stands).2
+  -- all its names can be packed
+  pub may_pack : (names : List PackedName) → AreAllNames r names → MayPack IsHonest history old.names r (HoldsKnown IsHonest history old.objects) (table_of history old.objects) names
+  may_pack names are = record {
+    whole = names_stand IsHonest history old old r h (record { names = refl; branch = refl; rows = refl; failed = refl });
+    sound = record { whole = h.whole.whole; written = h.whole.written };
+    objects = holds_known IsHonest history old r h;
+    stored = λ id. (λ i. tables_same IsHonest history old r h i id);
+    each = all_records r h.whole.whole h.whole.written names are;
+    once = all_once r h.whole.whole h.whole.written names are;
+  }
 
   pub passes_names : (new : own.Repository F) → Adds (PacksOnTheWay r (names_tree history old)) (history (names_part old)) (history (names_part new)) → Adds (HoldsBetween r Pack) (history (names_part old)) (history (names_part new))
   passes_names new pass = adds_weaker (history (names_part old)) (history (names_part new)) pass (λ tree may.

@@ -34,8 +34,8 @@ pub(crate) fn plan_pack<F: Files>(
     Ok(Moves::Pack(names_to_pack(repository, alloc)?))
 }
 
-/// Writes a record for each of the names, and then removes their own files. The objects stay as
-/// they are.
+/// Writes a record for each of the names that has none yet, and removes their own files, in one
+/// transaction. The objects say what tags lead to, and stay as they are.
 pub(crate) fn pack_names<F: Files>(
     repository: &mut Repository<F>,
     alloc: Global,
@@ -60,7 +60,10 @@ pub(crate) fn pack_names<F: Files>(
     ensures records { (r : plain.Repository) → Stands F.is_honest F.history repository.old r
         → OnOk result (KeepsRecords repository.new.names (names_tree F.history repository.new)) }
 {
-    match repository.names.pack_names(alloc, names) {
+    match repository
+        .names
+        .pack_names(alloc, &repository.objects, names)
+    {
         Ok(()) => Ok(()),
         Err(error) => Err(fault_of(error)),
     }

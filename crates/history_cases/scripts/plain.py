@@ -403,7 +403,9 @@ class Plain:
         (self.records or {}).pop(name, None)
 
     def pack(self):
-        self.records, self.packed_alone = dict(self.names), set(self.names)
+        """All names are packed. If all were, as where there are none, nothing is written."""
+        if set(self.names) != self.packed_alone:
+            self.records, self.packed_alone = dict(self.names), set(self.names)
         return b"ok pack\n"
 
     def packed_text(self):

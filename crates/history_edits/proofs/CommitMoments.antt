@@ -170,12 +170,12 @@ module _ (old locked tree : Tree) (locks : SameButLocks old locked) where
         ),
       )
 
-  none_of_all : (path : Bytes) (t : Option Transaction) (moves : List Move) → IsOfRecords t → is_lock_file path ≡ false → path ≢ packed_place → IsNone path (all_paths moves) → IsNone path (commit_paths t moves)
+  pub none_of_all : (path : Bytes) (t : Option Transaction) (moves : List Move) → IsOfRecords t → is_lock_file path ≡ false → path ≢ packed_place → IsNone path (all_paths moves) → IsNone path (commit_paths t moves)
   none_of_all path None moves at plain apart none = none
   none_of_all path (Some t) moves at plain apart none = (λ same. apart (same ∙ at), (no_lock path (packed.lock_path_of t) plain (packed_lock_is t), none))
 
   -- `packed-refs` is none of the names and none of their logs
-  records_apart : (names : List Bytes) → AllByRecursion (λ name. is_name name ≡ true) names → (list_any (bytes_eq packed_place) names ≡ false) × (list_any (bytes_eq packed_place) (map log_place names) ≡ false)
+  pub records_apart : (names : List Bytes) → AllByRecursion (λ name. is_name name ≡ true) names → (list_any (bytes_eq packed_place) names ≡ false) × (list_any (bytes_eq packed_place) (map log_place names) ≡ false)
   records_apart [] named = (refl, refl)
   records_apart (n ∷ names) named =
       let rest = records_apart names named.1 in (

@@ -57,7 +57,7 @@ placed kind [] path named (k, lt, is) = let none : ⊥ = omega (arith, lt) in ab
 placed kind (edit ∷ edits) path named (zero, lt, is) = ap is_name (sym is ∙ (names_stand_in_place kind edit.name named.0).file) ∙ named.0
 placed kind (edit ∷ edits) path named (suc k, lt, is) = placed kind edits path named.1 (k, omega (arith, lt), is)
 
-folders_of_edits : (kind : Kind) (edits : List RefEdit) (old tree : Tree) → AllByRecursion IsOneName edits → FoldersOnlyOf (places_of (root_base kind) edits) old tree → HasNameFolders old → HasNameFolders tree
+pub folders_of_edits : (kind : Kind) (edits : List RefEdit) (old tree : Tree) → AllByRecursion IsOneName edits → FoldersOnlyOf (places_of (root_base kind) edits) old tree → HasNameFolders old → HasNameFolders tree
 folders_of_edits kind edits old tree named only before path is = elim (only.came path is) [
   | inl was ↦ before path was
   | inr (other, among, above) ↦ name_above other path (placed kind edits other named among) above
@@ -93,7 +93,7 @@ folders_of_logs moved taken locked tree moves named are only before path is = el
 ]
 
 -- what each moment has the present has
-now_too : (P : Tree → Type 0) (old new : History) → Adds P old new → P old.tree → P new.tree
+pub now_too : (P : Tree → Type 0) (old new : History) → Adds P old new → P old.tree → P new.tree
 now_too P old new adds before = elim (adds_now P old new adds) [ inl same ↦ subst P (sym same) before | inr now ↦ now ]
 
 -- ---- while they are prepared
@@ -122,7 +122,7 @@ committing_passes r moved taken old mid new t moves ready before way only = (
 
 -- ---- in the end
 
-plain_apart : (path other : Bytes) → is_lock_file path ≡ true → is_lock_file other ≡ false → path ≢ other
+pub plain_apart : (path other : Bytes) → is_lock_file path ≡ true → is_lock_file other ≡ false → path ≢ other
 plain_apart path other is_lock plain same = let wrong : true ≡ false = sym is_lock ∙ ap is_lock_file same ∙ plain in absurd (cc wrong)
 
 module _ (locked new : Tree) where
@@ -167,7 +167,7 @@ module _ (locked new : Tree) where
         ),
       )
 
-none_locked : (path : Bytes) (moves : List Move) → list_any (bytes_eq path) (lock_paths moves) ≡ false → IsNone path (lock_paths moves)
+pub none_locked : (path : Bytes) (moves : List Move) → list_any (bytes_eq path) (lock_paths moves) ≡ false → IsNone path (lock_paths moves)
 none_locked path [] none = tt
 none_locked path (made ∷ moves) none =
     let parts = or_parts (bytes_eq path (lock_path_of made)) (list_any (bytes_eq path) (lock_paths moves)) none in

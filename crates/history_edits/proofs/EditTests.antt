@@ -57,7 +57,7 @@ module _ (name : Bytes) (state : RefState) where
   meets_none expected new reads expects None tells = subst (λ e. Meets e (Some new) None) (sym expects) tt
   meets_none expected new reads expects (Some x) tells = absent_stands (points_of x) (option_map id_of x.peeled) (sym reads ∙ tells.1)
 
-  meets_some : (id : Id) (expected : PreviousValue) (new : Option Points) → ReadsAs (Some id) state → Expects (Some id) expected → (found : Option Reference) → TellsState name state (Ok found) → Meets expected new (option_map points_of found)
+  pub meets_some : (id : Id) (expected : PreviousValue) (new : Option Points) → ReadsAs (Some id) state → Expects (Some id) expected → (found : Option Reference) → TellsState name state (Ok found) → Meets expected new (option_map points_of found)
   meets_some id expected new reads expects None tells = absent_stands (ToObject id) reads.0 (sym tells ∙ reads.1)
   meets_some id expected new reads expects (Some x) tells =
       subst (λ e. Meets e new (Some (points_of x))) (sym expects.1)
@@ -72,7 +72,7 @@ module _ (name : Bytes) (state : RefState) where
   meets_held (Some id) expected new = meets_some id expected (Some new)
 
   -- and it can be read
-  readable : (held : Option Id) → ReadsAs held state → (error : LooseError) → TellsState name state (Err (find.ReferenceCreation error)) → ⊥
+  pub readable : (held : Option Id) → ReadsAs held state → (error : LooseError) → TellsState name state (Err (find.ReferenceCreation error)) → ⊥
   readable None reads error tells = cc (sym reads ∙ tells)
   readable (Some id) reads error tells = cc (sym reads.1 ∙ tells)
 

@@ -12,7 +12,6 @@ use Rattle.gix_ref_edit.specs.declared.ext.PreProcessError.TheVariants.{Split, T
 use Rattle.gix_ref_edit.specs.declared.names.TwiceError.TheVariants as twice
 use Rattle.gix_ref_edit.specs.declared.splits.SplitError.TheVariants as splitting
 use Rattle.gix_ref_format.specs.Packed.{Record}
-use Rattle.gix_ref_format.specs.PackedBuffer.{KeepsFile}
 use Rattle.gix_ref_store.specs.Places as store
 use Rattle.gix_ref_store.specs.declared.store.file.find.Error.TheVariants as find
 use Rattle.gix_ref_transaction.specs.Causes.{GivenFault, LockFault, ReadyFault}
@@ -25,15 +24,14 @@ use Rattle.gix_ref_transaction.specs.declared.error.PrepareError.{PrepareError}
 use Rattle.gix_ref_transaction.specs.declared.error.PrepareError.TheVariants as faults
 use Rattle.history_model.specs.Bytes.{Bytes}
 use Rattle.history_model.specs.Forms.{is_name}
-use Rattle.history_model.specs.Places.{file_at, packed_place}
 use Rattle.history_model.specs.Repository.{Repository}
 use Rattle.history_model.proofs.PlaceLemmas.{text_itself}
 use Rattle.history_layout.specs.EditFits.{CanBeEdited}
 use Rattle.history_layout.specs.EditSteps.{MovedName, edited_names}
 use Rattle.history_layout.specs.TreeHalves.{HoldsNames}
 use Rattle.history_edits.specs.Bridges.{root_base}
-use Rattle.history_edits.specs.EditFaults.{AllTest, AreApart, EditsAreExcused, IsExcused}
-use Rattle.history_edits.specs.EditPlans.{AreEdits, AsksDeletion, AsksMove, IsLogged, logging_of}
+use Rattle.history_edits.specs.EditFaults.{AreApart, EditsAreExcused, IsExcused}
+use Rattle.history_edits.specs.EditPlans.{AreEdits, AsksDeletion, AsksMove, logging_of}
 use Rattle.history_edits.proofs.EditLocks.{edits_are_lockable, same_paths}
 use Rattle.history_edits.proofs.EditNames.{each_of, names_are}
 use Rattle.history_edits.proofs.EditTests.{IsFine, all_fine}
@@ -66,8 +64,8 @@ all_known (m ∷ moved) taken (edit ∷ asked) are = and_from (is_known_edit fal
 -- ---- all edits
 
 module _ (may_fail : Type 0) (r : Repository) (kept : Option (List Record)) (committer : Option ActorRef) (moved : List MovedName) (taken : Option Bytes) (asked : List RefEdit) (tree : Tree)
-    (holds : HoldsNames tree r) (keeps : KeepsFile r.kind (file_at tree packed_place) kept) (whole : AreApart r) (fits : CanBeEdited r moved taken) (are : AreEdits moved taken asked)
-    (plain : AllByRecursion (λ (edit : RefEdit). edit.deref ≡ false) asked) (tests : AllTest r asked) (logged : AllByRecursion (IsLogged r committer) moved) where
+    (holds : HoldsNames tree r) (whole : AreApart r) (fits : CanBeEdited r moved taken) (are : AreEdits moved taken asked)
+    (plain : AllByRecursion (λ (edit : RefEdit). edit.deref ≡ false) asked) (each : AllByRecursion (IsFine (logging_of r.kind kept committer tree)) asked) where
   abbrev l : Logging
   l = logging_of r.kind kept committer tree
 
@@ -91,9 +89,7 @@ module _ (may_fail : Type 0) (r : Repository) (kept : Option (List Record)) (com
   lockable edits split = subst (AreLockable b tree) (sym (stay edits split)) (edits_are_lockable r moved taken asked tree holds whole fits are)
 
   fine : (edits : List RefEdit) (edit : RefEdit) → AreSplit l.read asked edits → Contains edits edit → IsFine l edit
-  fine edits edit split among =
-      each_of (IsFine l) asked (all_fine r kept committer tree holds keeps moved taken asked fits.named fits.gone fits.each are tests logged) edit
-      (subst (λ es. Contains es edit) (stay edits split) among)
+  fine edits edit split among = each_of (IsFine l) asked each edit (subst (λ es. Contains es edit) (stay edits split) among)
 
   ready : (error : PrepareError) → ReadyFault l.read b false tree may_fail asked error → IsExcused may_fail error
   ready (faults.Packed error) fault = fault
@@ -132,7 +128,7 @@ module _ (may_fail : Type 0) (r : Repository) (kept : Option (List Record)) (com
   lock (faults.Resolve error) edits split fault = tt
   lock faults.Memory edits split fault = tt
 
-  excused : (error : PrepareError) → GivenFault l b false tree may_fail asked error → IsExcused may_fail error
+  pub excused : (error : PrepareError) → GivenFault l b false tree may_fail asked error → IsExcused may_fail error
   excused error given = elim given [
     | inl fault ↦ ready error fault
     | inr locks ↦ lock error locks.0 locks.1 locks.2
@@ -140,4 +136,5 @@ module _ (may_fail : Type 0) (r : Repository) (kept : Option (List Record)) (com
 
 pub edits_are_excused : (may_fail : Type 0) → EditsAreExcused may_fail
 edits_are_excused may_fail r kept committer moved taken asked tree error holds keeps whole fits are plain tests logged given =
-    excused may_fail r kept committer moved taken asked tree holds keeps whole fits are plain tests logged error given
+    excused may_fail r kept committer moved taken asked tree holds whole fits are plain
+    (all_fine r kept committer tree holds keeps moved taken asked fits.named fits.gone fits.each are tests logged) error given

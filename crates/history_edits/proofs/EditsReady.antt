@@ -40,7 +40,7 @@ none_of_moves : (path : Bytes) → is_lock_file path ≡ false → (moves : List
 none_of_moves path plain [] = tt
 none_of_moves path plain (made ∷ moves) = (no_lock path (lock_path_of made) plain (lock_is made), none_of_moves path plain moves)
 
-none_of_locks : (path : Bytes) → is_lock_file path ≡ false → (t : Option Transaction) (moves : List Move) → IsNone path (all_locks t moves)
+pub none_of_locks : (path : Bytes) → is_lock_file path ≡ false → (t : Option Transaction) (moves : List Move) → IsNone path (all_locks t moves)
 none_of_locks path plain None moves = none_of_moves path plain moves
 none_of_locks path plain (Some t) moves = (no_lock path (packed.lock_path_of t) plain (packed_lock_is t), none_of_moves path plain moves)
 

@@ -41,29 +41,13 @@ use Rattle.history_model.proofs.PlaceLemmas.{text_itself}
 use Rattle.history_model.proofs.WholePaths.{begins_parts}
 use Rattle.history_layout.specs.TreeHalves.{HoldsNames}
 use Rattle.history_edits.specs.Bridges.{root_base}
+use Rattle.history_edits.specs.EditFaults.{IsExcused}
 use Rattle.history_edits.specs.EditPlans.{logging_of}
 use Rattle.history_edits.specs.SwitchPlans.{AsksHead}
 use Rattle.history_edits.proofs.HeadCommitted.{none_above, only_one}
 use Rattle.history_edits.proofs.HeadRead.{meets, readable}
 use Rattle.history_edits.proofs.NamePlaces.{beside, formed, is_below_it, no_lock_stands, none_at}
 use Rattle.history_edits.proofs.Unsplit.{no_hops, unsplit_stay}
-
--- ---- what comes nevertheless
-
--- the error is one of a call of the files, of packed records, of a search for objects, or of memory:
--- may_fail says whether readings may fail
-abbrev pub IsOfCalls : Type 0 → PrepareError → Type 0
-IsOfCalls may_fail (fault.PreprocessingFailed (Split splitting.Find)) = may_fail
-IsOfCalls may_fail (fault.PreprocessingFailed (Split splitting.Memory)) = Unit {0}
-IsOfCalls may_fail (fault.PreprocessingFailed (Twice twice.Memory)) = Unit {0}
-IsOfCalls may_fail (fault.ReferenceDecode finds.ReadFileContents) = may_fail
-IsOfCalls may_fail (fault.ReferenceDecode finds.Memory) = Unit {0}
-IsOfCalls may_fail (fault.PackedTransactionAcquire error) = Unit {0}
-IsOfCalls may_fail (fault.PackedTransactionPrepare error) = Unit {0}
-IsOfCalls may_fail (fault.Resolve error) = Unit {0}
-IsOfCalls may_fail fault.Io = Unit {0}
-IsOfCalls may_fail fault.Memory = Unit {0}
-IsOfCalls may_fail _ = ⊥
 
 -- ---- the locks
 
@@ -141,7 +125,7 @@ module _ (r : Repository) (to : Bytes) (tree : Tree) (kept : Option (List Record
   refused : (why : Refusal) → EditFault l (has_log b tree edit.name) may_fail edit (fault.Refused why) → ⊥
   refused why (found, tells, unmet, is) = unmet (meets r to tree (unwrap_or kept []) edit holds named asks found tells)
 
-  undecoded : (error : find.Error) → EditFault l (has_log b tree edit.name) may_fail edit (fault.ReferenceDecode error) → IsOfCalls may_fail (fault.ReferenceDecode error)
+  undecoded : (error : find.Error) → EditFault l (has_log b tree edit.name) may_fail edit (fault.ReferenceDecode error) → IsExcused may_fail (fault.ReferenceDecode error)
   undecoded finds.ReadFileContents why = why
   undecoded finds.Memory why = absurd why
   undecoded (finds.PackedOpen error) why = absurd why
@@ -151,13 +135,13 @@ module _ (r : Repository) (to : Bytes) (tree : Tree) (kept : Option (List Record
   unlined error why = subst (λ (points : Points). UnlinedUpdate l (has_log b tree edit.name) edit.name asks.log points error) asks.after
       (subst (λ change. Unlined l (has_log b tree edit.name) edit.name change error) asks.change why)
 
-  ready : (error : PrepareError) → ReadyFault l.read b false tree may_fail (edit ∷ []) error → IsOfCalls may_fail error
+  ready : (error : PrepareError) → ReadyFault l.read b false tree may_fail (edit ∷ []) error → IsExcused may_fail error
   ready (fault.PreprocessingFailed (Split splitting.Find)) (edits, (same, why)) = why
   ready (fault.PreprocessingFailed (Split splitting.Cycle)) (edits, (same, why)) = absurd (why tt none_leads)
-  ready (fault.PreprocessingFailed (Split splitting.Memory)) why = tt
+  ready (fault.PreprocessingFailed (Split splitting.Memory)) why = why
   ready (fault.PreprocessingFailed (Twice (twice.Name name))) (edits, (split, why)) =
       absurd (once name (subst (λ all. StandsTwice (names_of all) name) (one edits (split tt)) why.twice))
-  ready (fault.PreprocessingFailed (Twice twice.Memory)) why = tt
+  ready (fault.PreprocessingFailed (Twice twice.Memory)) why = why
   ready fault.SamePlace (edits, split, same) = clash (ap (λ all. has_twice (edit_paths b all)) (sym (one edits split)) ∙ same) apart
   ready fault.Uncomposed (edits, split, unknown) = clash known (ap (are_known false) (sym (one edits split)) ∙ unknown)
   ready fault.LockAcquire (edits, split, none) = absurd (none (subst (AreLockable b tree) (sym (one edits split)) lockable))
@@ -171,7 +155,7 @@ module _ (r : Repository) (to : Bytes) (tree : Tree) (kept : Option (List Record
   ready (fault.CreateOrUpdateRefLog error) why = absurd why
   ready (fault.Resolve error) why = absurd why
 
-  locked : (error : PrepareError) → LockFault l b tree may_fail (edit ∷ []) error → IsOfCalls may_fail error
+  locked : (error : PrepareError) → LockFault l b tree may_fail (edit ∷ []) error → IsExcused may_fail error
   locked (fault.PreprocessingFailed error) why = absurd why
   locked fault.SamePlace why = absurd why
   locked fault.Uncomposed why = absurd why
@@ -186,10 +170,10 @@ module _ (r : Repository) (to : Bytes) (tree : Tree) (kept : Option (List Record
   locked (fault.CreateOrUpdateRefLog error) why = absurd (unlined error (own (fault.CreateOrUpdateRefLog error) why))
   locked (fault.Resolve error) why = tt
 
-  given : (error : PrepareError) → GivenFault l b false tree may_fail (edit ∷ []) error → IsOfCalls may_fail error
+  given : (error : PrepareError) → GivenFault l b false tree may_fail (edit ∷ []) error → IsExcused may_fail error
   given error (inl why) = ready error why
   given error (inr (edits, split, why)) = locked error (subst (λ all. LockFault l b tree may_fail all error) (one edits split) why)
 
 pub head_can_be_prepared : (r : Repository) (to : Bytes) (tree : Tree) (kept : Option (List Record)) (committer : Option ActorRef) (may_fail : Type 0) (edit : RefEdit) (error : PrepareError) → HoldsNames tree r → is_name r.branch ≡ true → AsksHead r.branch to edit
-    → GivenFault (logging_of r.kind kept committer tree) (root_base r.kind) false tree may_fail (edit ∷ []) error → IsOfCalls may_fail error
+    → GivenFault (logging_of r.kind kept committer tree) (root_base r.kind) false tree may_fail (edit ∷ []) error → IsExcused may_fail error
 head_can_be_prepared r to tree kept committer may_fail edit error holds named asks why = given r to tree kept committer may_fail edit holds named asks error why

@@ -23,3 +23,8 @@ pub mod EditChanges
 pub mod HeadMoments
 pub mod HeadPrepared
 pub mod RecordsStay
+pub mod PackWanted
+pub mod PackPlanned
+pub mod PackMoments
+pub mod PackExcused
+pub mod PeelsWhole

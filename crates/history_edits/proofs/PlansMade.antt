@@ -67,7 +67,7 @@ never_alone name new id is = ap (is_packed_alone false name) is
 
 -- ---- what a name held before
 
-id_held : (kind : Kind) (read : Bytes → RefState) (held : Option Id) (name : Bytes) → ReadsAs held (read name) → end_id kind (follow read 5 [] name (read name)) ≡ unwrap_or held (null_id kind)
+pub id_held : (kind : Kind) (read : Bytes → RefState) (held : Option Id) (name : Bytes) → ReadsAs held (read name) → end_id kind (follow read 5 [] name (read name)) ≡ unwrap_or held (null_id kind)
 id_held kind read None name e = ap (λ state. end_id kind (follow read 5 [] name state)) e
 id_held kind read (Some id) name e = ap (λ state. end_id kind (follow read 5 [] name state)) e.1
 

@@ -73,7 +73,7 @@ none_changed name named some = go (is_private name) refl some
     go true private e = cc
     go false public e = clash e (ap (λ x. x || false) (no_hit (packed_key name)))
 
-form_of : (r : Repository) (old : Tree) → HoldsNames old r → (text : Bytes) → file_at old packed_place ≡ Some text → MatchOption (packed_file r.kind text) ⊥ (λ packed. is_packed_form packed ≡ true)
+pub form_of : (r : Repository) (old : Tree) → HoldsNames old r → (text : Bytes) → file_at old packed_place ≡ Some text → MatchOption (packed_file r.kind text) ⊥ (λ packed. is_packed_form packed ≡ true)
 form_of r old h text at = go (packed_file r.kind text) (h.packed text at)
   where
     go : (o : Option PackedFile) → MatchOption o ⊥ (PackedAgrees r) → MatchOption o ⊥ (λ packed. is_packed_form packed ≡ true)

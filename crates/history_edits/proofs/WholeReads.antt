@@ -58,7 +58,7 @@ line_stands false None name e = cc
 line_stands false (Some id) name e = cc
 
 -- a file never reads as absent
-file_stands : {A : Type 0} (kind : Kind) (text : Bytes) → loose_state kind text ≡ names.Absent → A
+pub file_stands : {A : Type 0} (kind : Kind) (text : Bytes) → loose_state kind text ≡ names.Absent → A
 file_stands {A = A} kind text e = go (whole_line text) e
   where
     go : (o : Option Bytes) → unwrap_or (option_map (loose_line kind) o) Faulty ≡ names.Absent → A

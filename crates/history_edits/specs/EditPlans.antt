@@ -1,9 +1,10 @@
 -- The edits for moves of names, and for a deletion after them, and what is made of them.
-use Rattle.std.specs.Prelude.{◌≡◌, List, [], ◌∷◌, Option, Some, None, unwrap_or, IsTrue, false}
+use Rattle.std.specs.Prelude.{◌≡◌, Bool, List, [], ◌∷◌, Option, Some, None, unwrap_or, IsTrue, false}
 use Rattle.std.specs.List.{AllByRecursion}
 use Rattle.gix_hash.specs.Id.{null_id}
 use Rattle.gix_hash.specs.declared.kind.Kind.{Kind}
 use Rattle.gix_object_lines.specs.declared.lines.actor.ActorRef.{ActorRef}
+use Rattle.gix_object_lookup.specs.Table.{Table}
 use Rattle.gix_ref_file.specs.Tree.{Tree}
 use Rattle.gix_ref_name.specs.Targets.{ToObject, target_view}
 use Rattle.gix_ref_name.specs.declared.target.Target.{Target}
@@ -75,14 +76,15 @@ logging_of kind kept committer tree = record {
   committer = committer;
 }
 
--- What is known of edits that aren't split, once they are prepared and updates aren't packed.
+-- What is known of edits that aren't split, once they are prepared: `packs` says what tags lead to, if
+-- updates are packed, and `removes` whether the own files of what is packed are removed.
 pub record IsPrepared (kind : Kind) (kept : Option (List Record)) (committer : Option ActorRef)
-    (edits : List RefEdit) (old locked : Tree) (t : Option Transaction)
-    (moves : List Move) : Type 0 where
-  pub plans : AllPlanned (root_base kind) false edits moves
+    (removes : Bool) (packs : Option Table) (edits : List RefEdit) (old locked : Tree)
+    (t : Option Transaction) (moves : List Move) : Type 0 where
+  pub plans : AllPlanned (root_base kind) removes edits moves
   pub hold : AllHold locked edits moves
   pub lined : AllLined (logging_of kind kept committer old) (root_base kind) old edits moves
-  pub repacked : AreRepacked (root_base kind) None old locked edits t
+  pub repacked : AreRepacked (root_base kind) packs old locked edits t
   -- each file but the locks is as before
   pub files : SameFilesBut (all_locks t moves) old locked
 
@@ -106,7 +108,7 @@ EditsReady =
     → HoldsNames old r → KeepsFile r.kind (file_at old packed_place) kept
     → AllByRecursion (λ name. IsTrue (is_name name)) (edited_names moved taken)
     → AllByRecursion (IsLogged r committer) moved → AreEdits moved taken edits
-    → IsPrepared r.kind kept committer edits old locked t moves
+    → IsPrepared r.kind kept committer false None edits old locked t moves
     → IsReady r.kind moved taken old locked t moves
 
 -- Edits that don't follow symbolic references aren't split.

@@ -3,4 +3,5 @@ pub mod EditChanges
 pub mod EditCommits
 pub mod EditFaults
 pub mod EditPlans
+pub mod PackPlans
 pub mod SwitchPlans

@@ -60,7 +60,7 @@ HeadIsReady =
     (r : Repository) (from to : Bytes) (kept : Option (List Record)) (committer : Option ActorRef)
     (edit : RefEdit) (old locked : Tree) (t : Option Transaction) (moves : List Move)
     → HoldsNames old r → AsksHead from to edit
-    → IsPrepared r.kind kept committer (edit ∷ []) old locked t moves
+    → IsPrepared r.kind kept committer false None (edit ∷ []) old locked t moves
     → IsHeadReady to old locked t moves
 
 -- While it is prepared, HEAD is as before.

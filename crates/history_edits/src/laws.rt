@@ -5,6 +5,7 @@ ghost use Rattle.history_edits.specs.EditChanges.{CommittingMakes, CommittingPas
 ghost use Rattle.history_edits.specs.EditCommits.{ReadyingPasses, CommitPasses, CommitMakes};
 ghost use Rattle.history_edits.specs.EditFaults.{EditsAreExcused, EditsAreLockable, EditsHaveRoom, RecordsAreLockable};
 ghost use Rattle.history_edits.specs.EditPlans.{EditsSay, EditsReady, UnsplitStay};
+ghost use Rattle.history_edits.specs.PackPlans.{PackCommits, PackIsMade, PackIsReady, PackPrepares, PacksAreExcused, PacksFit, PeelsWhole};
 ghost use Rattle.history_edits.specs.SwitchPlans.{HeadCommits, HeadIsReady, HeadPrepares, HeadSwitched, HeadSwitches};
 
 use gix_ref_file::Files;
@@ -122,4 +123,39 @@ pub fn head_switches()
 /// After it HEAD names the branch, and no lock is left.
 pub fn head_switched()
     ensures { HeadSwitched }
+{}
+
+/// The edits of a pack fit as those of moves do.
+pub fn packs_fit()
+    ensures { PacksFit }
+{}
+
+/// Once the edits of a pack are prepared, all names are ready to be packed.
+pub fn pack_is_ready()
+    ensures { PackIsReady }
+{}
+
+/// The edits of a pack of a repository's names aren't refused.
+pub fn packs_are_excused<F: Files>()
+    ensures { PacksAreExcused F.reading_may_fail }
+{}
+
+/// While they are prepared nothing is packed, and no folders come but those of names.
+pub fn pack_prepares()
+    ensures { PackPrepares }
+{}
+
+/// While they are committed the names are on the way, and no folders come but those of names.
+pub fn pack_commits()
+    ensures { PackCommits }
+{}
+
+/// After it all names are packed, and no lock is left.
+pub fn pack_is_made()
+    ensures { PackIsMade }
+{}
+
+/// Over the objects of a sound repository the ids of names lead to what it says.
+pub fn peels_whole()
+    ensures { PeelsWhole }
 {}

@@ -1,14 +1,13 @@
 -- What holds of the records of a `packed-refs` that was made of another one, or of all names.
-use Rattle.std.proofs.Common.{◌≡◌, Bool, true, false, cond, not, ◌&&◌, List, [], ◌∷◌, map, refl, sym, ◌∙◌, ap, subst, Option, Some, None, option_map, unwrap_or, bytes_eq, MatchOption, IfSome, IsTrue, find}
+use Rattle.std.proofs.Common.{◌≡◌, Bool, true, false, cond, not, ◌&&◌, List, [], ◌∷◌, map, refl, sym, ◌∙◌, ap, subst, Option, Some, None, option_map, unwrap_or, bytes_eq, MatchOption, IfSome, IsTrue}
 use Rattle.std.specs.List.{list_any, list_all, AllByRecursion}
-use Rattle.std.specs.FinMap.{is_sorted}
 use Rattle.std.proofs.lemmas.Bool.{and_parts, or_parts}
 use Rattle.std.proofs.lemmas.Option.{same_Some}
 use Rattle.gix_hash.specs.Id.{Id}
 use Rattle.gix_hash.specs.declared.kind.Kind.{Kind}
 use Rattle.gix_ref_format.specs.Packed.{Record}
 use Rattle.gix_ref_format.specs.PackedBuffer.{hit}
-use Rattle.history_model.specs.Bytes.{Bytes, by_bytes, has_twice}
+use Rattle.history_model.specs.Bytes.{Bytes, has_twice}
 use Rattle.history_model.specs.Repository.{Repository, id_at, is_tag, peeled}
 use Rattle.history_model.specs.Forms.{is_name, is_private}
 use Rattle.history_model.specs.NameStates.{NameState, Holds, Absent, Faulty, packed_state, packed_text_state}
@@ -154,8 +153,8 @@ record_says r name = go (is_private name) (id_at r name)
     go false (Some id) = refl
 
 pub all_read : (r : Repository) (name : Bytes) (found : Option Bytes) → PacksAll r found → packed_read r.kind name found ≡ cond (is_private name) Absent (reads_as (id_at r name))
-all_read r name None h = absurd h
-all_read r name (Some text) h = go (packed_file r.kind text) h.1
+all_read r name None h = sym (says_none name) ∙ ap (says name) (sym (h name)) ∙ record_says r name
+all_read r name (Some text) h = go (packed_file r.kind text) h
   where
     go : (o : Option PackedFile) → MatchOption o ⊥ (HasAllNames r) → unwrap_or (option_map (packed_state name) o) Faulty ≡ cond (is_private name) Absent (reads_as (id_at r name))
     go None k = absurd k
@@ -175,8 +174,8 @@ record_agrees r e is = by_id (is_private e.name) (id_at r e.name) is
     by_id false (Some id) same = subst (PeelAgrees r) (same_Some _ e same) (by_tag id (is_tag r id) refl (peeled r id) refl)
 
 pub all_agree : (r : Repository) (found : Option Bytes) → PacksAll r found → (text : Bytes) → found ≡ Some text → MatchOption (packed_file r.kind text) ⊥ (PackedAgrees r)
-all_agree r None h text is = absurd h
-all_agree r (Some own) h text is = subst (λ t. MatchOption (packed_file r.kind t) ⊥ (PackedAgrees r)) (same_Some own text is) (go (packed_file r.kind own) h.1)
+all_agree r None h text is = none_some is
+all_agree r (Some own) h text is = subst (λ t. MatchOption (packed_file r.kind t) ⊥ (PackedAgrees r)) (same_Some own text is) (go (packed_file r.kind own) h)
   where
     go : (o : Option PackedFile) → MatchOption o ⊥ (HasAllNames r) → MatchOption o ⊥ (PackedAgrees r)
     go None k = absurd k

@@ -118,10 +118,10 @@ module _ (packed : PackedFile) (formed : is_packed_form packed ≡ true) where
   none_private = not_true (list_any is_private names) two.1
 
   -- a name that is found is one that a repository may hold
-  found_name : (name : Bytes) (e : Record) → hit packed.records name ≡ Some e → is_name e.name ≡ true
+  pub found_name : (name : Bytes) (e : Record) → hit packed.records name ≡ Some e → is_name e.name ≡ true
   found_name name e found = all_found (λ (r : Record). is_name r.name ≡ true) packed.records name e (told_all is_name packed.records all_names) found
 
-  found_public : (name : Bytes) (e : Record) → hit packed.records name ≡ Some e → is_private e.name ≡ false
+  pub found_public : (name : Bytes) (e : Record) → hit packed.records name ≡ Some e → is_private e.name ≡ false
   found_public name e found = not_found is_private packed.records name e none_private found
 
 -- ---- without a name

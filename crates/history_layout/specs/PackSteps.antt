@@ -44,19 +44,36 @@ pub record IsTextOfAll (r : Repository) (text : Bytes) : Type 0 where
   pub each : (name : Bytes) → hit records name ≡ record_for r name
   pub is : text ≡ packed_text records
 
--- `packed-refs` is so.
+-- The records of a file are those of all names; none may exist if no name does.
 abbrev pub PacksAll : Repository → Option Bytes → Type 0
-PacksAll r None = ⊥
-PacksAll r (Some text) =
-    IsTextOfAll r text × MatchOption (packed_file r.kind text) ⊥ (HasAllNames r)
+PacksAll r None = (name : Bytes) → record_for r name ≡ None
+PacksAll r (Some text) = MatchOption (packed_file r.kind text) ⊥ (HasAllNames r)
 
+-- those of `packed-refs` are
 abbrev pub HasPacked : Repository → Tree → Type 0
 HasPacked r tree = PacksAll r (file_at tree packed_place)
+
+abbrev pub WritesAll : Repository → Option Bytes → Type 0
+WritesAll r None = ⊥
+WritesAll r (Some text) = IsTextOfAll r text
+
+-- All names are packed already: no name that isn't private has a file of its own.
+pub record ArePacked (r : Repository) (tree : Tree) : Type 0 where
+  pub packed : HasPacked r tree
+  pub gone : (name : Bytes) → IsTrue (stands r name) → IsFalse (is_private name)
+      → file_at tree name ≡ None
+
+-- `packed-refs` is written anew, if a name exists; it is as before if all were packed already.
+abbrev pub WritesPacked : Repository → Tree → Tree → Type 0
+WritesPacked r old new =
+    (ArePacked r old × (file_at new packed_place ≡ file_at old packed_place))
+    ⊎ ((name : Bytes) × IsTrue (stands r name) × WritesAll r (file_at new packed_place))
 
 -- All names are packed, their files are gone except those of private names, each other file is as
 -- before, and there are no folders but those of names and logs.
 pub record PacksNames (r : Repository) (old new : Tree) : Type 0 where
   pub packed : HasPacked r new
+  pub written : WritesPacked r old new
   pub gone : (name : Bytes) → IsTrue (stands r name) → IsFalse (is_private name)
       → file_at new name ≡ None
   pub private : (name : Bytes) → IsTrue (stands r name) → IsTrue (is_private name)

@@ -10,7 +10,7 @@ use Rattle.history_model.specs.Causes.{do_collide}
 use Rattle.history_model.specs.Forms.{is_name}
 use Rattle.history_model.specs.Places.{file_at, head_place, packed_place, log_place, log_name, is_lock_file, is_log_place}
 use Rattle.history_layout.specs.TreeHalves.{HoldsNames}
-use Rattle.history_store.proofs.NameFolders.{refs_of}
+use Rattle.history_edits.proofs.NameFolders.{refs_of}
 use Rattle.std.proofs.lemmas.Slice.Eq.{bytes_eq-Decides}
 use Rattle.std.proofs.lemmas.Bool.{or_cases, or_parts, and_parts}
 use Rattle.history_model.proofs.WholePaths.{begins_front, begins_parts}

@@ -2,9 +2,13 @@
 use Rattle.std.proofs.Common.{◌≡◌, ◌<◌, ◌&&◌, zero, suc, arith, length, get_or, ◌++◌, Bool, true, false, cond, not, List, [], ◌∷◌, map, filter, refl, sym, ◌∙◌, ap, inl, inr, Option, Some, None, option_map, is_some, unwrap_or, bytes_eq, Ok}
 use Rattle.std.specs.Prelude.{Result, Err, Vec, ℕ}
 use Rattle.std.specs.declared.alloc.Global.{Global}
-use Rattle.std.specs.FinMap.{entries, find, get, get-entries}
-use Rattle.std.specs.Ordering.{eq_by_cmp}
-use Rattle.std.proofs.lemmas.Bool.{and_parts}
+use Rattle.std.specs.FinMap.{entries, find, get, get-entries, is_sorted}
+use Rattle.std.specs.FinMap.Entries.{below_all}
+use Rattle.std.specs.List.{list_any}
+use Rattle.std.specs.declared.cmp.Ordering.{Ordering}
+use Rattle.std.specs.declared.cmp.Ordering.TheVariants.{Equal, Greater, Less}
+use Rattle.std.specs.Ordering.{eq_by_cmp, is_eq, is_lt}
+use Rattle.std.proofs.lemmas.Bool.{and_parts, or_from}
 use Rattle.std.proofs.lemmas.List.{map-append}
 use Rattle.gix_hash.specs.Id.{Id, null_id}
 use Rattle.gix_hash.specs.Order.{id_eq}
@@ -12,16 +16,18 @@ use Rattle.gix_object_lines.specs.NameTest.{is_full_name}
 use Rattle.gix_ref_format.specs.Packed.{Record}
 use Rattle.gix_ref_format.specs.PackedBuffer.{hit}
 use Rattle.history_model.specs.Answers.{is_in_folder, name_line, names_shown}
-use Rattle.history_model.specs.Bytes.{Bytes, by_bytes}
+use Rattle.history_model.specs.Bytes.{Bytes, by_bytes, has_twice}
 use Rattle.history_model.specs.Forms.{IsWritten, is_name, is_private, is_reference}
 use Rattle.history_model.specs.Replies.{NameLine}
 use Rattle.history_model.specs.Repository.{IsWhole, Reference, id_at, is_tag, peeled}
 use Rattle.history_model.specs.declared.Fault.TheVariants.{Memory, File, IdTaken}
 use Rattle.history_model.proofs.PlaceLemmas.{same_key, text_itself, texts_apart}
+use Rattle.history_model.proofs.WholeItems.{sorted_entries}
 use Rattle.history_model.proofs.WholeLists.{In, same_text}
 use Rattle.history_model.proofs.WholeStores.{in_get}
 use Rattle.history_layout.specs.PackSteps.{record_for}
 use Rattle.history_layout.proofs.OfferedReads.{tags_stand_for_others}
+use Rattle.history_edits.specs.PackPlans.{record_name}
 use Rattle.history_store.specs.Packed.{record_of_name, records_of}
 use Rattle.history_store.specs.declared.packs.PackedName.{PackedName}
 use Rattle.history_layout.proofs.FullNames.{full_of}
@@ -104,6 +110,27 @@ module _ (r : plain.Repository) (whole : IsWhole r) (written : IsWritten r) wher
       by_ref : (o : Option Reference) → get r.names name ≡ o → option_map (λ (ref : Reference). line_record (name_line r (name, ref))) o ≡ record_for r name
       by_ref None e = none (is_private name) (get r.names name) e
       by_ref (Some ref) e = one_record name ref e
+
+  before_apart : (o : Ordering) → is_lt o ≡ true → is_eq o ≡ false
+  before_apart Less h = refl
+  before_apart Equal h = cc
+  before_apart Greater h = cc
+
+  below_apart : (key : Bytes) (es : List (Bytes × Reference)) → below_all by_bytes key es ≡ true → list_any (bytes_eq key) (map record_name (map line_record (lines_of r es))) ≡ false
+  below_apart key [] below = refl
+  below_apart key (e ∷ es) below =
+      let parts = and_parts (is_lt (by_bytes key e.0)) (below_all by_bytes key es) below in
+      or_from (bytes_eq key e.0) (list_any (bytes_eq key) (map record_name (map line_record (lines_of r es)))) (sym (same_key key e.0) ∙ before_apart (by_bytes key e.0) parts.0) (below_apart key es parts.1)
+
+  -- each name once
+  once_shown : (es : List (Bytes × Reference)) → is_sorted by_bytes es ≡ true → has_twice bytes_eq (map record_name (map line_record (lines_of r es))) ≡ false
+  once_shown [] sorted = refl
+  once_shown (e ∷ es) sorted =
+      let parts = and_parts (below_all by_bytes e.0 es) (is_sorted by_bytes es) sorted in
+      or_from (list_any (bytes_eq e.0) (map record_name (map line_record (lines_of r es)))) (has_twice bytes_eq (map record_name (map line_record (lines_of r es)))) (below_apart e.0 es parts.0) (once_shown es parts.1)
+
+  pub all_once : (names : List PackedName) → AreAllNames r names → has_twice bytes_eq (map record_name (records_of names)) ≡ false
+  all_once names are = ap (λ records. has_twice bytes_eq (map record_name records)) are ∙ once_shown (entries r.names) (sorted_entries r.names)
 
   -- ---- names that are shown are full ones
 

@@ -1,6 +1,6 @@
 -- The steps of a change of names: the records are read, the change is made, and they are read again.
-use Rattle.std.proofs.Common.{◌≡◌, ◌≢◌, ◌⊎◌, inl, inr, ℕ, List, [], refl, sym, ◌∙◌, ap, subst, Option, Some, None, Ok, Err, option_map, MatchOption}
-use Rattle.std.specs.Prelude.{OnOk, Result, is_some, false, true}
+use Rattle.std.proofs.Common.{◌≡◌, ◌≢◌, ℕ, List, refl, sym, ◌∙◌, ap, subst, Option, Some, None, Ok, Err, option_map, MatchOption}
+use Rattle.std.specs.Prelude.{OnOk, Result, is_some, false}
 use Rattle.gix_hash.specs.Id.{id_of}
 use Rattle.gix_hash.specs.declared.kind.Kind.{Kind}
 use Rattle.gix_hash.specs.declared.object_id.ObjectId.{ObjectId}
@@ -9,12 +9,9 @@ use Rattle.gix_ref_file.specs.History.{Adds, History}
 use Rattle.gix_ref_file.specs.Tree.{Tree}
 use Rattle.gix_ref_file.proofs.Histories.{adds_nothing}
 use Rattle.gix_ref_format.specs.Packed.{Record, packed_records}
-use Rattle.gix_ref_format.specs.PackedBuffer.{FileFault, KeepsFile}
-use Rattle.gix_ref_format.specs.PackedKept.{kept}
-use Rattle.gix_ref_format.specs.declared.packed.buffer.Buffer.{Buffer}
+use Rattle.gix_ref_format.specs.PackedBuffer.{FileFault}
 use Rattle.gix_ref_format.specs.declared.packed.buffer.Error.{Error}
 use Rattle.gix_ref_format.specs.declared.packed.buffer.Error.TheVariants as faults
-use Rattle.gix_ref_file.specs.declared.files.FileError.{FileError}
 use Rattle.gix_ref_file.specs.declared.files.FileError.TheVariants.{Failed}
 use Rattle.history_model.specs.Bytes.{Bytes}
 use Rattle.history_model.specs.PackedNames.{PackedFile, packed_file, packed_with}
@@ -25,12 +22,11 @@ use Rattle.history_layout.specs.EditSteps.{EditsMade}
 use Rattle.history_layout.specs.TreeHalves.{HoldsNames}
 use Rattle.history_layout.specs.TakeSteps.{LacksName, LacksRecord, TakesRecord}
 use Rattle.history_layout.proofs.ReadRecords.{bad_header, bad_line}
-use Rattle.history_store.specs.Changing.{CanChange, HoldNamesOf, IsReadable, MakesChange, MayChange}
+use Rattle.history_store.specs.Changing.{CanChange, IsReadable, MakesChange, MayChange}
 use Rattle.history_store.specs.Faults.{of_opening}
 use Rattle.history_store.specs.Packing.{FileSaysLeft, KeepsAll, KeepsRecords, kept_hit}
 use Rattle.history_store.specs.declared.names.Names.{Names}
-use Rattle.history_store.proofs.RecordsLeft.{all_left}
-use Rattle.history_store.proofs.Taken.{keeps_on}
+use Rattle.history_store.proofs.RecordsLeft.{all_left, keeps_on}
 
 -- what holds is so if a call succeeds
 pub always_ok : {T E P : Type 0} (result : Result T E) → P → OnOk result P

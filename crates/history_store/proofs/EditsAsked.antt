@@ -1,7 +1,6 @@
 -- The edits of a change of names are those that it asks for, and test what the names hold.
-use Rattle.std.proofs.Common.{◌≡◌, ◌≢◌, ◌⊎◌, inl, inr, ℕ, ◌+◌, ◌<◌, ◌≤◌, zero, suc, false, true, List, [], ◌∷◌, ◌++◌, ◌&&◌, map, take, length, get_or, refl, sym, ◌∙◌, ap, subst, arith, Option, Some, None, option_map, unwrap_or}
+use Rattle.std.proofs.Common.{◌≡◌, ◌≢◌, inl, inr, ℕ, ◌+◌, ◌<◌, ◌≤◌, zero, suc, true, List, [], ◌∷◌, ◌++◌, map, take, length, get_or, refl, sym, ◌∙◌, ap, subst, arith, Option, Some, None, option_map, unwrap_or}
 use Rattle.std.specs.List.{AllByRecursion, AllZip}
-use Rattle.std.specs.Option.{option_to_list}
 use Rattle.std.proofs.lemmas.List.{map_more, take_all}
 use Rattle.gix_hash.specs.Id.{Id, null_id}
 use Rattle.gix_hash.specs.declared.kind.Kind.{Kind}
@@ -13,15 +12,15 @@ use Rattle.gix_ref_edit.specs.declared.change.Change.TheVariants.{Update, Delete
 use Rattle.gix_ref_edit.specs.declared.change.PreviousValue.{PreviousValue}
 use Rattle.gix_ref_edit.specs.declared.change.RefEdit.{RefEdit}
 use Rattle.history_model.specs.Bytes.{Bytes}
-use Rattle.history_model.specs.Forms.{is_actor, is_id, is_log_entry, is_name}
-use Rattle.history_model.specs.NameStates.{NameState, name_state}
+use Rattle.history_model.specs.Forms.{is_actor, is_id, is_name}
+use Rattle.history_model.specs.NameStates.{name_state}
 use Rattle.history_model.specs.Objects.{Actor}
 use Rattle.std.specs.Prelude.{is_some}
 use Rattle.std.specs.FinMap.{get}
 use Rattle.history_model.specs.Repository.{Reference, Repository, id_at, stands}
 use Rattle.history_model.proofs.IdLemmas.{has_kind}
 use Rattle.std.proofs.lemmas.Bool.{and_parts}
-use Rattle.history_layout.specs.EditFits.{CanBeEdited, IsNextEntry}
+use Rattle.history_layout.specs.EditFits.{IsNextEntry}
 use Rattle.history_layout.specs.EditSteps as edits
 use Rattle.history_layout.specs.EditSteps.{edited_names}
 use Rattle.history_layout.specs.Passing.{reads_as}

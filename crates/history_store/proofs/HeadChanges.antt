@@ -1,12 +1,12 @@
 -- HEAD is changed by a transaction.
-use Rattle.std.proofs.Common.{◌≡◌, ◌⊎◌, inl, inr, ℕ, true, false, List, [], ◌∷◌, refl, sym, ◌∙◌, ap, subst, Option, Some, None, bytes_eq}
+use Rattle.std.proofs.Common.{◌≡◌, ◌⊎◌, inl, inr, ℕ, true, false, List, [], ◌∷◌, sym, ◌∙◌, ap, subst, Option, None, bytes_eq}
 use Rattle.std.specs.Borrow.{Bor}
 use Rattle.std.specs.Prelude.{option_copied}
 use Rattle.gix_hash.specs.declared.kind.Kind.{Kind}
 use Rattle.gix_object_lookup.specs.Table.{Table}
 use Rattle.gix_ref_file.specs.Calls.{HasFault}
 use Rattle.gix_ref_file.specs.History.{Adds, HasRisen, History}
-use Rattle.gix_ref_file.specs.Tree.{IsRooted, Tree}
+use Rattle.gix_ref_file.specs.Tree.{IsRooted}
 use Rattle.gix_ref_file.specs.declared.files.FileError.TheVariants.{Failed}
 use Rattle.gix_ref_file.proofs.Histories.{adds_joined}
 use Rattle.gix_ref_edit.specs.declared.change.RefEdit.{RefEdit}
@@ -38,12 +38,13 @@ use Rattle.history_layout.specs.SwitchSteps.{HeadOnTheWay, NamesBranch}
 use Rattle.history_layout.specs.TreeHalves.{HoldsNames}
 use Rattle.history_edits.specs.Bridges.{root_base}
 use Rattle.history_edits.specs.EditCommits.{HasNameFolders}
+use Rattle.history_edits.specs.EditFaults.{IsExcused}
 use Rattle.history_edits.specs.EditPlans.{IsPrepared, logging_of}
 use Rattle.history_edits.specs.SwitchPlans.{AsksHead, IsHeadReady}
 use Rattle.history_edits.proofs.HeadCommitted.{head_commits, head_switched}
 use Rattle.history_edits.proofs.HeadMoments.{head_committing, head_preparing}
 use Rattle.history_edits.proofs.HeadPlanned.{head_is_ready}
-use Rattle.history_edits.proofs.HeadPrepared.{IsOfCalls, head_can_be_prepared}
+use Rattle.history_edits.proofs.HeadPrepared.{head_can_be_prepared}
 use Rattle.history_edits.proofs.RecordLocks.{records_are_lockable}
 use Rattle.history_edits.proofs.Unsplit.{unsplit_stay}
 use Rattle.history_store.specs.Changing.{MaySwitch}
@@ -89,7 +90,7 @@ module _ (r : Repository) (from to : Bytes) (edits : List RefEdit) (asks : AskHe
       given_here = subst (λ k. GivenFault (logging_of k (lent packed) None old.tree) (root_base k) false old.tree may_fail (edit ∷ []) error) same
           (subst (λ es. GivenFault (logging_of kind (lent packed) None old.tree) (root_base kind) false old.tree may_fail es error) asks.1 (given_so kind store root old.tree packed None may_fail edits error given))
 
-      own : IsOfCalls may_fail error
+      own : IsExcused may_fail error
       own = head_can_be_prepared r to old.tree (lent packed) None may_fail edit error holds (ap is_name (sym branch) ∙ named) (subst (λ b. AsksHead b to edit) branch asks.2) given_here
 
   module _ (t : Transaction) (mid : History) (split : AreSplit read edits t.edits.items) (plans : AllPlanned (base_of store) false t.edits.items t.moves.items) (hold : AllHold mid.tree t.edits.items t.moves.items)
@@ -97,8 +98,8 @@ module _ (r : Repository) (from to : Bytes) (edits : List RefEdit) (asks : AskHe
       (files : SameFilesBut (all_locks t.packed t.moves.items) old.tree mid.tree) where
     ready : IsHeadReady to old.tree mid.tree t.packed t.moves.items
     ready = head_is_ready r from to (lent packed) None edit old.tree mid.tree t.packed t.moves.items holds asks.2
-        (subst (λ k. IsPrepared k (lent packed) None (edit ∷ []) old.tree mid.tree t.packed t.moves.items) same
-        (prepared_so kind store root old.tree packed None (edit ∷ []) mid.tree t only plans hold lined repacked files))
+        (subst (λ k. IsPrepared k (lent packed) None false None (edit ∷ []) old.tree mid.tree t.packed t.moves.items) same
+        (prepared_so kind store root old.tree packed None false None (edit ∷ []) mid.tree t only plans hold lined repacked files))
       where
         only : t.edits.items ≡ edit ∷ []
         only = unsplit_stay read (edit ∷ []) t.edits.items (asks.2.plain, tt) (subst (λ es. AreSplit read es t.edits.items) asks.1 split)

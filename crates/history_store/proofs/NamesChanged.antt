@@ -1,5 +1,5 @@
 -- Names are changed by a transaction.
-use Rattle.std.proofs.Common.{◌≡◌, ◌⊎◌, ℕ, true, false, cond, List, [], ◌∷◌, refl, sym, ◌∙◌, ap, subst, Option, Some, None, option_map, unwrap_or}
+use Rattle.std.proofs.Common.{◌≡◌, ◌⊎◌, ℕ, false, List, [], refl, sym, ◌∙◌, ap, subst, Option, Some, None, option_map, unwrap_or}
 use Rattle.std.specs.Prelude.{option_and_then, option_copied}
 use Rattle.std.specs.Borrow.{Bor}
 use Rattle.gix_hash.specs.declared.kind.Kind.{Kind}
@@ -8,7 +8,6 @@ use Rattle.gix_ref_file.specs.History.{Adds, HasRisen, History}
 use Rattle.gix_ref_file.specs.declared.files.FileError.TheVariants.{Failed}
 use Rattle.gix_ref_file.proofs.Histories.{adds_joined}
 use Rattle.gix_ref_edit.specs.declared.change.RefEdit.{RefEdit}
-use Rattle.gix_ref_edit.specs.declared.ext.PreProcessError.TheVariants.{Split, Twice}
 use Rattle.gix_ref_edit.specs.declared.names.TwiceError.TheVariants as twice
 use Rattle.gix_ref_edit.specs.declared.splits.SplitError.TheVariants as splitting
 use Rattle.gix_ref_format.specs.Lookup.{packed_hit, packed_key}
@@ -22,7 +21,6 @@ use Rattle.gix_object_lookup.specs.Table.{Table}
 use Rattle.gix_ref_transaction.specs.Repacking.{AreRepacked}
 use Rattle.gix_ref_transaction.specs.Resolving.{PackFault}
 use Rattle.gix_ref_store.specs.Lookups.{reads_with}
-use Rattle.gix_ref_store.specs.Places.{Base}
 use Rattle.gix_ref_store.specs.RefStates.{RefState}
 use Rattle.gix_ref_store.specs.Stores.{base_of}
 use Rattle.gix_ref_store.specs.declared.store.file.Store.{Store}
@@ -48,7 +46,6 @@ use Rattle.history_edits.specs.EditChanges.{AreAsked}
 use Rattle.history_edits.specs.EditCommits.{HasNameFolders, IsReady}
 use Rattle.history_edits.specs.EditFaults.{AllTest, AreApart, IsExcused}
 use Rattle.history_edits.specs.EditPlans.{AreEdits, IsPrepared, logging_of}
-use Rattle.history_edits.proofs.HeadPrepared.{IsOfCalls}
 use Rattle.history_edits.proofs.EditChanges.{committing_makes, committing_passes, preparing_passes}
 use Rattle.history_edits.proofs.EditLocks.{edits_have_room}
 use Rattle.history_edits.proofs.EditsExcused.{edits_are_excused}
@@ -62,28 +59,6 @@ use Rattle.history_store.specs.Packing.{KeepsAll, kept_hit, read_hit}
 use Rattle.history_store.specs.RootStore.{IsRootStore}
 use Rattle.history_store.specs.declared.names.Names.{Names}
 use Rattle.history_store.proofs.Transactions.{given_so, lent, prepare_failed, prepared_so, root_is}
-
-calls_of : (may_fail : Type 0) (error : PrepareError) → IsExcused may_fail error → IsOfCalls may_fail error
-calls_of may_fail fault.Io own = tt
-calls_of may_fail fault.Memory own = tt
-calls_of may_fail (fault.PackedTransactionAcquire error) own = tt
-calls_of may_fail (fault.PackedTransactionPrepare error) own = tt
-calls_of may_fail (fault.Resolve error) own = tt
-calls_of may_fail (fault.PreprocessingFailed (Split splitting.Find)) own = own
-calls_of may_fail (fault.PreprocessingFailed (Split splitting.Cycle)) own = absurd own
-calls_of may_fail (fault.PreprocessingFailed (Split splitting.Memory)) own = tt
-calls_of may_fail (fault.PreprocessingFailed (Twice (twice.Name name))) own = absurd own
-calls_of may_fail (fault.PreprocessingFailed (Twice twice.Memory)) own = tt
-calls_of may_fail (fault.ReferenceDecode find.ReadFileContents) own = own
-calls_of may_fail (fault.ReferenceDecode find.Memory) own = tt
-calls_of may_fail (fault.ReferenceDecode (find.ReferenceCreation error)) own = absurd own
-calls_of may_fail (fault.ReferenceDecode (find.PackedOpen error)) own = absurd own
-calls_of may_fail (fault.Packed error) own = absurd own
-calls_of may_fail fault.SamePlace own = absurd own
-calls_of may_fail fault.Uncomposed own = absurd own
-calls_of may_fail fault.LockAcquire own = absurd own
-calls_of may_fail (fault.Refused why) own = absurd own
-calls_of may_fail (fault.CreateOrUpdateRefLog error) own = absurd own
 
 module _ (r : Repository) (moved : List MovedName) (taken : Option Bytes) (committer : Option ActorRef) (edits : List RefEdit) (asked : AreAsked r committer moved taken edits) (old : History) (holds : HoldsNames old.tree r) (kind : Kind) (same : kind ≡ r.kind)
     {F : Type 0} (store : Store F) (root : IsRootStore kind store) (packed : Option (Bor Buffer)) where
@@ -109,8 +84,8 @@ module _ (r : Repository) (moved : List MovedName) (taken : Option Bytes) (commi
         given_here : GivenFault (logging_of r.kind (lent packed) committer old.tree) (root_base r.kind) false old.tree may_fail edits error
         given_here = subst (λ k. GivenFault (logging_of k (lent packed) committer old.tree) (root_base k) false old.tree may_fail edits error) same (given_so kind store root old.tree packed committer may_fail edits error given)
 
-        own : IsOfCalls may_fail error
-        own = calls_of may_fail error (edits_are_excused may_fail r (lent packed) committer moved taken edits old.tree error holds keeps apart fit asked.asks asked.plain tests asked.logged given_here)
+        own : IsExcused may_fail error
+        own = edits_are_excused may_fail r (lent packed) committer moved taken edits old.tree error holds keeps apart fit asked.asks asked.plain tests asked.logged given_here
 
     -- what is prepared has room
     pub room : (prepared : List RefEdit) → AreSplit read edits prepared → HaveRoom (base_of store) old.tree prepared
@@ -126,8 +101,8 @@ module _ (r : Repository) (moved : List MovedName) (taken : Option Bytes) (commi
 
     ready : IsReady r.kind moved taken old.tree mid.tree t.packed t.moves.items
     ready = edits_ready r (lent packed) committer moved taken edits old.tree mid.tree t.packed t.moves.items holds keeps asked.named asked.logged asked.asks
-        (subst (λ k. IsPrepared k (lent packed) committer edits old.tree mid.tree t.packed t.moves.items) same
-        (prepared_so kind store root old.tree packed committer edits mid.tree t only plans hold lined repacked files))
+        (subst (λ k. IsPrepared k (lent packed) committer false None edits old.tree mid.tree t.packed t.moves.items) same
+        (prepared_so kind store root old.tree packed committer false None edits mid.tree t only plans hold lined repacked files))
 
     module _ (prepared : Adds (EditsOnTheWay r.kind moved taken old.tree) old mid × HasNameFolders mid.tree) (new : History) (way : Adds (OnTheWay t.packed t.moves.items mid.tree) mid new) (logs : Adds (FoldersOnlyOf (log_paths t.moves.items) mid.tree) mid new) where
       committed : Adds (EditsOnTheWay r.kind moved taken old.tree) mid new × HasNameFolders new.tree
@@ -151,7 +126,7 @@ module _ (r : Repository) (moved : List MovedName) (taken : Option Bytes) (commi
 -- ---- the records that are kept
 
 -- what is lent of what was read
-lent_of : (read : Option Buffer) (packed : Option (Bor Buffer)) → option_copied packed ≡ read → option_map kept read ≡ lent packed
+pub lent_of : (read : Option Buffer) (packed : Option (Bor Buffer)) → option_copied packed ≡ read → option_map kept read ≡ lent packed
 lent_of read None is = ap (option_map kept) (sym is)
 lent_of read (Some buffer) is = ap (option_map kept) (sym is)
 

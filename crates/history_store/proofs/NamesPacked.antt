@@ -1,223 +1,296 @@
--- If all names of a repository are packed, the steps are those of a `pack`.
-use Rattle.std.proofs.Common.{◌≡◌, ◌≢◌, ◌⊎◌, inl, inr, refl, sym, ◌∙◌, ap, subst, Bool, true, false, cond, not, ◌&&◌, ◌||◌, List, [], ◌∷◌, Option, Some, None, option_map, is_some, bytes_eq, MatchOption}
-use Rattle.std.specs.Prelude.{IfSome, nat_le, option_and_then, unwrap_or, length}
-use Rattle.std.specs.FinMap.{get}
-use Rattle.std.specs.List.{AllByRecursion, list_all}
-use Rattle.std.proofs.lemmas.Bool.{and_parts}
+-- Names are packed by a transaction.
+use Rattle.std.proofs.Common.{◌+◌, get_or, is_some, length, take, ◌≡◌, ◌⊎◌, inl, inr, ℕ, zero, suc, true, false, List, [], ◌∷◌, ◌++◌, map, refl, sym, ◌∙◌, ap, subst, Option, Some, None, option_map, unwrap_or, MatchOption, arith, ◌<◌}
+use Rattle.std.specs.Prelude.{Contains, option_copied}
+use Rattle.std.specs.Borrow.{Bor}
+use Rattle.std.specs.List.{AllByRecursion, AllZip}
+use Rattle.std.proofs.lemmas.List.{map_more}
 use Rattle.std.proofs.lemmas.Option.{same_Some}
-use Rattle.gix_ref_file.specs.Tree.{Tree}
-use Rattle.gix_ref_file.specs.History.{History, Adds}
-use Rattle.gix_ref_file.proofs.Histories.{adds_weaker, adds_both}
-use Rattle.gix_hash.specs.Id.{Id}
+use Rattle.gix_hash.specs.Id.{Id, id_of}
 use Rattle.gix_hash.specs.declared.kind.Kind.{Kind}
-use Rattle.gix_object_lines.specs.Bytes.{is_among}
+use Rattle.gix_object_lookup.specs.Table.{Table}
+use Rattle.gix_object_lookup.specs.declared.find.Error.TheVariants as lookup
+use Rattle.gix_ref_file.specs.History.{Adds, HasRisen, History}
+use Rattle.gix_ref_file.specs.Tree.{Tree}
+use Rattle.gix_ref_file.specs.declared.files.FileError.TheVariants.{Failed}
+use Rattle.gix_ref_file.proofs.Histories.{adds_joined}
+use Rattle.gix_ref_name.specs.Targets.{Points}
+use Rattle.gix_ref_edit.specs.declared.change.Change.{Change}
+use Rattle.gix_ref_edit.specs.declared.change.RefEdit.{RefEdit}
+use Rattle.gix_ref_format.specs.Lookup.{packed_hit}
 use Rattle.gix_ref_format.specs.Packed.{Record, packed_records}
-use Rattle.gix_ref_format.specs.PackedBuffer.{hit}
-use Rattle.gix_ref_format.specs.Written.{HasKind}
-use Rattle.history_model.specs.Bytes.{Bytes, is_empty}
-use Rattle.history_model.specs.Forms.{HasForm, IsWritten, is_actor, is_id, is_log_entry, is_name, is_private, is_reference, is_tag_name, max_title, title}
-use Rattle.history_model.specs.Objects.{Value, StoredBytes, StoredCommit, StoredFolder, StoredTag}
-use Rattle.history_model.specs.PackedNames.{packed_with}
-use Rattle.history_model.specs.Places.{file_at, head_place, is_lock_file, is_log_place, is_name_place, log_name, packed_place}
-use Rattle.history_model.specs.Repository.{Reference, Repository, id_at, is_tag, is_tag_value, peeled, peeled_value, stands}
-use Rattle.history_model.proofs.IdLemmas.{has_kind}
-use Rattle.history_model.proofs.PlaceLemmas.{one_text, text_itself}
-use Rattle.history_layout.specs.PackSteps.{HasAllNames, HasPacked, IsTextOfAll, PacksAll, PacksNames, PacksOnTheWay, record_for}
+use Rattle.gix_ref_format.specs.PackedBuffer.{KeepsFile}
+use Rattle.gix_ref_format.specs.PackedKept.{kept}
+use Rattle.gix_ref_format.specs.declared.packed.buffer.Buffer.{Buffer}
+use Rattle.gix_ref_lock.specs.Committing.{IsCommitted, OnTheWay}
+use Rattle.gix_ref_lock.specs.Moments.{SameButLocks}
+use Rattle.gix_ref_lock.specs.Needs.{log_paths}
+use Rattle.gix_ref_store.specs.Lookups.{reads_with}
+use Rattle.gix_ref_store.specs.Peels.{IsLost}
+use Rattle.gix_ref_store.specs.RefStates.{RefState}
+use Rattle.gix_ref_store.specs.Stores.{base_of}
+use Rattle.gix_ref_store.specs.declared.store.file.Store.{Store}
+use Rattle.gix_ref_store.specs.declared.store.file.find.Error.TheVariants as find
+use Rattle.gix_ref_store.specs.declared.store.file.find.ExistingError.TheVariants as existing
+use Rattle.gix_ref_store.specs.declared.store.file.follow.Error.{Error as FollowError}
+use Rattle.gix_ref_store.specs.declared.store.file.follow.Error.TheVariants as follow
+use Rattle.gix_ref_store.specs.declared.store.file.peel.Error.{Error as PeelError}
+use Rattle.gix_ref_store.specs.declared.store.file.peel.Error.TheVariants as peel
+use Rattle.gix_ref_transaction.specs.Causes.{GivenFault, IfUnresolved}
+use Rattle.gix_ref_transaction.specs.Errors.{Counts, IsOfRecords}
+use Rattle.gix_ref_transaction.specs.Locking.{AreRecordsLockable, HaveRoom}
+use Rattle.gix_ref_transaction.specs.LogLines.{AllLined, logging}
+use Rattle.gix_ref_transaction.specs.Plans.{AllHold, AllPlanned, AreSplit, FoldersOfEdits}
+use Rattle.gix_ref_transaction.specs.Repacking.{AreRepacked}
+use Rattle.gix_ref_transaction.specs.Resolving.{ChangeFault, GivesUp, PackFault, ResolveFault, TargetFault}
+use Rattle.gix_ref_transaction.specs.Rollback.{SameFilesBut, all_locks}
+use Rattle.gix_ref_transaction.specs.declared.error.PrepareError.{PrepareError}
+use Rattle.gix_ref_transaction.specs.declared.error.PrepareError.TheVariants as fault
+use Rattle.gix_ref_transaction.specs.declared.transaction.Transaction.{Transaction}
+use Rattle.gix_ref_way.specs.Ways.{FoldersOnlyOf}
+use Rattle.history_model.specs.Bytes.{Bytes}
+use Rattle.history_model.specs.PackedNames.{packed_file, packed_with}
+use Rattle.history_model.specs.Places.{file_at, packed_place}
+use Rattle.history_model.specs.Repository.{Repository}
+use Rattle.history_layout.specs.PackSteps.{HasAllNames, HasPacked, PacksAll, PacksNames, PacksOnTheWay}
 use Rattle.history_layout.specs.TreeHalves.{HoldsNames}
-use Rattle.history_layout.proofs.PackedRecords.{all_by_finds}
-use Rattle.history_store.specs.Packed.{AllOfKind, ArePacked, HasPackedText, MayPack, name_texts, record_of_name, records_of}
-use Rattle.history_store.specs.References.{SameFolders, lock_place}
+use Rattle.history_edits.specs.Bridges.{root_base}
+use Rattle.history_edits.specs.EditCommits.{HasNameFolders}
+use Rattle.history_edits.specs.EditFaults.{IsExcused}
+use Rattle.history_edits.specs.EditPlans.{IsPrepared, logging_of}
+use Rattle.history_edits.specs.PackPlans.{AsksAll, AsksPack, AsksToPack, IsPackReady, IsPackedSo, LeavesOut, PeelsAlike, record_name, still}
+use Rattle.history_edits.proofs.EditLocks.{edits_have_room}
+use Rattle.history_edits.proofs.PackExcused.{packs_are_excused}
+use Rattle.history_edits.proofs.PackMoments.{pack_commits, pack_is_made, pack_prepares}
+use Rattle.history_edits.proofs.PackPlanned.{IsAsked, each_asked, pack_is_ready, packs_fit}
+use Rattle.history_edits.proofs.PeelsWhole.{peels_whole}
+use Rattle.history_edits.proofs.RecordLocks.{records_are_lockable}
+use Rattle.history_edits.proofs.Unsplit.{unsplit_stay}
+use Rattle.history_store.specs.Changing.{IsReadable}
+use Rattle.history_store.specs.Faults.{of_following, of_peeling, of_preparing}
+use Rattle.history_store.specs.Packed.{AsksPacks, MayPack, record_of_name, records_of}
+use Rattle.history_store.specs.Packing.{KeepsAll, KeepsRecords, read_hit}
+use Rattle.history_store.specs.RootStore.{IsRootStore}
+use Rattle.history_store.specs.declared.names.Names.{Names}
 use Rattle.history_store.specs.declared.packs.PackedName.{PackedName}
-use Rattle.history_layout.proofs.RecordsEdited.{as_all, ascend_once, form_made}
+use Rattle.history_store.proofs.ChangeSteps.{all_keep}
+use Rattle.history_store.proofs.NamesChanged.{lent_of}
+use Rattle.history_store.proofs.Transactions.{given_so, lent, prepare_told, prepared_so, root_is}
 
-abbrev lock : Bytes
-lock = lock_place packed_place
+-- ---- no object is found
 
-none_some : {A X : Type 0} {x : X} → None ≡ Some x → A
-none_some e = cc
+gives_up : (R : Type 0) (error : FollowError) → GivesUp R error → of_following error ≡ Failed → R
+gives_up R (follow.Follow existing.NotFound) gives told = absurd gives
+gives_up R (follow.Follow (existing.Find (find.ReferenceCreation error))) gives told = absurd gives
+gives_up R (follow.Follow (existing.Find (find.PackedOpen error))) gives told = absurd gives
+gives_up R (follow.Follow (existing.Find find.ReadFileContents)) gives told = gives
+gives_up R (follow.Follow (existing.Find find.Memory)) gives told = cc
+gives_up R follow.Cycle gives told = absurd gives
+gives_up R follow.DepthLimitExceeded gives told = absurd gives
+gives_up R follow.Memory gives told = cc
 
-clash : {A : Type 0} {b : Bool} → b ≡ true → b ≡ false → A
-clash e f = absurd (go (sym e ∙ f))
+-- only if a reading or a lookup failed
+unfound : (R M : Type 0) (table : Table) (id : Id) → ((end : Id) → IsLost table id end → ⊥) → (why : PeelError) → ResolveFault R M table id why → of_peeling why ≡ Failed → R ⊎ M
+unfound R M table id never (peel.FollowToObject error) why told = inl (gives_up R error why told)
+unfound R M table id never (peel.Find lookup.Failed) why told = inr why
+unfound R M table id never (peel.Find lookup.Memory) why told = cc
+unfound R M table id never (peel.NotFound oid) why told = absurd (never (id_of oid) why)
+unfound R M table id never peel.Memory why told = cc
+
+-- a fault of the files is one of both
+pub wider_fault : (R M : Type 0) (before now : ℕ) → HasRisen before now ⊎ R → HasRisen before now ⊎ (R ⊎ M)
+wider_fault R M before now (inl risen) = inl risen
+wider_fault R M before now (inr may) = inr (inl may)
+
+-- the record that an edit is for
+asked_by : (r : Repository) (es : List Record) (edits : List RefEdit) (edit : RefEdit) → AllZip AsksPack es edits → AllByRecursion (IsAsked r) es → Contains edits edit → (e : Record) × IsAsked r e × AsksPack e edit
+asked_by r [] [] edit asks told (k, lt, is) = let none : ⊥ = omega (arith, lt) in absurd none
+asked_by r [] (other ∷ edits) edit asks told among = absurd asks
+asked_by r (e ∷ es) [] edit asks told among = absurd asks
+asked_by r (e ∷ es) (other ∷ edits) edit asks told (zero, lt, is) = (e, told.0, subst (AsksPack e) is asks.0)
+asked_by r (e ∷ es) (other ∷ edits) edit asks told (suc k, lt, is) = asked_by r es edits edit asks.1 told.1 (k, omega (arith, lt), is)
+
+-- ---- one transaction
+
+module _ (r : Repository) (wanted : List Record) (edits : List RefEdit) (old : History) (kind : Kind) (same : kind ≡ r.kind) {F : Type 0} (store : Store F) (root : IsRootStore kind store) (packed : Option (Bor Buffer)) (all : AsksAll r old.tree (lent packed) wanted edits) where
+  abbrev read : Bytes → RefState
+  read = reads_with store old.tree packed
+
+  based : base_of store ≡ root_base r.kind
+  based = root_is kind store root ∙ ap root_base same
+
+  plain : AllByRecursion (λ (edit : RefEdit). edit.deref ≡ false) edits
+  plain = (packs_fit r old.tree (lent packed) wanted edits all).2
+
+  -- while it is prepared
+  pub preparing : (mid : History) → Adds (SameButLocks old.tree) old mid → Adds (FoldersOfEdits read (base_of store) edits old.tree) old mid → Adds (PacksOnTheWay r old.tree) old mid × HasNameFolders mid.tree
+  preparing mid stays only = pack_prepares r read (lent packed) wanted edits old mid all stays (subst (λ b. Adds (FoldersOfEdits read b edits old.tree) old mid) based only)
+
+  -- why it isn't
+  module _ {O : Type 0} (fails : O → Type 0) (table : O → Table) (objects : O) (peels : PeelsAlike r (table objects)) (may_fail : Type 0) where
+    abbrev Why : Id → PeelError → Type 0
+    Why = PackFault may_fail fails table (Some objects)
+
+    by_object : (id : Id) → ((end : Id) → IsLost (table objects) id end → ⊥) → (why : PeelError) → Why id why → of_peeling why ≡ Failed → may_fail ⊎ fails objects
+    by_object id never why (o, is, because) told =
+        unfound may_fail (fails objects) (table objects) id never why (subst (λ x. ResolveFault may_fail (fails x) (table x) id why) (sym (same_Some objects o is)) because) told
+
+    sought : (why : PeelError) → IfUnresolved read Why edits (fault.Resolve why) → of_peeling why ≡ Failed → may_fail ⊎ fails objects
+    sought why (split, are, (edit, among, because)) told =
+        let own = asked_by r all.asks.asked edits edit all.asks.asks (each_asked r old.tree (lent packed) wanted edits all) (subst (λ es. Contains es edit) (unsplit_stay read edits split plain are) among) in
+        by_object own.0.target (peels.found own.0.name own.0.target own.1.at) why
+        (subst (λ (new : Points). TargetFault Why new why) own.2.move.target (subst (λ (change : Change). ChangeFault Why change why) own.2.move.change because)) told
+
+    pub unprepared : (before now : ℕ) → (error : PrepareError) → of_preparing error ≡ Failed → GivenFault (logging store.options read None) (base_of store) store.options.precompose_unicode old.tree may_fail edits error → Counts before now error
+        → (AreRecordsLockable (base_of store) old.tree → IsOfRecords error → HasRisen before now ⊎ may_fail) → IfUnresolved read Why edits error → HasRisen before now ⊎ (may_fail ⊎ fails objects)
+    unprepared before now error told given counts records lost =
+        prepare_told before now may_fail read fails table edits (HasRisen before now ⊎ (may_fail ⊎ fails objects)) (wider_fault may_fail (fails objects) before now) error told own counts
+        (records (subst (λ b. AreRecordsLockable b old.tree) (sym based) (records_are_lockable r old.tree all.holds)))
+        (λ why is failed. inr (sought why (subst (IfUnresolved read Why edits) is lost) failed))
+      where
+        given_here : GivenFault (logging_of r.kind (lent packed) None old.tree) (root_base r.kind) false old.tree may_fail edits error
+        given_here = subst (λ k. GivenFault (logging_of k (lent packed) None old.tree) (root_base k) false old.tree may_fail edits error) same (given_so kind store root old.tree packed None may_fail edits error given)
+
+        own : IsExcused may_fail error
+        own = packs_are_excused may_fail r (lent packed) None wanted edits old.tree error all given_here
+
+  -- what is prepared has room
+  pub room : (prepared : List RefEdit) → AreSplit read edits prepared → HaveRoom (base_of store) old.tree prepared
+  room prepared split =
+      let fit = packs_fit r old.tree (lent packed) wanted edits all in
+      subst (λ es. HaveRoom (base_of store) old.tree es) (sym (unsplit_stay read edits prepared plain split))
+      (subst (λ b. HaveRoom b old.tree edits) (sym based) (edits_have_room r (map still all.asks.asked) None edits old.tree all.holds all.sound.whole.names.apart fit.0 fit.1))
+
+  module _ (table : Table) (peels : PeelsAlike r table) (t : Transaction) (mid : History) (split : AreSplit read edits t.edits.items) (plans : AllPlanned (base_of store) true t.edits.items t.moves.items) (hold : AllHold mid.tree t.edits.items t.moves.items)
+      (lined : AllLined (logging store.options read None) (base_of store) old.tree t.edits.items t.moves.items) (repacked : AreRepacked (base_of store) (Some table) old.tree mid.tree t.edits.items t.packed)
+      (files : SameFilesBut (all_locks t.packed t.moves.items) old.tree mid.tree) where
+    abbrev names : List Bytes
+    names = map record_name all.asks.asked
+
+    ready : IsPackReady r names old.tree mid.tree t.packed t.moves.items
+    ready = pack_is_ready r table (lent packed) None wanted edits old.tree mid.tree t.packed t.moves.items all peels
+        (subst (λ k. IsPrepared k (lent packed) None true (Some table) edits old.tree mid.tree t.packed t.moves.items) same
+        (prepared_so kind store root old.tree packed None true (Some table) edits mid.tree t (unsplit_stay read edits t.edits.items plain split) plans hold lined repacked files))
+
+    module _ (prepared : Adds (PacksOnTheWay r old.tree) old mid × HasNameFolders mid.tree) (new : History) (way : Adds (OnTheWay t.packed t.moves.items mid.tree) mid new) (logs : Adds (FoldersOnlyOf (log_paths t.moves.items) mid.tree) mid new) where
+      committed : Adds (PacksOnTheWay r old.tree) mid new × HasNameFolders new.tree
+      committed = pack_commits r names old.tree mid new t.packed t.moves.items ready prepared.1 way logs
+
+      -- while it is committed
+      pub passing : Adds (PacksOnTheWay r old.tree) old new
+      passing = adds_joined old mid new prepared.0 committed.0
+
+      -- after that
+      pub packs : IsCommitted t.packed t.moves.items mid.tree new.tree → PacksNames r old.tree new.tree
+      packs done = pack_is_made r names old.tree mid.tree new.tree t.packed t.moves.items ready done committed.1
+
+-- ---- what is asked
+
+module _ {F : Type 0} (IsHonest : F → Type 0) (history : F → History) (Honest : Type 0) (table : Table) where
+  -- with the records that are lent
+  pub all_asked : (names : Names F) (r : Repository) (wanted : List Record) (edits : List RefEdit) (packed : Option (Bor Buffer)) → option_copied packed ≡ names.packed.read → AsksPacks IsHonest history names r Honest table wanted edits
+      → AsksAll r (history names.store.files).tree (lent packed) wanted edits
+  all_asked names r wanted edits packed is asks = subst (λ ks. AsksAll r (history names.store.files).tree ks wanted edits) (lent_of names.packed.read packed is) asks.asks
+
+  pub peels_so : (names : Names F) (r : Repository) (wanted : List Record) (edits : List RefEdit) → AsksPacks IsHonest history names r Honest table wanted edits → PeelsAlike r table
+  peels_so _ r wanted edits asks = peels_whole r table asks.asks.sound asks.stored
+
+  -- once the records are read
+  pub asks_so : (a b : Names F) (r : Repository) (listed : List PackedName) (edits : List RefEdit) → b.store.files ≡ a.store.files → b.kind ≡ a.kind → (IsHonest b.store.files → KeepsRecords a (history b.store.files).tree → KeepsAll b (history b.store.files).tree)
+      → MayPack IsHonest history a r Honest table listed
+      → (IsHonest b.store.files → b.packed.gone.items ≡ [] → AsksToPack (history b.store.files).tree (unwrap_or (option_map kept b.packed.read) []) (records_of listed) edits)
+      → AsksPacks IsHonest history b r Honest table (records_of listed) edits
+  asks_so a b r listed edits files kinds read may asks = record {
+    whole = record {
+      honest = honest;
+      holds = holds;
+      apart = may.whole.apart;
+      set = may.whole.set;
+      kind = kind;
+      records = all_keep b (history b.store.files).tree all;
+    };
+    all = all;
+    objects = may.objects;
+    stored = may.stored;
+    asks = record {
+      sound = may.sound;
+      holds = holds;
+      keeps = subst (λ k. KeepsFile k (file_at (history b.store.files).tree packed_place) (option_map kept b.packed.read)) kind all.file;
+      each = may.each;
+      once = may.once;
+      asks = asks honest all.none;
+    };
+  }
+    where
+      honest : IsHonest b.store.files
+      honest = subst IsHonest (sym files) may.whole.honest
+
+      holds : HoldsNames (history b.store.files).tree r
+      holds = subst (λ (f : F). HoldsNames (history f).tree r) (sym files) may.whole.holds
+
+      kind : b.kind ≡ r.kind
+      kind = kinds ∙ may.whole.kind
+
+      all : KeepsAll b (history b.store.files).tree
+      all = read honest (subst (λ (f : F). KeepsRecords a (history f).tree) (sym files) may.whole.records)
+
+-- records of all names are read
+pub packed_readable : (r : Repository) (kind : Kind) (tree : Tree) → kind ≡ r.kind → HasPacked r tree → IsReadable kind tree
+packed_readable r kind tree same has text at none = go (file_at tree packed_place) at has
   where
-    go : true ≡ false → ⊥
-    go e = cc
+    by_file : (o : Option (List Record)) → o ≡ None → MatchOption (option_map (packed_with text) o) ⊥ (HasAllNames r) → ⊥
+    by_file None is h = h
+    by_file (Some records) is h = cc
 
-not_true : (b : Bool) → not b ≡ true → b ≡ false
-not_true true e = cc
-not_true false e = refl
+    go : (o : Option Bytes) → o ≡ Some text → PacksAll r o → ⊥
+    go None e h = cc
+    go (Some own) e h = by_file (packed_records r.kind text) (ap (λ k. packed_records k text) (sym same) ∙ none)
+        (subst (λ t. MatchOption (packed_file r.kind t) ⊥ (HasAllNames r)) (same_Some own text e) h)
 
--- a name is among those that are packed if one of their records is its
-among_hit : (names : List PackedName) (name : Bytes) → is_among (name_texts names) name ≡ is_some (hit (records_of names) name)
-among_hit [] name = refl
-among_hit (n ∷ names) name = go (bytes_eq n.name name) (among_hit names name)
+-- ---- one name more
+
+module _ (Out : Record → Type 0) where
+  left_out : (wanted asked : List Record) (e : Record) → LeavesOut Out wanted asked → Out e → LeavesOut Out (wanted ++ e ∷ []) asked
+  left_out [] asked e is out = inl (out, is)
+  left_out (x ∷ wanted) asked e (inl (own, left)) out = inl (own, left_out wanted asked e left out)
+  left_out (x ∷ wanted) asked e (inr (rest, left, is)) out = inr (rest, left_out wanted rest e left out, is)
+
+  left_in : (wanted asked : List Record) (e : Record) → LeavesOut Out wanted asked → LeavesOut Out (wanted ++ e ∷ []) (asked ++ e ∷ [])
+  left_in [] asked e is = inr ([], refl, ap (λ es. es ++ e ∷ []) is)
+  left_in (x ∷ wanted) asked e (inl (own, left)) = inl (own, left_in wanted asked e left)
+  left_in (x ∷ wanted) asked e (inr (rest, left, is)) = inr (rest ++ e ∷ [], left_in wanted rest e left, ap (λ es. es ++ e ∷ []) is)
+
+zip_more : (asked : List Record) (edits : List RefEdit) (e : Record) (edit : RefEdit) → AllZip AsksPack asked edits → AsksPack e edit → AllZip AsksPack (asked ++ e ∷ []) (edits ++ edit ∷ [])
+zip_more [] [] e edit zip one = (one, tt)
+zip_more [] (x ∷ edits) e edit zip one = absurd zip
+zip_more (x ∷ asked) [] e edit zip one = absurd zip
+zip_more (x ∷ asked) (y ∷ edits) e edit zip one = (zip.0, zip_more asked edits e edit zip.1 one)
+
+module _ (tree : Tree) (records : List Record) where
+  pub none_asked : AsksToPack tree records [] []
+  none_asked = record { asked = []; left = refl; asks = tt }
+
+  pub one_left : (wanted : List Record) (edits : List RefEdit) (e : Record) → AsksToPack tree records wanted edits → IsPackedSo tree records e → AsksToPack tree records (wanted ++ e ∷ []) edits
+  one_left wanted edits e so_far out = record { asked = so_far.asked; left = left_out (IsPackedSo tree records) wanted so_far.asked e so_far.left out; asks = so_far.asks }
+
+  pub one_asked : (wanted : List Record) (edits : List RefEdit) (e : Record) (edit : RefEdit) → AsksToPack tree records wanted edits → AsksPack e edit → AsksToPack tree records (wanted ++ e ∷ []) (edits ++ edit ∷ [])
+  one_asked wanted edits e edit so_far asks = record {
+    asked = so_far.asked ++ e ∷ [];
+    left = left_in (IsPackedSo tree records) wanted so_far.asked e so_far.left;
+    asks = zip_more so_far.asked edits e edit so_far.asks asks;
+  }
+
+-- the record among those that are kept
+pub kept_so : (read : Option Buffer) (gone : List Bytes) (name : Bytes) (e : Record) → gone ≡ [] → read_hit read gone name ≡ Some e → packed_hit (unwrap_or (option_map kept read) []) name ≡ Some e
+kept_so None gone name e none found = cc
+kept_so (Some buffer) gone name e none found = subst (λ (ns : List Bytes). read_hit (Some buffer) ns name ≡ Some e) none found
+
+pub no_file : (tree : Tree) (path : Bytes) → is_some (file_at tree path) ≡ false → file_at tree path ≡ None
+no_file tree path none = go (file_at tree path) none
   where
-    go : (b : Bool) → is_among (name_texts names) name ≡ is_some (hit (records_of names) name) → (b || is_among (name_texts names) name) ≡ is_some (cond b (Some (record_of_name n)) (hit (records_of names) name))
-    go true rest = refl
-    go false rest = rest
+    go : (o : Option Bytes) → is_some o ≡ false → o ≡ None
+    go None e = refl
+    go (Some text) e = cc
 
--- ---- ids
-
-id_kind : (kind : Kind) (id : Id) → is_id kind id ≡ true → id.kind ≡ kind
-id_kind kind id h = (has_kind kind id h).of_kind
-
--- the commit of a tag in its written form
-tag_kind : (kind : Kind) (value : Value) (id : Id) → HasForm kind value → is_tag_value value ≡ true → IfSome (peeled_value id value) (λ (commit : Id). commit.kind ≡ kind)
-tag_kind kind (StoredTag tag) id form is =
-    let front = is_id kind tag.target && is_tag_name tag.name in
-    let all = and_parts (front && is_actor tag.tagger && not (is_empty tag.message)) (nat_le (length (title tag.message)) max_title) form in
-    let three = and_parts (front && is_actor tag.tagger) (not (is_empty tag.message)) all.0 in
-    id_kind kind tag.target (and_parts (is_id kind tag.target) (is_tag_name tag.name) (and_parts front (is_actor tag.tagger) three.0).0).0
-tag_kind kind (StoredCommit commit) id form is = cc
-tag_kind kind (StoredBytes bytes) id form is = cc
-tag_kind kind (StoredFolder files) id form is = cc
-
--- ---- the records of all names
-
-module _ (r : Repository) (written : IsWritten r) where
-  abbrev record_with : Bytes → Id → Record
-  record_with name id = record { name = name; target = id; peeled = cond (is_tag r id) (peeled r id) None }
-
-  -- the peeled id of a record
-  peeled_kind : (id : Id) → IfSome (cond (is_tag r id) (peeled r id) None) (λ (commit : Id). commit.kind ≡ r.kind)
-  peeled_kind id = go (get r.objects id) refl
-    where
-      by_tag : (value : Value) → get r.objects id ≡ Some value → (b : Bool) → is_tag_value value ≡ b → IfSome (cond b (peeled_value id value) None) (λ (commit : Id). commit.kind ≡ r.kind)
-      by_tag value at true is = tag_kind r.kind value id (written.values id value at).0 is
-      by_tag value at false is = tt
-
-      go : (o : Option Value) → get r.objects id ≡ o → IfSome (cond (unwrap_or (option_map is_tag_value o) false) (option_and_then (peeled_value id) o) None) (λ (commit : Id). commit.kind ≡ r.kind)
-      go None e = tt
-      go (Some value) e = by_tag value e (is_tag_value value) refl
-
-  -- what is known of a name with a record
-  record IsTold (name : Bytes) (e : Record) : Type 0 where
-    named : e.name ≡ name
-    formed : is_name name ≡ true
-    public : is_private name ≡ false
-    kind : HasKind r.kind e
-
-  record_told : (name : Bytes) (e : Record) → record_for r name ≡ Some e → IsTold name e
-  record_told name e is = by_private (is_private name) refl is
-    where
-      of_ref : (ref : Reference) → get r.names name ≡ Some ref → is_private name ≡ false → record_with name ref.id ≡ e → IsTold name e
-      of_ref ref at public same =
-          let parts = and_parts (is_name name && not (is_private name)) (is_reference r.kind ref) (written.names name ref at) in
-          let id = and_parts (is_id r.kind ref.id) (list_all (is_log_entry r.kind) ref.moves) parts.1 in
-          subst (IsTold name) same (record {
-            named = refl;
-            formed = (and_parts (is_name name) (not (is_private name)) parts.0).0;
-            public = public;
-            kind = record { target = id_kind r.kind ref.id id.0; peeled = peeled_kind ref.id };
-          })
-
-      by_ref : (o : Option Reference) → get r.names name ≡ o → is_private name ≡ false → option_map (record_with name) (option_map (λ (ref : Reference). ref.id) o) ≡ Some e → IsTold name e
-      by_ref None at public is = none_some is
-      by_ref (Some ref) at public is = of_ref ref at public (same_Some _ e is)
-
-      by_private : (b : Bool) → is_private name ≡ b → cond b None (option_map (record_with name) (id_at r name)) ≡ Some e → IsTold name e
-      by_private true private is = none_some is
-      by_private false public is = by_ref (get r.names name) refl public is
-
-  -- whether a name has a record
-  has_one : (name : Bytes) → stands r name ≡ true → is_private name ≡ false → is_some (record_for r name) ≡ true
-  has_one name there public = go (get r.names name) there
-    where
-      go : (o : Option Reference) → is_some o ≡ true → is_some (cond (is_private name) None (option_map (record_with name) (option_map (λ (ref : Reference). ref.id) o))) ≡ true
-      go None h = cc
-      go (Some ref) h = ap (λ b. is_some (cond b None (Some (record_with name ref.id)))) public
-
-  none_private : (name : Bytes) → is_private name ≡ true → is_some (record_for r name) ≡ false
-  none_private name private = ap (λ b. is_some (cond b None (option_map (record_with name) (id_at r name)))) private
-
-  none_away : (name : Bytes) → stands r name ≡ false → is_some (record_for r name) ≡ false
-  none_away name away = go (get r.names name) away (is_private name)
-    where
-      go : (o : Option Reference) → is_some o ≡ false → (b : Bool) → is_some (cond b None (option_map (record_with name) (option_map (λ (ref : Reference). ref.id) o))) ≡ false
-      go None h true = refl
-      go None h false = refl
-      go (Some ref) h b = cc
-
-  name_formed : (name : Bytes) → stands r name ≡ true → is_name name ≡ true
-  name_formed name there = go (get r.names name) refl there
-    where
-      go : (o : Option Reference) → get r.names name ≡ o → is_some o ≡ true → is_name name ≡ true
-      go None at h = cc
-      go (Some ref) at h = (and_parts (is_name name) (not (is_private name)) (and_parts (is_name name && not (is_private name)) (is_reference r.kind ref) (written.names name ref at)).0).0
-
-  -- ---- if the records of these names are those
-
-  module _ (names : List PackedName) (each : (name : Bytes) → hit (records_of names) name ≡ record_for r name) where
-    pub kinds_told : AllOfKind r.kind names
-    kinds_told name e found = (record_told name e (sym (each name) ∙ found)).kind
-
-    packed_all : (tree : Tree) → HasPackedText r.kind names tree → HasPacked r tree
-    packed_all tree has =
-        let told = has.told in
-        let by_finds : (P : Record → Type 0) → ((e : Record) → IsTold e.name e → P e) → AllByRecursion P told.after = λ P all.
-        all_by_finds P told.after (ascend_once told.after told.ascend) (λ e found. all e (record_told e.name e (sym (told.each e.name ∙ each e.name) ∙ found))) in
-        let read : packed_records r.kind has.text ≡ Some told.after = told.reads (as_all r.kind told.after (by_finds (HasKind r.kind) (λ e t. t.kind))) in
-        let holds : HasAllNames r (packed_with has.text told.after) = record {
-          formed = form_made told.after told.ascend (by_finds (λ (e : Record). is_name e.name ≡ true) (λ e t. t.formed)) (by_finds (λ (e : Record). is_private e.name ≡ false) (λ e t. t.public)) has.text told.is;
-          each = λ name. told.each name ∙ each name;
-        } in
-        let text : IsTextOfAll r has.text = record { records = told.after; ascend = told.ascend; each = λ name. told.each name ∙ each name; is = told.is } in
-        subst (PacksAll r) (sym has.here) (text, subst (λ o. MatchOption (option_map (packed_with has.text) o) ⊥ (HasAllNames r)) (sym read) holds)
-
-    among : (name : Bytes) (b : Bool) → is_some (record_for r name) ≡ b → is_among (name_texts names) name ≡ b
-    among name b is = among_hit names name ∙ ap is_some (each name) ∙ is
-
-    away_packed : (name : Bytes) → is_name name ≡ true → (name ≢ packed_place) × (name ≢ lock)
-    away_packed name named = (
-      λ same. absurd (cc (subst (λ n. is_name n ≡ true) same named)),
-      λ same. absurd (cc (subst (λ n. is_name n ≡ true) same named)),
-    )
-
-    none_locked : (tree : Tree) → HoldsNames tree r → file_at tree lock ≡ None
-    none_locked tree holds = go (file_at tree lock) refl (stands r lock) refl
-      where
-        unnamed : (is_name lock ≡ true) → ⊥
-        unnamed h = absurd (cc h)
-
-        no_place : stands r lock ≡ false → is_name_place r lock ≡ false
-        no_place away = ap (λ b. ((bytes_eq lock head_place || bytes_eq lock packed_place) || b) || (is_log_place lock && stands r (log_name lock))) away
-
-        go : (o : Option Bytes) → file_at tree lock ≡ o → (b : Bool) → stands r lock ≡ b → file_at tree lock ≡ None
-        go None e b f = e
-        go (Some text) e true f = absurd (unnamed (name_formed lock f))
-        go (Some text) e false f = clash (holds.places lock text e) (no_place f)
-
-    -- all is packed
-    pub packs_names : (old new : Tree) → HoldsNames old r → ArePacked r.kind names old new → SameFolders old new → PacksNames r old new
-    packs_names old new holds packs same = record {
-      packed = packed_all new packs.packed;
-      gone = λ name there public. packs.here name (among name true (has_one name there public));
-      private = λ name there private. let apart = away_packed name (name_formed name there) in packs.others name (among name false (none_private name private)) apart.0 apart.1;
-      others = λ path away apart. by_lock path (bytes_eq path lock) refl away apart;
-      folders = λ path is. holds.folders path ((same path).0 is);
-    }
-      where
-        by_lock : (path : Bytes) (b : Bool) → bytes_eq path lock ≡ b → stands r path ≡ false → path ≢ packed_place → file_at new path ≡ file_at old path
-        by_lock path true e away apart = let at = one_text path lock e in ap (file_at new) at ∙ packs.lock ∙ sym (none_locked old holds) ∙ ap (file_at old) (sym at)
-        by_lock path false e away apart = packs.others path (among path false (none_away path away)) apart (λ at. clash (ap (λ p. bytes_eq p lock) at ∙ text_itself lock) e)
-
-    -- what exists meanwhile
-    pub packs_pass : (old tree : Tree) → HoldsNames old r → MayPack r.kind names old tree → SameFolders old tree → PacksOnTheWay r old tree
-    packs_pass old tree holds may same = record {
-      packed = elim may.packed [
-        | inl kept ↦ inl kept
-        | inr has ↦ inr (packed_all tree has)
-      ];
-      here = λ name there. by_private name there (is_private name) refl;
-      others = λ path away apart free. may.others path (among path false (none_away path away)) apart (λ at. clash (ap is_lock_file at) free);
-      folders = λ path is. holds.folders path ((same path).0 is);
-    }
-      where
-        by_private : (name : Bytes) → stands r name ≡ true → (b : Bool) → is_private name ≡ b → (file_at tree name ≡ file_at old name) ⊎ ((file_at tree name ≡ None) × (is_private name ≡ false) × HasPacked r tree)
-        by_private name there true private = let apart = away_packed name (name_formed name there) in inl (may.others name (among name false (none_private name private)) apart.0 apart.1)
-        by_private name there false public = elim (may.here name (among name true (has_one name there public))) [
-          | inl kept ↦ inl kept
-          | inr gone ↦ inr (gone.0, public, packed_all tree gone.1)
-        ]
-
-    pub packs_moments : (old new : History) → HoldsNames old.tree r → Adds (MayPack r.kind names old.tree) old new → Adds (SameFolders old.tree) old new → Adds (PacksOnTheWay r old.tree) old new
-    packs_moments old new holds may same = adds_weaker old new (adds_both old new may same) (λ tree both. packs_pass old.tree tree holds both.0 both.1)
+-- the records of one name more
+pub grown_records : (names : List PackedName) (i : ℕ) (d n : PackedName) → i < length names → n ≡ get_or names i d → records_of (take (i + 1) names) ≡ records_of (take i names) ++ record_of_name n ∷ []
+grown_records names i d n inside is = map_more record_of_name names i d inside ∙ ap (λ x. map record_of_name (take i names) ++ record_of_name x ∷ []) (sym is)

@@ -1,5 +1,5 @@
 -- What the transactions of the store of a names part say, in the terms of a repository, and their errors.
-use Rattle.std.proofs.Common.{◌≡◌, ◌⊎◌, inl, inr, ℕ, false, List, [], refl, sym, ◌∙◌, ap, subst, Option, Some, None, option_map, unwrap_or}
+use Rattle.std.proofs.Common.{◌≡◌, ◌⊎◌, inl, inr, ℕ, Bool, false, List, [], refl, sym, subst, Option, Some, None, option_map, unwrap_or}
 use Rattle.std.specs.Borrow.{Bor}
 use Rattle.std.specs.Prelude.{option_copied}
 use Rattle.gix_hash.specs.declared.kind.Kind.{Kind}
@@ -36,7 +36,7 @@ use Rattle.gix_ref_store.specs.declared.store.file.find.Error.TheVariants as fin
 use Rattle.gix_ref_store.specs.declared.store.file.peel.Error.{Error as PeelError}
 use Rattle.gix_ref_transaction.specs.Causes.{GivenFault, IfUnresolved}
 use Rattle.gix_ref_transaction.specs.Errors.{Counts, IsOfRecords, IsQuiet}
-use Rattle.gix_ref_transaction.specs.LogLines.{AllLined, Logging, logging}
+use Rattle.gix_ref_transaction.specs.LogLines.{AllLined, logging}
 use Rattle.gix_ref_transaction.specs.Plans.{AllHold, AllPlanned}
 use Rattle.gix_ref_transaction.specs.Rollback.{SameFilesBut, all_locks}
 use Rattle.gix_ref_transaction.specs.declared.error.PrepareError.{PrepareError}
@@ -45,9 +45,9 @@ use Rattle.gix_ref_transaction.specs.declared.transaction.Transaction.{Transacti
 use Rattle.history_model.specs.Bytes.{Bytes}
 use Rattle.history_model.specs.Places as model
 use Rattle.history_edits.specs.Bridges.{root_base}
+use Rattle.history_edits.specs.EditFaults.{IsExcused}
 use Rattle.history_edits.specs.EditPlans.{IsPrepared, logging_of}
-use Rattle.history_edits.proofs.HeadPrepared.{IsOfCalls}
-use Rattle.history_store.specs.Faults.{of_committing, of_preparing}
+use Rattle.history_store.specs.Faults.{of_committing, of_peeling, of_preparing}
 use Rattle.history_store.specs.RootStore.{IsRootStore}
 
 -- ---- the store
@@ -86,16 +86,16 @@ module _ {F : Type 0} (kind : Kind) (store : Store F) (root : IsRootStore kind s
           (subst (λ l. GivenFault l (base_of store) store.options.precompose_unicode tree may_fail edits error) logging_is why))
 
       -- what is prepared
-      pub prepared_so : (edits : List RefEdit) (locked : Tree) (t : Transaction) → t.edits.items ≡ edits → AllPlanned (base_of store) false t.edits.items t.moves.items → AllHold locked t.edits.items t.moves.items
-          → AllLined (logging store.options (reads_with store tree packed) committer) (base_of store) tree t.edits.items t.moves.items → AreRepacked (base_of store) None tree locked t.edits.items t.packed
-          → SameFilesBut (all_locks t.packed t.moves.items) tree locked → IsPrepared kind (lent packed) committer edits tree locked t.packed t.moves.items
-      prepared_so edits locked t are plans hold lined repacked files = record {
-        plans = subst (λ es. AllPlanned (root_base kind) false es t.moves.items) are (subst (λ b. AllPlanned b false t.edits.items t.moves.items) root_is plans);
+      pub prepared_so : (removes : Bool) (packs : Option Table) (edits : List RefEdit) (locked : Tree) (t : Transaction) → t.edits.items ≡ edits → AllPlanned (base_of store) removes t.edits.items t.moves.items → AllHold locked t.edits.items t.moves.items
+          → AllLined (logging store.options (reads_with store tree packed) committer) (base_of store) tree t.edits.items t.moves.items → AreRepacked (base_of store) packs tree locked t.edits.items t.packed
+          → SameFilesBut (all_locks t.packed t.moves.items) tree locked → IsPrepared kind (lent packed) committer removes packs edits tree locked t.packed t.moves.items
+      prepared_so removes packs edits locked t are plans hold lined repacked files = record {
+        plans = subst (λ es. AllPlanned (root_base kind) removes es t.moves.items) are (subst (λ b. AllPlanned b removes t.edits.items t.moves.items) root_is plans);
         hold = subst (λ es. AllHold locked es t.moves.items) are hold;
         lined = subst (λ es. AllLined (logging_of kind (lent packed) committer tree) (root_base kind) tree es t.moves.items) are
             (subst (λ b. AllLined (logging_of kind (lent packed) committer tree) b tree t.edits.items t.moves.items) root_is
             (subst (λ l. AllLined l (base_of store) tree t.edits.items t.moves.items) logging_is lined));
-        repacked = subst (λ es. AreRepacked (root_base kind) None tree locked es t.packed) are (subst (λ b. AreRepacked b None tree locked t.edits.items t.packed) root_is repacked);
+        repacked = subst (λ es. AreRepacked (root_base kind) packs tree locked es t.packed) are (subst (λ b. AreRepacked b packs tree locked t.edits.items t.packed) root_is repacked);
         files = files;
       }
 
@@ -111,28 +111,39 @@ none_sought {O = O} R fails table (Update log expected new) error why = go (targ
 none_sought R fails table (Delete expected log) error why = why
 
 module _ {O : Type 0} (before now : ℕ) (may_fail : Type 0) (read : Bytes → RefState) (fails : O → Type 0) (table : O → Table) (edits : List RefEdit) where
-  pub prepare_failed : (error : PrepareError) → of_preparing error ≡ Failed → IsOfCalls may_fail error → Counts before now error → (IsOfRecords error → HasRisen before now ⊎ may_fail) → IfUnresolved read (PackFault may_fail fails table None) edits error
+  -- the calls of the files tell of it, or the search for objects
+  pub prepare_told : (Out : Type 0) → (HasRisen before now ⊎ may_fail → Out) → (error : PrepareError) → of_preparing error ≡ Failed → IsExcused may_fail error → Counts before now error → (IsOfRecords error → HasRisen before now ⊎ may_fail)
+      → ((why : PeelError) → error ≡ fault.Resolve why → of_peeling why ≡ Failed → Out) → Out
+  prepare_told Out to fault.Io told own counts records sought = to (inl counts)
+  prepare_told Out to (fault.PackedTransactionAcquire error) told own counts records sought = to (records tt)
+  prepare_told Out to (fault.PackedTransactionPrepare error) told own counts records sought = to (records tt)
+  prepare_told Out to (fault.Resolve error) told own counts records sought = sought error refl told
+  prepare_told Out to (fault.PreprocessingFailed (Split splitting.Find)) told own counts records sought = to (inr own)
+  prepare_told Out to (fault.PreprocessingFailed (Split splitting.Cycle)) told own counts records sought = absurd own
+  prepare_told Out to (fault.PreprocessingFailed (Split splitting.Memory)) told own counts records sought = cc
+  prepare_told Out to (fault.PreprocessingFailed (Twice (twice.Name name))) told own counts records sought = absurd own
+  prepare_told Out to (fault.PreprocessingFailed (Twice twice.Memory)) told own counts records sought = cc
+  prepare_told Out to (fault.ReferenceDecode find.ReadFileContents) told own counts records sought = to (inr own)
+  prepare_told Out to (fault.ReferenceDecode find.Memory) told own counts records sought = cc
+  prepare_told Out to (fault.ReferenceDecode (find.ReferenceCreation error)) told own counts records sought = absurd own
+  prepare_told Out to (fault.ReferenceDecode (find.PackedOpen error)) told own counts records sought = absurd own
+  prepare_told Out to fault.Memory told own counts records sought = cc
+  prepare_told Out to (fault.Packed error) told own counts records sought = absurd own
+  prepare_told Out to fault.SamePlace told own counts records sought = absurd own
+  prepare_told Out to fault.Uncomposed told own counts records sought = absurd own
+  prepare_told Out to fault.LockAcquire told own counts records sought = absurd own
+  prepare_told Out to (fault.Refused why) told own counts records sought = absurd own
+  prepare_told Out to (fault.CreateOrUpdateRefLog error) told own counts records sought = absurd own
+
+  none_told : (error : PrepareError) → IfUnresolved read (PackFault may_fail fails table None) edits error → (why : PeelError) → error ≡ fault.Resolve why → HasRisen before now ⊎ may_fail
+  none_told error sought why is = by (subst (IfUnresolved read (PackFault may_fail fails table None) edits) is sought)
+    where
+      by : IfUnresolved read (PackFault may_fail fails table None) edits (fault.Resolve why) → HasRisen before now ⊎ may_fail
+      by (split, are, (edit, among, fault)) = absurd (none_sought may_fail fails table edit.change why fault)
+
+  pub prepare_failed : (error : PrepareError) → of_preparing error ≡ Failed → IsExcused may_fail error → Counts before now error → (IsOfRecords error → HasRisen before now ⊎ may_fail) → IfUnresolved read (PackFault may_fail fails table None) edits error
       → HasRisen before now ⊎ may_fail
-  prepare_failed fault.Io told own counts records sought = inl counts
-  prepare_failed (fault.PackedTransactionAcquire error) told own counts records sought = records tt
-  prepare_failed (fault.PackedTransactionPrepare error) told own counts records sought = records tt
-  prepare_failed (fault.Resolve error) told own counts records (split, are, (edit, among, why)) = absurd (none_sought may_fail fails table edit.change error why)
-  prepare_failed (fault.PreprocessingFailed (Split splitting.Find)) told own counts records sought = inr own
-  prepare_failed (fault.PreprocessingFailed (Split splitting.Cycle)) told own counts records sought = absurd own
-  prepare_failed (fault.PreprocessingFailed (Split splitting.Memory)) told own counts records sought = cc
-  prepare_failed (fault.PreprocessingFailed (Twice (twice.Name name))) told own counts records sought = absurd own
-  prepare_failed (fault.PreprocessingFailed (Twice twice.Memory)) told own counts records sought = cc
-  prepare_failed (fault.ReferenceDecode find.ReadFileContents) told own counts records sought = inr own
-  prepare_failed (fault.ReferenceDecode find.Memory) told own counts records sought = cc
-  prepare_failed (fault.ReferenceDecode (find.ReferenceCreation error)) told own counts records sought = absurd own
-  prepare_failed (fault.ReferenceDecode (find.PackedOpen error)) told own counts records sought = absurd own
-  prepare_failed fault.Memory told own counts records sought = cc
-  prepare_failed (fault.Packed error) told own counts records sought = absurd own
-  prepare_failed fault.SamePlace told own counts records sought = absurd own
-  prepare_failed fault.Uncomposed told own counts records sought = absurd own
-  prepare_failed fault.LockAcquire told own counts records sought = absurd own
-  prepare_failed (fault.Refused why) told own counts records sought = absurd own
-  prepare_failed (fault.CreateOrUpdateRefLog error) told own counts records sought = absurd own
+  prepare_failed error told own counts records sought = prepare_told (HasRisen before now ⊎ may_fail) (λ x. x) error told own counts records (λ why is failed. none_told error sought why is)
 
 pub prepare_quiet : (error : PrepareError) → of_preparing error ≡ Memory → IsQuiet error
 prepare_quiet fault.Io told = cc

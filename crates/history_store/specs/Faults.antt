@@ -14,6 +14,12 @@ use Rattle.gix_ref_lock.specs.declared.act.CommitError.{CommitError}
 use Rattle.gix_ref_lock.specs.declared.act.CommitError.TheVariants as moving
 use Rattle.gix_ref_store.specs.declared.store.file.find.Error.{Error as FindError}
 use Rattle.gix_ref_store.specs.declared.store.file.find.Error.TheVariants as find
+use Rattle.gix_ref_store.specs.declared.store.file.find.ExistingError.TheVariants as existing
+use Rattle.gix_ref_store.specs.declared.store.file.follow.Error.{Error as FollowError}
+use Rattle.gix_ref_store.specs.declared.store.file.follow.Error.TheVariants as follow
+use Rattle.gix_ref_store.specs.declared.store.file.peel.Error.{Error as PeelError}
+use Rattle.gix_ref_store.specs.declared.store.file.peel.Error.TheVariants as peel
+use Rattle.gix_object_lookup.specs.declared.find.Error.TheVariants as lookup
 use Rattle.gix_ref_transaction.specs.declared.error.PrepareError.{PrepareError}
 use Rattle.gix_ref_transaction.specs.declared.error.PrepareError.TheVariants.{Packed, PackedTransactionAcquire, PackedTransactionPrepare, PreprocessingFailed, SamePlace, Uncomposed, LockAcquire, Io, Refused, ReferenceDecode, CreateOrUpdateRefLog, Resolve, Memory}
 
@@ -30,6 +36,22 @@ of_finding find.Memory = file_case.Memory
 of_finding find.ReadFileContents = file_case.Failed
 of_finding (find.ReferenceCreation error) = file_case.Failed
 of_finding (find.PackedOpen error) = of_opening error
+
+-- names aren't followed to an object
+abbrev pub of_following : FollowError → FileError
+of_following (follow.Follow existing.NotFound) = file_case.Failed
+of_following (follow.Follow (existing.Find error)) = of_finding error
+of_following follow.Cycle = file_case.Failed
+of_following follow.DepthLimitExceeded = file_case.Failed
+of_following follow.Memory = file_case.Memory
+
+-- an id isn't followed to an object that is no tag
+abbrev pub of_peeling : PeelError → FileError
+of_peeling (peel.FollowToObject error) = of_following error
+of_peeling (peel.Find lookup.Failed) = file_case.Failed
+of_peeling (peel.Find lookup.Memory) = file_case.Memory
+of_peeling (peel.NotFound oid) = file_case.Failed
+of_peeling peel.Memory = file_case.Memory
 
 -- edits aren't split
 abbrev pub of_splitting : PreProcessError → FileError
@@ -53,7 +75,7 @@ of_preparing LockAcquire = file_case.Failed
 of_preparing Io = file_case.Failed
 of_preparing (Refused why) = file_case.Failed
 of_preparing (CreateOrUpdateRefLog error) = file_case.Failed
-of_preparing (Resolve error) = file_case.Failed
+of_preparing (Resolve error) = of_peeling error
 
 -- `packed-refs` isn't replaced
 abbrev pub of_replacing : PackedError → FileError

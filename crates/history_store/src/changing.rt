@@ -193,11 +193,11 @@ impl<F: Files> Names<F> {
         if packed_id(&self.packed, name).is_none() {
             return Ok(());
         }
-        self.read_anew(alloc, name)
+        self.read_anew(alloc, Some(name))
     }
 
-    // Reads the records, from which the name's went.
-    fn read_anew(&mut self, alloc: Global, name: &[u8]) -> Result<(), FileError>
+    // Reads the records anew, from which only this name's went if one is given.
+    pub(crate) fn read_anew(&mut self, alloc: Global, gone: Option<&[u8]>) -> Result<(), FileError>
         ensures files { self.new.store.files ≡ self.old.store.files }
         ensures kind { self.new.kind ≡ self.old.kind }
         ensures keeps { Finds F.is_honest F.history self.new.store.files
@@ -205,7 +205,7 @@ impl<F: Files> Names<F> {
         ensures failed { Finds F.is_honest F.history self.new.store.files (λ tree.
             IsReadable self.new.kind tree → IsErrOf result Failed → F.reading_may_fail) }
     {
-        match self.read_less(alloc, name) {
+        match self.read_less(alloc, gone) {
             Ok(()) => Ok(()),
             Err(error) => Err(of_opening(error)),
         }

@@ -4,13 +4,14 @@ ghost use Rattle.gix_object_lines.specs.NameTest.{is_full_name};
 ghost use Rattle.gix_ref_file.specs.declared.files.FileError.TheVariants.{Failed};
 ghost use Rattle.history_store.specs.Faults as faults;
 
+use gix_object_lookup::find as lookup;
 use gix_ref_edit::{PreProcessError, SplitError, TwiceError};
 use gix_ref_file::FileError;
 use gix_ref_format::packed::buffer;
 use gix_ref_lock::{CommitError, packed};
 use gix_ref_name::FullName;
 use gix_ref_name::name::Error as NameError;
-use gix_ref_store::store::file::find;
+use gix_ref_store::store::file::{find, follow, peel};
 use gix_ref_transaction::PrepareError;
 use std::alloc::Global;
 
@@ -34,6 +35,30 @@ fn of_finding(error: find::Error) -> FileError
         find::Error::ReadFileContents => FileError::Failed,
         find::Error::ReferenceCreation(_) => FileError::Failed,
         find::Error::PackedOpen(error) => of_opening(error),
+    }
+}
+
+fn of_following(error: follow::Error) -> FileError
+    ensures { result ≡ faults.of_following error }
+{
+    match error {
+        follow::Error::Memory => FileError::Memory,
+        follow::Error::Cycle => FileError::Failed,
+        follow::Error::DepthLimitExceeded => FileError::Failed,
+        follow::Error::Follow(find::ExistingError::NotFound) => FileError::Failed,
+        follow::Error::Follow(find::ExistingError::Find(error)) => of_finding(error),
+    }
+}
+
+fn of_peeling(error: peel::Error) -> FileError
+    ensures { result ≡ faults.of_peeling error }
+{
+    match error {
+        peel::Error::Memory => FileError::Memory,
+        peel::Error::NotFound { .. } => FileError::Failed,
+        peel::Error::Find(lookup::Error::Memory) => FileError::Memory,
+        peel::Error::Find(lookup::Error::Failed) => FileError::Failed,
+        peel::Error::FollowToObject(error) => of_following(error),
     }
 }
 
@@ -66,7 +91,7 @@ pub(crate) fn of_preparing(error: PrepareError) -> FileError
         PrepareError::Io => FileError::Failed,
         PrepareError::Refused(_) => FileError::Failed,
         PrepareError::CreateOrUpdateRefLog(_) => FileError::Failed,
-        PrepareError::Resolve(_) => FileError::Failed,
+        PrepareError::Resolve(error) => of_peeling(error),
     }
 }
 

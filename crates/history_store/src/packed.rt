@@ -1,36 +1,30 @@
-//! The records of `packed-refs`: read once and kept, looked up, and replaced.
-ghost use Rattle.std.specs.Prelude.{◌≡◌, ◌≢◌, ◌≤◌, [], None, Some, IfOk, IfErr, MatchResult, OnOk, IsErrOf, IsTrue, option_map};
+//! The records of `packed-refs`: read once and kept, and looked up.
+ghost use Rattle.std.specs.Prelude.{◌≡◌, [], IfOk, IfErr, MatchResult, OnOk, IsErrOf, IsTrue, option_map};
 ghost use Rattle.gix_hash.specs.Id.{id_of};
-ghost use Rattle.gix_ref_file.specs.Calls.{Achieves, Finds, Passes};
-ghost use Rattle.gix_ref_file.specs.History.{HasRisen};
-ghost use Rattle.gix_ref_file.specs.declared.files.FileError.TheVariants.{Failed, Memory};
+ghost use Rattle.gix_ref_file.specs.Calls.{Finds};
+ghost use Rattle.gix_ref_file.specs.declared.files.FileError.TheVariants.{Failed};
 ghost use Rattle.gix_object_lines.specs.Bytes.{is_among};
-ghost use Rattle.gix_ref_format.specs.Packed.{Record, packed_records, record_of};
-ghost use Rattle.gix_ref_format.specs.PackedBuffer.{FileFault, Keeps, KeepsFile};
-ghost use Rattle.gix_ref_format.specs.PackedKept.{kept, text_of};
+ghost use Rattle.gix_ref_format.specs.Packed.{Record, record_of};
+ghost use Rattle.gix_ref_format.specs.PackedBuffer.{FileFault, KeepsFile};
+ghost use Rattle.gix_ref_format.specs.PackedKept.{kept};
 ghost use Rattle.gix_ref_format.specs.declared.packed.buffer.Error.TheVariants.{Io};
 ghost use Rattle.gix_ref_name.specs.Names.{name_of};
 ghost use Rattle.history_model.specs.Forms.{is_name};
 ghost use Rattle.history_model.specs.Places.{file_at, packed_place};
-ghost use Rattle.history_store.specs.Packing.{HasPackedRoom, KeepsAll, KeepsRecords, NameReads, kept_hit};
-ghost use Rattle.history_store.specs.References.{MayBeWritten, PutsBeside, SameFolders};
+ghost use Rattle.history_store.specs.Packing.{KeepsAll, KeepsRecords, NameReads, kept_hit};
 
 use crate::faults::of_opening;
 use crate::names::{Names, id_in};
-use gix_hash::{Kind, ObjectId};
+use gix_hash::ObjectId;
 use gix_ref_file::{FileError, Files};
 use gix_ref_format::packed::buffer::Error;
 use gix_ref_format::packed::{Buffer, Reference};
 use gix_ref_name::{FullName, FullNameRef};
-use gix_ref_way::write_anew;
 use history_texts::is_name;
 use std::alloc::Global;
 
 /// The path of the records.
 pub const PACKED: &[u8] = b"packed-refs";
-
-// The path of the lock file in which they are written before it is renamed to their place.
-const PACKED_LOCK: &[u8] = b"packed-refs.lock";
 
 // What is kept of `packed-refs`: its records as they were read, and the names that lost theirs
 // since.
@@ -60,8 +54,8 @@ impl<F: Files> Names<F> {
         Ok(())
     }
 
-    // Reads `packed-refs` anew, from which the record of a name went.
-    pub(crate) fn read_less(&mut self, alloc: Global, name: &[u8]) -> Result<(), Error>
+    // Reads `packed-refs` anew, from which only this name's record went if one is given.
+    pub(crate) fn read_less(&mut self, alloc: Global, gone: Option<&[u8]>) -> Result<(), Error>
         ensures files { self.new.store.files ≡ self.old.store.files }
         ensures kind { self.new.kind ≡ self.old.kind }
         ensures keeps { Finds F.is_honest F.history self.new.store.files
@@ -70,14 +64,18 @@ impl<F: Files> Names<F> {
             (λ tree. IfErr result (FileFault self.new.kind (file_at tree packed_place))) }
         ensures failed { IsErrOf result Io → F.reading_may_fail }
     {
-        let read = self.records_without(alloc, name)?;
+        let read = self.records_without(alloc, gone)?;
         self.packed = all_of(alloc, read);
         Ok(())
     }
 
     // Returns the records of `packed-refs`, by those that were kept but for the name's, which are
     // given up.
-    fn records_without(&mut self, alloc: Global, name: &[u8]) -> Result<Option<Buffer>, Error>
+    fn records_without(
+        &mut self,
+        alloc: Global,
+        gone: Option<&[u8]>,
+    ) -> Result<Option<Buffer>, Error>
         ensures files { self.new.store.files ≡ self.old.store.files }
         ensures kind { self.new.kind ≡ self.old.kind }
         ensures kept { Finds F.is_honest F.history self.new.store.files (λ tree. MatchResult result
@@ -85,6 +83,10 @@ impl<F: Files> Names<F> {
             (FileFault self.new.kind (file_at tree packed_place))) }
         ensures failed { IsErrOf result Io → F.reading_may_fail }
     {
+        let files = &self.store.files;
+        let Some(name) = gone else {
+            return Buffer::open(alloc, files, PACKED, self.kind);
+        };
         match (self.packed.read.take(), FullNameRef::new(name)) {
             (Some(before), Ok(gone)) => {
                 before.open_without(alloc, &self.store.files, PACKED, self.kind, gone)
@@ -130,59 +132,6 @@ impl<F: Files> Names<F> {
             None => Ok(packed_id(&self.packed, name)),
         }
     }
-
-    // Replaces `packed-refs` by this text, and reads its records.
-    pub(crate) fn replace_packed(&mut self, alloc: Global, text: Vec<u8>) -> Result<(), FileError>
-        ensures honest { F.is_honest self.old.store.files → F.is_honest self.new.store.files }
-        ensures kind { self.new.kind ≡ self.old.kind }
-        ensures put { Achieves F.is_honest F.history self.old.store.files self.new.store.files
-            result (PutsBeside packed_place text.items) }
-        ensures keeps { F.is_honest self.old.store.files
-            → OnOk result (KeepsRecords self.new (F.history self.new.store.files).tree) }
-        ensures moments { Passes F.is_honest F.history self.old.store.files self.new.store.files
-            (MayBeWritten packed_place text.items) }
-        ensures folders { Passes F.is_honest F.history self.old.store.files self.new.store.files
-            SameFolders }
-        ensures later { F.failures self.old.store.files ≤ F.failures self.new.store.files }
-        ensures unfailed { OnOk result
-            (F.failures self.new.store.files ≡ F.failures self.old.store.files) }
-        ensures memory { IsErrOf result Memory
-            → F.failures self.new.store.files ≡ F.failures self.old.store.files }
-        ensures failed { F.is_honest self.old.store.files
-            → HasPackedRoom (F.history self.old.store.files).tree
-            → packed_records self.old.kind text.items ≢ None → IsErrOf result Failed
-            → HasRisen (F.failures self.old.store.files) (F.failures self.new.store.files) }
-    {
-        let packed = buffer_of(alloc, text, self.kind)?;
-        self.put_packed(alloc, packed.as_ref())?;
-        self.packed = all_of(alloc, Some(packed));
-        Ok(())
-    }
-
-    // Replaces `packed-refs` by this text, which is written in its lock file that is then renamed.
-    fn put_packed(&mut self, alloc: Global, text: &[u8]) -> Result<(), FileError>
-        ensures honest { F.is_honest self.old.store.files → F.is_honest self.new.store.files }
-        ensures kind { self.new.kind ≡ self.old.kind }
-        ensures packed { self.new.packed ≡ self.old.packed }
-        ensures put { Achieves F.is_honest F.history self.old.store.files self.new.store.files
-            result (PutsBeside packed_place text.now) }
-        ensures moments { Passes F.is_honest F.history self.old.store.files self.new.store.files
-            (MayBeWritten packed_place text.now) }
-        ensures folders { Passes F.is_honest F.history self.old.store.files self.new.store.files
-            SameFolders }
-        ensures later { F.failures self.old.store.files ≤ F.failures self.new.store.files }
-        ensures unfailed { OnOk result
-            (F.failures self.new.store.files ≡ F.failures self.old.store.files) }
-        ensures memory { IsErrOf result Memory
-            → F.failures self.new.store.files ≡ F.failures self.old.store.files }
-        ensures failed { F.is_honest self.old.store.files
-            → HasPackedRoom (F.history self.old.store.files).tree → IsErrOf result Failed
-            → HasRisen (F.failures self.old.store.files) (F.failures self.new.store.files) }
-    {
-        write_anew(alloc, &mut self.store.files, PACKED_LOCK, text)?;
-        self.store.files.rename(alloc, PACKED_LOCK, PACKED)?;
-        Ok(())
-    }
 }
 
 // Returns what is kept of records that were just read.
@@ -223,20 +172,5 @@ pub(crate) fn packed_id(packed: &Kept, name: &[u8]) -> Option<ObjectId>
     match FullNameRef::new(name) {
         Ok(full) => Some(packed.record(full)?.target),
         Err(_) => None,
-    }
-}
-
-// Returns the records of a text, with the text.
-fn buffer_of(alloc: Global, text: Vec<u8>, kind: Kind) -> Result<Buffer, FileError>
-    ensures kept { IfOk result (λ buffer. Keeps kind text.items (kept buffer)) }
-    ensures bytes { IfOk result (λ buffer. text_of buffer ≡ text.items) }
-    ensures failed { IsErrOf result Failed → packed_records kind text.items ≡ None }
-{
-    match Buffer::from_bytes(alloc, text, kind) {
-        Ok(buffer) => Ok(buffer),
-        Err(Error::Memory) => Err(FileError::Memory),
-        Err(Error::Iter { .. }) => Err(FileError::Failed),
-        Err(Error::HeaderParsing) => Err(FileError::Failed),
-        Err(Error::Io) => Err(FileError::Failed),
     }
 }

@@ -1,20 +1,29 @@
-//! Packing of names: `packed-refs` gets a record for each, and then their own files are removed.
-ghost use Rattle.std.specs.Prelude.{◌≡◌, ◌≤◌, IfOk, OnOk, IsErrOf};
-ghost use Rattle.gix_ref_file.specs.Calls.{Achieves, HasFault, Passes};
+//! Packing of names: all those that aren't packed yet are packed by one transaction.
+ghost use Rattle.std.specs.Prelude.{◌≡◌, ◌≢◌, ◌≤◌, ◌⊎◌, ◌++◌, ◌∷◌, Err, [], List, Some, IfOk, IsErrOf, IsTrue, OnOk, option_map, unwrap_or};
+ghost use Rattle.gix_hash.specs.Id.{id_of};
+ghost use Rattle.gix_ref_file.specs.Calls.{Finds, HasFault};
+ghost use Rattle.gix_ref_file.specs.History.{Adds};
 ghost use Rattle.gix_ref_file.specs.declared.files.FileError.TheVariants.{Failed, Memory};
-ghost use Rattle.gix_ref_format.specs.Edited.{line_of, lines_of, own_line};
-ghost use Rattle.history_store.specs.Packing.{HasPackedRoom, KeepsRecords, FileIsGone, FileMayGo};
-ghost use Rattle.history_store.specs.Packed.{AllFull, AllOfKind, AreGone, ArePacked, IsPackedText, MayBeGone, MayPack, lines_of_names, name_texts, record_of_name, records_of};
-ghost use Rattle.history_store.specs.References.{SameFolders};
+ghost use Rattle.gix_ref_format.specs.Packed.{Record, record_of};
+ghost use Rattle.gix_ref_format.specs.PackedKept.{kept};
+ghost use Rattle.history_model.specs.Repository.{Repository};
+ghost use Rattle.history_layout.specs.PackSteps.{PacksNames, PacksOnTheWay};
+ghost use Rattle.history_edits.specs.PackPlans.{AsksPack, AsksToPack, IsPackedSo};
+ghost use Rattle.history_store.specs.Packing.{KeepsRecords};
+ghost use Rattle.history_store.specs.Packed.{AsksPacks, MayPack, record_of_name, records_of};
 
+use crate::faults::{full_name, of_preparing};
 use crate::names::Names;
-use gix_hash::{Kind, ObjectId};
+use gix_hash::ObjectId;
+use gix_object_lookup::FindInto;
+use gix_ref_edit::{Change, LogChange, PreviousValue, RefEdit};
 use gix_ref_file::{FileError, Files};
-use gix_ref_format::laws::written_records_are_read;
-use gix_ref_format::packed::{Edit, Reference, packed_text, written};
-use gix_ref_name::FullName;
+use gix_ref_format::packed::Reference;
+use gix_ref_name::{FullName, Target};
+use gix_ref_transaction::PackedRefs;
+use gix_ref_transaction::transaction::prepare_with;
 use gix_ref_way::is_file;
-use std::alloc::{AllocError, Global};
+use std::alloc::Global;
 
 /// A name that is packed, and its id.
 #[derive(Drop)]
@@ -26,130 +35,183 @@ pub struct PackedName {
 }
 
 impl<F: Files> Names<F> {
-    /// Packs these names: `packed-refs` is written anew with a record for each, ascending by name,
-    /// in its lock file, which is then renamed; then their own files are removed, if they exist,
-    /// one after another. No log and no folder changes.
+    /// Packs these names, which are all, by one transaction: the lock of `packed-refs` and that of each name are made exclusively,
+    /// `packed-refs` is written anew with a record for each, ascending by name, and then the names' own files are removed. A name
+    /// that has no file of its own and its record already is left alone, and if all are so, nothing is written. No log changes. The
+    /// objects say what tags lead to.
     ///
-    /// Returns `Failed` if a file call failed, and `Memory` if memory ran out.
-    pub fn pack_names(&mut self, alloc: Global, names: &[PackedName]) -> Result<(), FileError>
+    /// Returns `Failed` if a call of the files or a lookup failed, or if a name doesn't hold its id or is locked, and `Memory` if
+    /// memory ran out. After an error each name reads as before.
+    pub fn pack_names<O: FindInto>(
+        &mut self,
+        alloc: Global,
+        objects: &O,
+        names: &[PackedName],
+    ) -> Result<(), FileError>
         ensures honest { F.is_honest self.old.store.files → F.is_honest self.new.store.files }
         ensures kind { self.new.kind ≡ self.old.kind }
-        ensures packed { Achieves F.is_honest F.history self.old.store.files self.new.store.files
-            result (ArePacked self.old.kind names.now) }
+        // On the way each name has its own file, or its record.
+        ensures moments { (r : Repository)
+            → MayPack F.is_honest F.history self.old r (O.is_honest objects.now)
+            (O.table objects.now) names.now
+            → Adds (PacksOnTheWay r (F.history self.old.store.files).tree)
+            (F.history self.old.store.files) (F.history self.new.store.files) }
+        ensures packed { (r : Repository)
+            → MayPack F.is_honest F.history self.old r (O.is_honest objects.now)
+            (O.table objects.now) names.now
+            → OnOk result (PacksNames r (F.history self.old.store.files).tree
+            (F.history self.new.store.files).tree) }
         ensures keeps { F.is_honest self.old.store.files
             → OnOk result (KeepsRecords self.new (F.history self.new.store.files).tree) }
-
-        // What exists on the way.
-        ensures moments { Passes F.is_honest F.history self.old.store.files self.new.store.files
-            (MayPack self.old.kind names.now) }
-        ensures folders { Passes F.is_honest F.history self.old.store.files self.new.store.files
-            SameFolders }
         ensures later { F.failures self.old.store.files ≤ F.failures self.new.store.files }
         ensures unfailed { OnOk result
             (F.failures self.new.store.files ≡ F.failures self.old.store.files) }
         ensures memory { IsErrOf result Memory
             → F.failures self.new.store.files ≡ F.failures self.old.store.files }
-        ensures failed { AllOfKind self.old.kind names.now
-            → F.is_honest self.old.store.files → HasPackedRoom (F.history self.old.store.files).tree
+        // `Failed` comes only from a fault of the files, or of a lookup.
+        ensures failed { (r : Repository)
+            → MayPack F.is_honest F.history self.old r (O.is_honest objects.now)
+            (O.table objects.now) names.now
             → IsErrOf result Failed
-            → HasFault F.failures F.reading_may_fail self.old.store.files self.new.store.files }
+            → HasFault F.failures (F.reading_may_fail ⊎ O.may_fail objects.now)
+            self.old.store.files self.new.store.files }
     {
-        let text = text_of_names(alloc, names, self.kind)?;
-        self.replace_packed(alloc, text)?;
-        self.remove_own_files(alloc, names)
+        self.refresh(alloc)?;
+        let edits = self.edits_to_pack(alloc, names)?;
+        self.pack(alloc, objects, edits)?;
+        self.read_anew(alloc, None)
     }
 
-    // Removes the names' own files, if they exist, one after another.
-    fn remove_own_files(&mut self, alloc: Global, names: &[PackedName]) -> Result<(), FileError>
-        ensures honest { F.is_honest self.old.store.files → F.is_honest self.new.store.files }
-        ensures kind { self.new.kind ≡ self.old.kind }
-        ensures packed { self.new.packed ≡ self.old.packed }
-        ensures gone { Achieves F.is_honest F.history self.old.store.files self.new.store.files
-            result (AreGone (name_texts names.now)) }
-        ensures moments { Passes F.is_honest F.history self.old.store.files self.new.store.files
-            (MayBeGone (name_texts names.now)) }
-        ensures folders { Passes F.is_honest F.history self.old.store.files self.new.store.files
-            SameFolders }
-        ensures later { F.failures self.old.store.files ≤ F.failures self.new.store.files }
-        ensures unfailed { OnOk result
-            (F.failures self.new.store.files ≡ F.failures self.old.store.files) }
-        ensures memory { IsErrOf result Memory
-            → F.failures self.new.store.files ≡ F.failures self.old.store.files }
-        ensures failed { F.is_honest self.old.store.files → IsErrOf result Failed
-            → HasFault F.failures F.reading_may_fail self.old.store.files self.new.store.files }
+    // Returns the edits that pack those of these names that aren't packed.
+    fn edits_to_pack(&self, alloc: Global, names: &[PackedName]) -> Result<Vec<RefEdit>, FileError>
+        ensures asks { Finds F.is_honest F.history self.now.store.files
+            (λ tree. self.now.packed.gone.items ≡ []
+            → let records = unwrap_or (option_map kept self.now.packed.read) [] in
+            IfOk result (λ edits. AsksToPack tree records (records_of names.now) edits.items)) }
+        ensures failed { IsErrOf result Failed → F.reading_may_fail }
     {
+        let mut edits = Vec::new(alloc);
         for named in names {
-            self.remove_own_file(alloc, named.name.to_path())?;
+            self.add_edit(alloc, named, &mut edits)?;
         }
+        Ok(edits)
+    }
+
+    // Adds the edit that packs the name, unless it is packed.
+    fn add_edit(
+        &self,
+        alloc: Global,
+        named: &PackedName,
+        edits: &mut Vec<RefEdit>,
+    ) -> Result<(), FileError>
+        ensures asks { Finds F.is_honest F.history self.now.store.files
+            (λ tree. self.now.packed.gone.items ≡ []
+            → let records = unwrap_or (option_map kept self.now.packed.read) [] in
+            let last = record_of_name named.now in OnOk result ((wanted : List Record)
+            → AsksToPack tree records wanted edits.old.items
+            → AsksToPack tree records (wanted ++ last ∷ []) edits.new.items)) }
+        ensures failed { IsErrOf result Failed → F.reading_may_fail }
+    {
+        if self.is_packed(named)? {
+            return Ok(());
+        }
+        let edit = edit_to_pack(alloc, named)?;
+        edits.push(edit)?;
         Ok(())
     }
 
-    // Removes the name's own file, if there is one.
-    pub(crate) fn remove_own_file(&mut self, alloc: Global, name: &[u8]) -> Result<(), FileError>
+    // Returns whether the name has no file of its own, and this record.
+    fn is_packed(&self, named: &PackedName) -> Result<bool, FileError>
+        ensures packed { Finds F.is_honest F.history self.now.store.files
+            (λ tree. self.now.packed.gone.items ≡ []
+            → let records = unwrap_or (option_map kept self.now.packed.read) [] in
+            IfOk result (λ packed. IsTrue packed
+            → IsPackedSo tree records (record_of_name named.now))) }
+        ensures failed { IsErrOf result Failed → F.reading_may_fail }
+    {
+        if is_file(&self.store.files, named.name.to_path())? {
+            return Ok(false);
+        }
+        Ok(is_record(self.packed.record(named.name.as_ref()), named))
+    }
+
+    // Prepares these edits, by which names are packed, and commits them. The records that are kept stay as they were read.
+    fn pack<O: FindInto>(
+        &mut self,
+        alloc: Global,
+        objects: &O,
+        edits: Vec<RefEdit>,
+    ) -> Result<(), FileError>
         ensures honest { F.is_honest self.old.store.files → F.is_honest self.new.store.files }
         ensures kind { self.new.kind ≡ self.old.kind }
-        ensures packed { self.new.packed ≡ self.old.packed }
-        ensures gone { Achieves F.is_honest F.history self.old.store.files self.new.store.files
-            result (FileIsGone name.now) }
-        ensures moments { Passes F.is_honest F.history self.old.store.files self.new.store.files
-            (FileMayGo name.now) }
-        ensures folders { Passes F.is_honest F.history self.old.store.files self.new.store.files
-            SameFolders }
+        ensures moments { (r : Repository) (wanted : List Record)
+            → AsksPacks F.is_honest F.history self.old r (O.is_honest objects.now)
+            (O.table objects.now) wanted edits.items
+            → Adds (PacksOnTheWay r (F.history self.old.store.files).tree)
+            (F.history self.old.store.files) (F.history self.new.store.files) }
+        ensures packed { (r : Repository) (wanted : List Record)
+            → AsksPacks F.is_honest F.history self.old r (O.is_honest objects.now)
+            (O.table objects.now) wanted edits.items
+            → OnOk result (PacksNames r (F.history self.old.store.files).tree
+            (F.history self.new.store.files).tree) }
         ensures later { F.failures self.old.store.files ≤ F.failures self.new.store.files }
         ensures unfailed { OnOk result
             (F.failures self.new.store.files ≡ F.failures self.old.store.files) }
         ensures memory { IsErrOf result Memory
             → F.failures self.new.store.files ≡ F.failures self.old.store.files }
-        ensures failed { F.is_honest self.old.store.files → IsErrOf result Failed
-            → HasFault F.failures F.reading_may_fail self.old.store.files self.new.store.files }
+        ensures failed { (r : Repository) (wanted : List Record)
+            → AsksPacks F.is_honest F.history self.old r (O.is_honest objects.now)
+            (O.table objects.now) wanted edits.items
+            → IsErrOf result Failed
+            → HasFault F.failures (F.reading_may_fail ⊎ O.may_fail objects.now)
+            self.old.store.files self.new.store.files }
     {
-        if is_file(&self.store.files, name)? {
-            return self.store.files.remove_file(alloc, name);
+        let records = self.packed.read.as_ref();
+        let mode = PackedRefs::DeletionsAndNonSymbolicUpdatesRemoveLooseSourceReference(objects);
+        match prepare_with(alloc, &mut self.store, records, edits, None, mode) {
+            Ok(made) => self.finish(alloc, made),
+            Err(error) => Err(of_preparing(error)),
         }
-        Ok(())
     }
 }
 
-// Returns the text of the names' records, ascending by name.
-fn text_of_names(alloc: Global, names: &[PackedName], kind: Kind) -> Result<Vec<u8>, AllocError>
-    ensures text { IfOk result
-        (λ text. IsPackedText kind (records_of names.now) text.items) }
-    ensures full { AllFull (name_texts names.now) }
+// Returns whether the record is the one that the name is to have.
+fn is_record(found: Option<Reference<'_>>, named: &PackedName) -> bool
+    ensures { IsTrue result → option_map record_of found.entry ≡ Some (record_of_name named.now) }
 {
-    are_full(names);
-    let edits = edits_of(alloc, names)?;
-    let records = written(alloc, edits.as_slice())?;
-    written_records_are_read(records.as_slice(), kind);
-    packed_text(alloc, records.as_slice())
-}
-
-// Returns the edits by which each name has its record.
-fn edits_of<'a>(alloc: Global, names: &'a [PackedName]) -> Result<Vec<Edit<'a>>, AllocError>
-    ensures { IfOk result (λ edits. lines_of edits.items ≡ lines_of_names names.now) }
-{
-    let mut edits = Vec::new(alloc);
-    for named in names {
-        edits.push(edit_of(named))?;
+    match found {
+        Some(record) => {
+            record.name.to_path() == named.name.to_path()
+                && record.target == named.id
+                && is_same(record.object, named.peeled)
+        }
+        None => false,
     }
-    Ok(edits)
 }
 
-// Returns the edit by which the name has its record.
-fn edit_of(named: &PackedName) -> Edit<'_>
-    ensures { line_of result ≡ own_line (record_of_name named.now) }
+// Returns whether both are one id, or none.
+fn is_same(one: Option<ObjectId>, other: Option<ObjectId>) -> bool
+    ensures { IsTrue result → option_map id_of one ≡ option_map id_of other }
 {
-    Edit::Write(Reference {
-        name: named.name.as_ref(),
-        target: named.id,
-        object: named.peeled,
+    match (one, other) {
+        (Some(one), Some(other)) => one == other,
+        (None, None) => true,
+        (Some(_), None) | (None, Some(_)) => false,
+    }
+}
+
+// Returns the edit by which the name, if it holds its id, is packed.
+fn edit_to_pack(alloc: Global, named: &PackedName) -> Result<RefEdit, FileError>
+    ensures asks { IfOk result (AsksPack (record_of_name named.now)) }
+    ensures failed { result ≢ Err Failed }
+{
+    Ok(RefEdit {
+        change: Change::Update {
+            log: LogChange::new(alloc),
+            expected: PreviousValue::MustExistAndMatch(Target::Object(named.id)),
+            new: Target::Object(named.id),
+        },
+        name: full_name(alloc, named.name.as_bstr().as_bytes())?,
+        deref: false,
     })
-}
-
-// Each name is a full one.
-fn are_full(names: &[PackedName])
-    ensures { AllFull (name_texts names.now) }
-{
-    for named in names {
-        let _name = named.name.as_bstr();
-    }
 }

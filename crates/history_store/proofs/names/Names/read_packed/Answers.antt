@@ -1,6 +1,5 @@
 use Rattle.history_model.specs.Places.{file_at, packed_place}
-use Rattle.history_store.proofs.RecordsLeft.{all_left}
-use Rattle.history_store.proofs.Replaced.{kept_all}
+use Rattle.history_store.proofs.RecordsLeft.{all_left, kept_all}
 use Rattle.history_store.proofs.names.Names.read_packed.Goals as goal
 
 pub returns-clause-keeps : goal.returns-clause-keeps
