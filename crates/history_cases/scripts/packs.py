@@ -93,7 +93,7 @@ def as_on_the_way(plain, alone, logs=None, records=None):
 
 def pack_stops():
     """A run of two commits and a pack that is stopped at each call, or of which each call fails: `packed-refs` comes first, whole, and then
-    the names' own files go, one after another; each name reads as before all the while."""
+    the names' own files go, one after another, and the locks at the end; each name reads as before all the while."""
     main, x = b"refs/heads/main", b"refs/heads/x"
     second = branch(x + b" new", 2, b"parent main\n")
     fault = b"fault File\n"
@@ -109,7 +109,7 @@ def pack_stops():
             states = [ends[0] + left(first, 0, False), ends[0] + left(first, 3, False), *([ends[0] + left(first)] if made else [])]
             states += [ends[1] + left_with(both, first, 3), ends[1] + left_with(both, first, 4), *([ends[1] + left(both)] if made else [])]
             states += [ends[2] + left(both), *(ends[2] + left(as_on_the_way(plain, alone)) for alone in ((), (main,)))]
-            states += [ends[2] + left(plain)] if made else []
+            states.append(ends[2] + left(plain))
             each(120, kind, f"create names:{how}:#:{kept} open run:{word(PUT_HELLO + second + PACK)} left", [closed, *states, whole])
 
 
@@ -139,7 +139,7 @@ def packed_delete_stops():
                 states = [ends[0] + left(first, 0, False), ends[0] + left(first, 3, False), *([ends[0] + left(first)] if made else [])]
                 states += [ends[1] + left_with(both, first, 3), ends[1] + left_with(both, first, 4), *([ends[1] + left(both)] if made else [])]
                 states += [ends[2] + left(both), *(ends[2] + left(as_on_the_way(packed, alone)) for alone in ((), (main,)))]
-                states += [ends[2] + left(packed)] if made else []
+                states.append(ends[2] + left(packed))
                 if more:
                     states += [ends[3] + left_with(before, packed, 4), ends[3] + left_with(before, packed, 5)]
                     states += [ends[3] + left(logged)] if shows_line(kept) else []
@@ -167,6 +167,6 @@ def packed_rename_stops():
         for how, kept in [*(("stop", kept) for kept in ["-", 0, 3, 20, 50, 1000]), ("fail", "-")]:
             made = kept != "-"
             states = [ends[0] + left(first, 0, False), ends[0] + left(first, 3, False), *([ends[0] + left(first)] if made else [])]
-            states += [ends[1] + left(first), ends[1] + left(as_on_the_way(packed, ())), *([ends[1] + left(packed)] if made else [])]
+            states += [ends[1] + left(first), ends[1] + left(as_on_the_way(packed, ())), ends[1] + left(packed)]
             states += [ends[2] + left(packed), ends[2] + left(both), ends[2] + left(unlogged), ends[2] + left(plain)]
             each(120, kind, f"create names:{how}:#:{kept} open run:{word(stream)} left", [closed, *states, whole])

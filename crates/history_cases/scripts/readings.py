@@ -35,10 +35,10 @@ def readings():
                                (b"log breadth all +v\n", 2)]:
             reading(kind, tagged, command, count)
         reading(kind, tagged + b"index\n", b"log breadth all +v\n", 1)
-        # A log with paths walks, and then reads each tree on the paths once: the first parent of each commit is the commit that comes next.
+        # A log with paths walks, and then reads each tree on the paths once: three roots, and the folder `b` that two commits have.
         three = branch(b"refs/heads/m new", 1, b"put file 1 1\na\nx\n") + branch(b"refs/heads/m any", 2, b"put file 3 1\nb/c\ny\n") \
             + branch(b"refs/heads/m any", 3, b"put file 1 1\na\nz\n")
-        for paths, count in [((b"a",), 3 + 3), ((b"a", b"b"), 3 + 3), ((b"b/c", b"a", b"b/d"), 3 + 5), ((b"b/c", b"b", b"b/c"), 3 + 5),
+        for paths, count in [((b"a",), 3 + 3), ((b"a", b"b"), 3 + 3), ((b"b/c", b"a", b"b/d"), 3 + 4), ((b"b/c", b"b", b"b/c"), 3 + 4),
                              ((b"a/x", b"q/r"), 3 + 3), ((), 3)]:
             reading(kind, three, log_at(b"breadth all +m", *paths), count)
             reading(kind, three + b"index\n", log_at(b"breadth all +m", *paths), count - 3)

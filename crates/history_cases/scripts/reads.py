@@ -3,8 +3,8 @@ against this.
 
 A command looks up once each object that its words mean, that is the object that a name holds, or whose id a word begins, since that may
 be a commit, a tag or neither; and each commit, tree and content that its answer is made of. Of these a log, a `commit` and `index` look
-up no commit that has a row. A log with paths looks up besides the trees that it compares: of a commit, and of its first parent, unless
-that is the commit that comes next. `index` reads the first bytes of each object, which are all of a commit that is short. A graft looks
+up no commit that has a row. A log with paths looks up besides, each once, the trees that it compares: of a commit, and of its first
+parent, unless that is the commit that comes next. `files` looks up each different tree once. `index` reads the first bytes of each object, which are all of a commit that is short. A graft looks
 up the trees on the way to its source, and each different tree below it once."""
 
 from plain import Plain, Reader
@@ -37,8 +37,8 @@ def of_walk(plain, rows, commits):
 
 
 def of_log(plain, command):
-    """Of the commits that a log with paths compares the trees on the paths: of each commit that it walks and of its first parent, unless
-    that comes next."""
+    """Of the commits that a log with paths compares the different trees on the paths: of each commit that it walks and of its first parent,
+    unless that comes next."""
     if not command[5]:
         return []
     met, last = [], None
@@ -46,7 +46,7 @@ def of_log(plain, command):
         first = plain.commits[digits]["parents"][:1]
         met += ([] if digits == last else [digits]) + first
         last = first[0] if first else None
-    return [it for at in met for it in of_folders(plain, plain.commits[at]["files"], command[5])]
+    return list(dict.fromkeys(it for at in met for it in of_folders(plain, plain.commits[at]["files"], command[5])))
 
 
 def of_grafts(plain, edits):
@@ -79,7 +79,7 @@ def objects(plain, rows, command):
         return once(rows, held + of_walk(plain, rows, commits)) + of_log(plain, command)
     files, path = plain.commits[commits[0]]["files"], parts[1] if name == "show" else None
     content = [files[path][1]] if path in files else []
-    trees = of_folders(plain, files, [path] if path else None) if name == "files" or path else []
+    trees = list(dict.fromkeys(of_folders(plain, files, [path] if path else None))) if name == "files" or path else []
     return once((), held + commits) + trees + content
 
 
