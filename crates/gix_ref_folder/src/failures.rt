@@ -65,11 +65,25 @@ impl Failures {
         }
     }
 
-    // Keeps that something exists at the path of a file that was to be made. No call failed by that.
+    // Keeps that something is at the path of a file that was to be made, until one is made there. No
+    // call failed by that.
     pub fn made(&self, alloc: Global, path: &[u8], made: &io::Result<bool>) {
-        if let Ok(false) = made {
-            let error = io::Error::other("File exists");
-            self.reading.set(Some(Failure::new(alloc, path, error)));
+        match made {
+            Ok(true) => self.forget(path),
+            Ok(false) => {
+                let error = io::Error::other("File exists");
+                self.reading.set(Some(Failure::new(alloc, path, error)));
+            }
+            Err(_) => {}
+        }
+    }
+
+    // Forgets what was met at this path.
+    fn forget(&self, path: &[u8]) {
+        if let Some(failure) = self.reading.take() {
+            if failure.path() != path {
+                self.reading.set(Some(failure));
+            }
         }
     }
 
