@@ -43,20 +43,7 @@ class Streams(Case):
         return said
 
     def history(self, *flags: str) -> None:
-        self.init(*flags)
-        self.commit("first", a="one\n", d__b="two\n", **{'\u00e9 "q"\t': "three\n"})
-        os.symlink("a", os.path.join(self.source, "link"))
-        os.chmod(os.path.join(self.source, "a"), 0o755)
-        self.commit("modes")
-        for name in ("side", "other", "third"):
-            git(self.source, "checkout", "-q", "-b", name, "main")
-            self.commit(name, **{name: name})
-        git(self.source, "checkout", "-q", "main")
-        self.commit("more", a="one\nmore\n")
-        git(self.source, "merge", "-q", "-m", "Merge side", "side")
-        git(self.source, "merge", "-q", "-m", "Octopus", "other", "third")
-        git(self.source, "mv", "d", "moved")
-        self.commit("rename")
+        self.grow('\u00e9 "q"\t', *flags)
         git(self.source, "tag", "light", "HEAD~1")
         git(self.source, "tag", "-a", "-m", "First\n\nWith two parts.", "v1", "HEAD~2")
         git(self.source, "notes", "add", "-m", "a note", "HEAD")

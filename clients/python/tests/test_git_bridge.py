@@ -119,6 +119,23 @@ class Case(unittest.TestCase):
         git(self.source, "commit", "-q", "--allow-empty", "-m", message)
         return git(self.source, "rev-parse", "HEAD")
 
+    def grow(self, odd: str, *flags: str) -> None:
+        """Makes the source: files, one with an odd name, a link, modes, a merge of two and one of three, and a folder that moves."""
+        self.init(*flags)
+        self.commit("first", a="one\n", d__b="two\n", **{odd: "three\n"})
+        os.symlink("a", os.path.join(self.source, "link"))
+        os.chmod(os.path.join(self.source, "a"), 0o755)
+        self.commit("modes")
+        for name in ("side", "other", "third"):
+            git(self.source, "checkout", "-q", "-b", name, "main")
+            self.commit(name, **{name: name})
+        git(self.source, "checkout", "-q", "main")
+        self.commit("more", a="one\nmore\n")
+        git(self.source, "merge", "-q", "-m", "Merge side", "side")
+        git(self.source, "merge", "-q", "-m", "Octopus", "other", "third")
+        git(self.source, "mv", "d", "moved")
+        self.commit("rename")
+
     def object(self, kind: str, text: bytes) -> str:
         return git(self.source, "hash-object", "-t", kind, "-w", "--stdin", "--literally", given=text)
 
@@ -152,20 +169,7 @@ class Case(unittest.TestCase):
 
 class Histories(Case):
     def merges(self, *flags: str) -> None:
-        self.init(*flags)
-        self.commit("first", a="one\n", d__b="two\n", **{"e x": "three\n"})
-        os.symlink("a", os.path.join(self.source, "link"))
-        os.chmod(os.path.join(self.source, "a"), 0o755)
-        self.commit("modes")
-        for name in ("side", "other", "third"):
-            git(self.source, "checkout", "-q", "-b", name, "main")
-            self.commit(name, **{name: name})
-        git(self.source, "checkout", "-q", "main")
-        self.commit("more", a="one\nmore\n")
-        git(self.source, "merge", "-q", "-m", "Merge side", "side")
-        git(self.source, "merge", "-q", "-m", "Octopus", "other", "third")
-        git(self.source, "mv", "d", "moved")
-        self.commit("rename")
+        self.grow("e x", *flags)
         git(self.source, "tag", "light")
         git(self.source, "tag", "-a", "-m", "First\n\nWith two parts.", "v1", "HEAD~2")
         git(self.source, "notes", "add", "-m", "a note", "HEAD")
