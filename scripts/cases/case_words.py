@@ -1,4 +1,6 @@
-"""Words in the lines of cases, as the crate case_words reads and writes them: for generators of cases, scripts/cases.py in a crate."""
+"""Words in the lines of cases, as the crate case_words reads and writes them: for generators of cases, cases.py in the folder of a crate's
+name."""
+from families import crate_of
 
 PLAIN = b"ABCDEFGHIJKLMNOPQRSTUVWXYZabcdefghijklmnopqrstuvwxyz0123456789/.@<>_-"
 
@@ -11,7 +13,7 @@ def word(data):
 
 
 def write(here, rows):
-    """Writes the rows, each a line and its answer, to `stdin` and `stdout` of the crate that has this script."""
-    folder = here.resolve().parent.parent
+    """Writes the rows, each a line and its answer, to `stdin` and `stdout` of the crate whose script this is."""
+    folder = crate_of(here)
     (folder / "stdin").write_text("".join(f"{line}\n" for line, _ in rows))
     (folder / "stdout").write_text("".join(f"{answer}\n" for _, answer in rows))

@@ -1,11 +1,18 @@
-"""Rows of programs of cases whose lines begin with a family: a script in the crate's scripts/ writes those of the family that it is named
-after."""
+"""Rows of programs of cases whose lines begin with a family: a script in the folder of a crate's name writes those of the family that it is
+named after."""
 from pathlib import Path
+
+CRATES = Path(__file__).resolve().parents[2] / "crates"
+
+
+def crate_of(script):
+    """The folder of the crate whose cases this script writes."""
+    return CRATES / Path(script).resolve().parent.name
 
 
 def write(script, rows):
     """Puts these rows, each a line without its family and an answer, in the place of the family's in `stdin` and `stdout` of the crate."""
-    crate, family = Path(script).resolve().parent.parent, Path(script).stem
+    crate, family = crate_of(script), Path(script).stem
     lines, answers = ((crate / name).read_text().split("\n")[:-1] for name in ("stdin", "stdout"))
     places = [at for at, line in enumerate(lines) if line.startswith(family + " ")] or [len(lines)]
     first, behind = places[0], places[0] + sum(line.startswith(family + " ") for line in lines)
@@ -18,6 +25,6 @@ def write(script, rows):
 
 def kept(script, *families):
     """The rows of these families, each a line and its answer, as they are in `stdin` and `stdout` of the crate."""
-    crate = Path(script).resolve().parent.parent
+    crate = crate_of(script)
     lines, answers = ((crate / name).read_text().split("\n")[:-1] for name in ("stdin", "stdout"))
     return [row for row in zip(lines, answers) if row[0].split(" ")[0] in families]

@@ -1,5 +1,5 @@
 """Which causes hold of a folder, by docs/PROTOCOL.md and Git's formats alone: the judge of rows over changed files. It shares no code with
-the plain repository of crates/history_cases/scripts/plain.py.
+the plain repository of history_cases/plain.py.
 
 A cause is its name and its values, as `history check` reports them. If an object's file is damaged, what its content says counts all the same,
 so several causes may hold; and an object is missing only if no file is at its place. Names count if the objects have no cause,

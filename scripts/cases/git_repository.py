@@ -1,4 +1,4 @@
-"""A repository of git, of which generators of cases have ids and contents of trees: scripts/cases.py in each crate that says so."""
+"""A repository of git, of which generators of cases have ids and contents of trees: cases.py."""
 import os, subprocess, tempfile
 
 LENGTH = {"sha1": 40, "sha256": 64}
