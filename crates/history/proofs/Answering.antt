@@ -8,7 +8,7 @@ use Rattle.history_model.specs.Repository.{Repository, fresh}
 use Rattle.history_model.specs.Commands.{Command}
 use Rattle.history_model.specs.Replies.{Reply}
 use Rattle.history_model.specs.Runs.{Runs}
-use Rattle.history_model.specs.Rows.{Gives}
+use Rattle.history_model.specs.laws.Rows.{Gives}
 use Rattle.history_model.proofs.RunsAgree.{runs_give}
 use Rattle.history_model.proofs.RunsTold.{runs_told}
 use Rattle.gix_hash.specs.declared.kind.Kind.{Kind}

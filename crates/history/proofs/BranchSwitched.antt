@@ -12,7 +12,7 @@ use Rattle.history_model.specs.Causes.{first_cause}
 use Rattle.history_model.specs.Replies.{Switched}
 use Rattle.history_model.specs.Steps.{Accepts}
 use Rattle.history_model.specs.Forms.{heads_front, is_branch, is_name}
-use Rattle.history_model.specs.Wholeness.{IsSound}
+use Rattle.history_model.specs.laws.Wholeness.{IsSound}
 use Rattle.history_model.proofs.WholeSteps.{steps_keep_sound}
 use Rattle.history_layout.specs.Passing.{HoldsBetween}
 use Rattle.history_layout.specs.SwitchSteps.{HeadOnTheWay, NamesBranch}

@@ -9,7 +9,7 @@ use Rattle.history_model.specs.Stage.{is_spoken}
 use Rattle.history_model.specs.Steps.{Accepts, Step}
 use Rattle.history_model.specs.Stops.{is_changing}
 use Rattle.history_model.specs.StandsFor.{StandsFor}
-use Rattle.history_model.specs.Wholeness.{IsSound}
+use Rattle.history_model.specs.laws.Wholeness.{IsSound}
 use Rattle.history_model.proofs.WholeSteps.{steps_keep_sound}
 use Rattle.history_store.specs.ObjectsFace.{ids_of_objects}
 use Rattle.history_store.specs.Packing.{KeepsRecords}

@@ -15,7 +15,7 @@ use Rattle.history_model.specs.Places.{file_at, log_place, packed_place}
 use Rattle.history_model.specs.Answers.{Answers}
 use Rattle.history_model.specs.Replies.{Committed, Deleted, Moved, Renamed, Reply, Tagged}
 use Rattle.history_model.specs.Steps.{Accepts}
-use Rattle.history_model.specs.Wholeness.{IsSound}
+use Rattle.history_model.specs.laws.Wholeness.{IsSound}
 use Rattle.history_model.proofs.WholeLists.{either, same_text}
 use Rattle.history_model.proofs.WholeSteps.{steps_keep_sound}
 use Rattle.history_layout.specs.CommandEdits.{moved_by, moved_on}

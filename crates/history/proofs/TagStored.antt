@@ -8,7 +8,7 @@ use Rattle.history_model.specs.Objects.{Value, StoredTag}
 use Rattle.history_model.specs.Repository.{Values}
 use Rattle.history_model.specs.Commands.{Tag, TagCommand}
 use Rattle.history_model.specs.Meaning.{new_tag, store_all, store_one, stored_by}
-use Rattle.history_model.specs.Wholeness.{IsSound}
+use Rattle.history_model.specs.laws.Wholeness.{IsSound}
 use Rattle.history_model.specs.declared.Fault.TheVariants.{Memory, File, IdTaken}
 use Rattle.history_layout.specs.Passing.{HoldsFirst}
 use Rattle.history_layout.proofs.PassedStops.{first_are_some, tags_store_whole}

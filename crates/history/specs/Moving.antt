@@ -6,7 +6,7 @@ use Rattle.history_model.specs.Bytes.{Bytes}
 use Rattle.history_model.specs.Causes.{first_cause}
 use Rattle.history_model.specs.Commands.{Command}
 use Rattle.history_model.specs.Meaning.{after}
-use Rattle.history_model.specs.Wholeness.{IsSound}
+use Rattle.history_model.specs.laws.Wholeness.{IsSound}
 use Rattle.history_model.specs.declared.Fault.{Fault}
 use Rattle.history_model.specs.declared.Fault.TheVariants.{Memory, File, IdTaken}
 use Rattle.history_layout.specs.EditFits.{CanBeEdited}

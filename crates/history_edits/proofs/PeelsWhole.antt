@@ -25,7 +25,7 @@ use Rattle.history_model.specs.Bytes.{Bytes, line}
 use Rattle.history_model.specs.Forms.{HasForm, is_actor, is_id, is_tag_name}
 use Rattle.history_model.specs.Objects.{CommitValue, TagValue, Value, StoredBytes, StoredCommit, StoredFolder, StoredTag, actor_text, content_of, hex, object_kind}
 use Rattle.history_model.specs.Repository.{Repository, as_commit, id_at, is_tag, is_tag_value, peeled, peeled_value}
-use Rattle.history_model.specs.Wholeness.{IsSound}
+use Rattle.history_model.specs.laws.Wholeness.{IsSound}
 use Rattle.history_model.proofs.IdLemmas.{has_kind, length-hex, one_id as same_id}
 use Rattle.history_model.proofs.OnePairLines.{six_parts}
 use Rattle.history_texts.proofs.CommitTexts.{id_formed}

@@ -32,7 +32,7 @@ use Rattle.history_model.specs.Meaning.{history_actor}
 use Rattle.history_model.specs.Objects.{object_kind, content_of}
 use Rattle.history_model.specs.Places.{file_at, log_place, packed_place}
 use Rattle.history_model.specs.Repository.{Repository, id_at, is_tag, peeled, stands}
-use Rattle.history_model.specs.Wholeness.{IsSound}
+use Rattle.history_model.specs.laws.Wholeness.{IsSound}
 use Rattle.history_layout.specs.EditFits.{CanBeEdited}
 use Rattle.history_layout.specs.EditSteps.{MovedName}
 use Rattle.history_layout.specs.PackSteps.{ArePacked, PacksAll, PacksNames, PacksOnTheWay, WritesAll, record_for}

@@ -14,7 +14,7 @@ use Rattle.gix_object_editor.specs.declared.tree.editor.state.Editor.{Editor}
 use Rattle.history_model.specs.Bytes.{Bytes}
 use Rattle.history_model.specs.FileMap as model
 use Rattle.history_model.specs.FileMap.{FileMap, IsFileMap, edited_by, folders_of, is_path, some_refused}
-use Rattle.history_model.specs.Laws.{EditsKeep}
+use Rattle.history_model.specs.laws.Trees.{EditsKeep}
 use Rattle.history_model.specs.Meaning.{put_bytes}
 use Rattle.history_model.specs.Objects.{StoredFolder, folder_id}
 use Rattle.history_model.proofs.WholeLists.{In, all_in, clash, in_left, in_map, in_right}

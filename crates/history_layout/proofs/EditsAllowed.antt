@@ -16,7 +16,7 @@ use Rattle.history_model.specs.CommandParts.{actors_in, targets}
 use Rattle.history_model.specs.Meaning.{after, read_actor}
 use Rattle.history_model.specs.Causes.{do_collide, first_cause, is_bad_actor, is_bad_title}
 use Rattle.history_model.specs.declared.Cause.TheVariants.{BadActor, BadMessage, BadTime, NameTwice, NoSuchName}
-use Rattle.history_model.specs.Wholeness.{IsSound}
+use Rattle.history_model.specs.laws.Wholeness.{IsSound}
 use Rattle.history_model.proofs.IdLemmas.{null_is_id}
 use Rattle.history_model.proofs.PlaceLemmas.{texts_apart, apart_texts}
 use Rattle.history_model.proofs.WholeForms.{after_written, name_parts}

@@ -17,7 +17,7 @@ use Rattle.history_model.specs.Commands.{Command, Commit, Tag, Move, MoveCommand
 use Rattle.history_model.specs.Meaning.{after, history_actor, moved_reference, read_actor, with_lines}
 use Rattle.history_model.specs.Causes.{first_cause}
 use Rattle.history_model.specs.declared.Cause.TheVariants.{NameTwice, NoSuchName}
-use Rattle.history_model.specs.Wholeness.{IsSound}
+use Rattle.history_model.specs.laws.Wholeness.{IsSound}
 use Rattle.history_model.proofs.AfterFirstLemmas.{get-with}
 use Rattle.history_model.proofs.IdLemmas.{id_itself, ids_apart}
 use Rattle.history_model.proofs.RecoveredLemmas.{some_is}

@@ -20,7 +20,7 @@ use Rattle.history_model.specs.Places.{Pair, file_at, head_place, packed_place, 
 use Rattle.history_model.specs.NameStates.{NameState, Absent, is_absent, name_state}
 use Rattle.history_model.specs.PackedNames.{PackedAgrees, packed_file}
 use Rattle.history_model.specs.StandsFor.{StandsFor}
-use Rattle.history_model.specs.Wholeness.{IsSound}
+use Rattle.history_model.specs.laws.Wholeness.{IsSound}
 use Rattle.history_layout.specs.Passing.{NamesOnTheWay, ReadsKept, log_in, reads_as}
 use Rattle.history_model.proofs.IdLemmas.{one_id, apart_ids}
 use Rattle.history_model.proofs.NameLemmas.{name-log, name-lock, log-lock}

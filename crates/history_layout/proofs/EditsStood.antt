@@ -19,7 +19,7 @@ use Rattle.history_model.specs.Places.{file_at, head_place, packed_place, log_pl
 use Rattle.history_model.specs.NameStates.{Holds, name_state}
 use Rattle.history_model.specs.PackedNames.{PackedAgrees, packed_file}
 use Rattle.history_model.specs.StandsFor.{head_text}
-use Rattle.history_model.specs.Wholeness.{IsSound}
+use Rattle.history_model.specs.laws.Wholeness.{IsSound}
 use Rattle.history_model.proofs.IdLemmas.{one_id, apart_ids}
 use Rattle.history_model.proofs.NameLemmas.{name-log}
 use Rattle.history_model.proofs.PlaceLemmas.{one_text, apart_texts}

@@ -12,7 +12,7 @@ use Rattle.history_model.specs.PackedNames.{packed_file}
 use Rattle.history_model.specs.Logs.{whole_lines}
 use Rattle.history_model.specs.Places.{Pair, file_at, head_place, packed_place, log_place, is_lock_file, is_log_place, is_name_place, log_name}
 use Rattle.history_model.specs.StandsFor.{StandsFor}
-use Rattle.history_model.specs.Wholeness.{IsSound}
+use Rattle.history_model.specs.laws.Wholeness.{IsSound}
 use Rattle.gix_hash.specs.declared.kind.Kind.{Kind}
 use Rattle.history_layout.specs.TreeHalves.{HoldsNames}
 use Rattle.history_layout.specs.Passing.{NamesOnTheWay, log_in}

@@ -13,7 +13,7 @@ use Rattle.history_model.specs.NameStates.{NameState, Holds, Absent, is_absent, 
 use Rattle.history_model.specs.PackedNames.{PackedAgrees, packed_file}
 use Rattle.history_model.specs.Places.{Pair, file_at, head_place, packed_place, log_place, log_name, is_log_place, is_lock_file, is_name_place}
 use Rattle.history_model.specs.StandsFor.{StandsFor}
-use Rattle.history_model.specs.Wholeness.{IsSound}
+use Rattle.history_model.specs.laws.Wholeness.{IsSound}
 use Rattle.history_layout.specs.TreeHalves.{HoldsValues, HoldsNames}
 use Rattle.history_layout.specs.Passing.{HoldsBetween, NamesOnTheWay, log_in, reads_as}
 use Rattle.history_layout.specs.PackSteps.{HasPacked, PacksNames, PacksOnTheWay, ReadsAlike, PacksReadAlike, PacksPass, PacksStand}

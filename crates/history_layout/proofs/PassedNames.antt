@@ -14,7 +14,7 @@ use Rattle.history_model.specs.StandsFor.{StandsFor, StandsWhole}
 use Rattle.history_layout.specs.TreeHalves.{HoldsValues, HoldsNames}
 use Rattle.history_model.specs.Stops.{LeftByStop, Between, NameBetween, deletes, made, is_changing}
 use Rattle.history_model.specs.Moments.{LeavesStopped}
-use Rattle.history_model.specs.Wholeness.{IsSound}
+use Rattle.history_model.specs.laws.Wholeness.{IsSound}
 use Rattle.history_layout.specs.Passing.{HoldsBetween, MovingStops, passing}
 use Rattle.history_model.specs.declared.Cause.{Cause}
 use Rattle.gix_hash.specs.declared.kind.Kind.{Kind}

@@ -7,7 +7,7 @@ use Rattle.history_model.specs.Bytes.{Bytes, by_bytes}
 use Rattle.history_model.specs.FileMap.{is_below}
 use Rattle.gix_hash.specs.Id.{Id}
 use Rattle.history_model.specs.Repository.{Repository, Reference, LogEntry, id_at, moves_at, stands}
-use Rattle.history_model.specs.Forms.{is_name}
+use Rattle.history_model.specs.Forms.{is_name, is_private}
 use Rattle.history_model.specs.Commands.{Command, Rename}
 use Rattle.history_model.specs.CommandParts.{targets}
 use Rattle.history_model.specs.Meaning.{References, after, stored_by}
@@ -17,13 +17,12 @@ use Rattle.history_model.specs.PackedNames.{PackedFile, PackedAgrees, packed_fil
 use Rattle.gix_ref_format.specs.Packed.{Record}
 use Rattle.history_model.specs.Places.{Pair, file_at, head_place, packed_place, log_place, is_log_place, log_name, is_lock_file, is_name_place}
 use Rattle.history_model.specs.NameStates.{NameState, Holds, Symbolic, Absent, Faulty, is_absent, loose_state, packed_state, packed_text_state, name_state}
-use Rattle.history_model.specs.Forms.{is_private}
 use Rattle.history_model.specs.Recovery.{is_leftover, is_deserted, recovered_files, recovered_names, recovered_node}
 use Rattle.history_model.specs.StandsFor.{StandsFor, head_text}
 use Rattle.history_layout.specs.TreeHalves.{HoldsNames}
 use Rattle.history_model.specs.Stops.{NameBetween, IsNotLost, deletes}
 use Rattle.history_layout.specs.Passing.{HoldsBetween, NamesBegin, NamesOnTheWay, NamesPass, ReadsKept, log_in, passing, reads_as}
-use Rattle.history_model.specs.Wholeness.{IsSound}
+use Rattle.history_model.specs.laws.Wholeness.{IsSound}
 use Rattle.history_model.proofs.NameLemmas.{log-lock, name-log}
 use Rattle.history_model.proofs.RecoveryLemmas.{recovery_keeps, recovery_reads, file_kept, get-recovered_files, get-recovered_names}
 use Rattle.history_layout.proofs.PassedStops.{packed_more}

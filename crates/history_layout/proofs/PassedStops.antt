@@ -18,7 +18,7 @@ use Rattle.history_model.specs.Recovery.{recovered, recovered_names}
 use Rattle.history_layout.specs.TreeHalves.{HoldsNames, NamesSpeakOfMore}
 use Rattle.history_model.specs.Stops.{LeftByStop, Between, IsNotLost, is_changing}
 use Rattle.history_model.specs.Moments.{LeavesStopped}
-use Rattle.history_model.specs.Wholeness.{IsSound}
+use Rattle.history_model.specs.laws.Wholeness.{IsSound}
 use Rattle.history_layout.specs.Passing.{HoldsSome, StoresWhole, AreNewFolders, commit_puts, CommitsStoreWhole, TagsStoreWhole, StoringStops, SomeStops, FirstAreSome}
 use Rattle.history_model.specs.declared.Cause.{Cause}
 use Rattle.history_model.proofs.PartLemmas.{head_same, tail_same}

@@ -12,7 +12,7 @@ use Rattle.history_model.specs.Commands.{Rename}
 use Rattle.history_model.specs.Meaning.{References, after, history_actor, moved_reference}
 use Rattle.history_model.specs.Causes.{first_cause}
 use Rattle.history_model.specs.declared.Cause.TheVariants.{NameTwice, NoSuchName}
-use Rattle.history_model.specs.Wholeness.{IsSound}
+use Rattle.history_model.specs.laws.Wholeness.{IsSound}
 use Rattle.history_layout.specs.RenameSteps.{held_id}
 use Rattle.history_model.proofs.AfterFirstLemmas.{get-with}
 use Rattle.history_model.proofs.RecoveredLemmas.{some_is}

@@ -4,7 +4,7 @@ use Rattle.history_model.specs.Bytes.{Bytes}
 use Rattle.history_model.specs.Repository.{Repository}
 use Rattle.history_model.specs.Commands.{Commit, CommitCommand, Tag, TagCommand, Move, MoveCommand, To, Rename, Delete}
 use Rattle.history_model.specs.Causes.{first_cause}
-use Rattle.history_model.specs.Wholeness.{IsSound}
+use Rattle.history_model.specs.laws.Wholeness.{IsSound}
 use Rattle.history_layout.specs.OneNameSteps.{NameMove, commit_move, tag_move, entry_of_move}
 use Rattle.history_layout.specs.MoveSteps.{line_entry}
 use Rattle.history_layout.specs.EditSteps.{MovedName, AreEditsOf, renamed}

@@ -7,7 +7,7 @@ use Rattle.history_model.specs.Repository.{Repository, id_at, stands}
 use Rattle.history_model.specs.Forms.{is_log_entry, is_name}
 use Rattle.history_model.specs.Commands.{Commit, CommitCommand, Tag, TagCommand, Move, MoveCommand, Rename, Delete}
 use Rattle.history_model.specs.Causes.{do_collide, first_cause}
-use Rattle.history_model.specs.Wholeness.{IsSound}
+use Rattle.history_model.specs.laws.Wholeness.{IsSound}
 use Rattle.history_layout.specs.OneNameSteps.{commit_move, tag_move}
 use Rattle.history_layout.specs.CommandEdits.{moved_by, moved_on}
 use Rattle.history_layout.specs.EditSteps.{MovedName, edited_names, moved_name, renamed}

@@ -17,7 +17,7 @@ use Rattle.history_model.specs.Logs.{log_line}
 use Rattle.history_model.specs.Stops.{deletes}
 use Rattle.history_model.specs.Places.{Pair, file_at, packed_place, log_place, is_lock_file, is_name_folder}
 use Rattle.history_model.specs.StandsFor.{StandsFor}
-use Rattle.history_model.specs.Wholeness.{IsSound}
+use Rattle.history_model.specs.laws.Wholeness.{IsSound}
 use Rattle.history_layout.specs.TreeHalves.{HoldsNames}
 use Rattle.history_layout.specs.Passing.{NamesOnTheWay}
 use Rattle.history_layout.specs.RenameSteps.{held_id, rename_entry}

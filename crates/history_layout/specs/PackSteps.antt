@@ -16,7 +16,7 @@ use Rattle.history_model.specs.NameStates.{name_state}
 use Rattle.history_model.specs.PackedNames.{PackedFile, packed_file, is_packed_form}
 use Rattle.history_model.specs.Places.{Pair, file_at, head_place, packed_place, log_place, is_lock_file, is_name_folder}
 use Rattle.history_model.specs.StandsFor.{StandsFor}
-use Rattle.history_model.specs.Wholeness.{IsSound}
+use Rattle.history_model.specs.laws.Wholeness.{IsSound}
 use Rattle.history_layout.specs.Passing.{HoldsBetween}
 
 -- the record of a name that exists and isn't private: its id, and for a tag the commit that it is

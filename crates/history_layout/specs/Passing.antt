@@ -24,7 +24,7 @@ use Rattle.gix_ref_file.specs.History.{History, moment}
 use Rattle.history_model.specs.Replies.{Reply}
 use Rattle.history_model.specs.Steps.{some_failed}
 use Rattle.history_model.specs.Moments.{GoesOnFrom, LeavesStopped, Moment, ActsOn, last_moment}
-use Rattle.history_model.specs.Wholeness.{IsSound}
+use Rattle.history_model.specs.laws.Wholeness.{IsSound}
 use Rattle.gix_hash.specs.declared.kind.Kind.{Kind}
 
 -- ---- values

@@ -10,7 +10,7 @@ use Rattle.history_model.specs.Meaning.{after}
 use Rattle.history_model.specs.Causes.{first_cause}
 use Rattle.history_model.specs.Places.{Pair, file_at, head_place, is_lock_file, is_name_folder}
 use Rattle.history_model.specs.StandsFor.{StandsFor, head_text}
-use Rattle.history_model.specs.Wholeness.{IsSound}
+use Rattle.history_model.specs.laws.Wholeness.{IsSound}
 use Rattle.history_layout.specs.TreeHalves.{HoldsNames}
 use Rattle.history_layout.specs.Passing.{HoldsBetween}
 

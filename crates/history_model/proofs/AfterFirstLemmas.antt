@@ -16,7 +16,7 @@ use Rattle.history_model.specs.Causes.{first_cause, is_unknown, is_ambiguous, is
 use Rattle.history_model.specs.Answers.{StandsForCommit, files_shown, commit_shown, content_shown}
 use Rattle.history_model.specs.Replies.{Committed, FilesAre, ShowsCommit, ShowsContent}
 use Rattle.history_model.specs.Steps.{Step}
-use Rattle.history_model.specs.Rows.{first_command, first_commit, sample_actor}
+use Rattle.history_model.specs.laws.Rows.{first_command, first_commit, sample_actor}
 use Rattle.history_model.specs.declared.Cause.{Cause}
 use Rattle.gix_hash.specs.declared.kind.Kind.TheVariants.{Sha1}
 use Rattle.std.proofs.lemmas.Bool.{or_from}

@@ -17,14 +17,14 @@ use Rattle.gix_traverse_graph.specs.declared.parents.Parents.TheVariants.{All as
 use Rattle.gix_traverse_graph.proofs.Listing.{one_set}
 use Rattle.history_model.specs.Answers.{IsLog, commits_of, walk_request, kept, tip_word, hidden_word, since_of}
 use Rattle.history_model.specs.Steps.{Step}
-use Rattle.history_model.specs.Wholeness.{IsSound}
+use Rattle.history_model.specs.laws.Wholeness.{IsSound}
 use Rattle.history_model.specs.Causes.{first_cause}
 use Rattle.history_model.specs.Forms.{title}
 use Rattle.history_model.proofs.LogLemmas.{some_order}
 use Rattle.history_model.proofs.WholeLists.{in_right, text_itself}
 use Rattle.history_model.proofs.WholeStored.{stored_there}
 use Rattle.history_model.proofs.WholeSteps.{steps_keep_sound}
-use Rattle.history_model.specs.Alike.{base_files, files_of_name, GraftsRead, Commits, EditsCutAnyWay, IsPlainLog, OrdersPrintOneSet}
+use Rattle.history_model.specs.laws.Alike.{base_files, files_of_name, GraftsRead, Commits, EditsCutAnyWay, IsPlainLog, OrdersPrintOneSet}
 use Rattle.history_model.proofs.AfterFirstLemmas.{get-with}
 
 -- ---- orders

@@ -8,7 +8,7 @@ use Rattle.history_model.specs.NameStates.{Holds, name_state}
 use Rattle.history_model.specs.Places.{file_at, unfinished_place}
 use Rattle.history_model.specs.Recovery.{recovered_objects, recovered_names}
 use Rattle.history_model.specs.Repository.{peeled}
-use Rattle.history_model.specs.Laws.{StopsAreClosed}
+use Rattle.history_model.specs.laws.Stopping.{StopsAreClosed}
 use Rattle.history_model.proofs.PlaceLemmas.{texts_apart}
 use Rattle.history_model.proofs.RecoveryLemmas.{get-kept, recovery_reads}
 

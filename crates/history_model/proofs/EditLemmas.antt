@@ -1,16 +1,15 @@
 -- An edit at a path leaves a file map.
-use Rattle.std.proofs.Common.{◌≡◌, ◌⊎◌, Bool, true, false, cond, not, ◌&&◌, ◌||◌, List, [], ◌∷◌, ◌++◌, length, take, refl, sym, ◌∙◌, ap, subst, arith, inl, inr, Option, Some, None, is_some, bytes_eq, length-append, length-take}
+use Rattle.std.proofs.Common.{◌≡◌, ◌⊎◌, Bool, true, false, cond, not, ◌||◌, List, [], ◌∷◌, ◌++◌, length, take, refl, sym, ◌∙◌, ap, subst, arith, inl, inr, Option, Some, None, is_some, bytes_eq, length-append, length-take}
 use Rattle.std.specs.List.{list_all, AllByRecursion}
-use Rattle.std.specs.declared.cmp.Ordering.TheVariants.{Equal}
 use Rattle.std.specs.Ordering.{eq_by_cmp}
 use Rattle.std.specs.Cmp.Lexicographic.{unequal}
-use Rattle.std.specs.FinMap.{FinMap, get, contains_key, insert, retain_keys, get-insert, get-retain_keys, slice_cmp-IsAntisymmetric, nat_cmp-IsAntisymmetric}
+use Rattle.std.specs.FinMap.{FinMap, get, contains_key, insert, retain_keys, get-insert, get-retain_keys}
 use Rattle.std.proofs.lemmas.Cmp.{nat_list_cmp_total}
 use Rattle.std.proofs.lemmas.Map.Text.{is_eq-slice_cmp}
 use Rattle.std.proofs.lemmas.Slice.Eq.{bytes_eq-Decides}
 use Rattle.history_model.specs.Bytes.{Bytes, by_bytes}
 use Rattle.history_model.specs.FileMap.{FileMap, Content, Edit, Put, Remove, RemoveFile, Graft, IsFileMap, ComesFromFiles, edited, edited_by, edit_path, is_path, is_below, is_within, put_at, cleared, carried, with_all}
-use Rattle.std.proofs.lemmas.Bool.{and_parts, not-true}
+use Rattle.std.proofs.lemmas.Bool.{and_parts}
 use Rattle.history_model.proofs.WholeStores.{same_tie}
 use Rattle.history_model.proofs.GraftLemmas.{IsCarried, had_all, of_carried, follows_there, with_rest_path, carried_apart, below_carried, carried_below}
 

@@ -12,7 +12,7 @@ use Rattle.history_model.proofs.GrammarLemmas.{words_differ}
 use Rattle.history_model.specs.Objects.{Value, StoredBytes, StoredFolder, blob_id, folder_id, mode_of, entry_at}
 use Rattle.gix_hash.specs.Id.{Id}
 use Rattle.history_model.specs.Repository.{Repository, IsWhole, IsStored, file_values}
-use Rattle.history_model.specs.Laws.{EntriesTellFiles, IsTreeIn}
+use Rattle.history_model.specs.laws.Trees.{EntriesTellFiles, IsTreeIn}
 use Rattle.history_model.specs.declared.FileKind.{FileKind}
 use Rattle.history_model.specs.declared.FileKind.TheVariants.{File, Exec, Link}
 use Rattle.history_model.specs.FileMap.{FileMap, Content, IsFileMap, is_below, is_within, has_below, cut_to, inside, beginnings, beginnings_from, folders_of}

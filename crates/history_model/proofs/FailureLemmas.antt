@@ -1,6 +1,6 @@
 -- What commands did if it isn't said whether a reading may fail, and which of them met the failed
 -- call.
-use Rattle.std.proofs.Common.{◌≡◌, ◌⊎◌, ℕ, zero, suc, ◌-◌, ◌^◌, ◌<◌, ◌≤◌, ◌≢◌, inl, inr, Bool, true, false, not, ◌&&◌, List, [], ◌∷◌, refl, sym, ◌∙◌, ap, subst, Contains, IsTrue, arith}
+use Rattle.std.proofs.Common.{◌≡◌, ◌⊎◌, ℕ, zero, suc, ◌-◌, ◌^◌, ◌<◌, ◌≤◌, ◌≢◌, inl, inr, true, false, not, ◌&&◌, List, [], ◌∷◌, refl, sym, ◌∙◌, ap, subst, Contains, IsTrue, arith}
 use Rattle.std.specs.List.{AllByRecursion}
 use Rattle.gix_ref_file.specs.History.{History, HasRisen}
 use Rattle.history_model.specs.Repository.{Repository}
@@ -8,8 +8,8 @@ use Rattle.history_model.specs.Commands.{Command}
 use Rattle.history_model.specs.Replies.{Reply, Faulted}
 use Rattle.history_model.specs.Steps.{goes_on, some_failed}
 use Rattle.history_model.specs.Moments.{Moment, ActedOn, ActsOn, HasFailedCall, HasCountedFailure, CountsStay, last_moment}
-use Rattle.history_model.specs.Laws.{TracesWeaken}
-use Rattle.history_model.specs.Failures.{IsUncounted, FaultsAreCounted, EndsByFailedCall, FaultsComeLast, UnfailedCountNone}
+use Rattle.history_model.specs.laws.Joining.{TracesWeaken}
+use Rattle.history_model.specs.laws.Failures.{IsUncounted, FaultsAreCounted, EndsByFailedCall, FaultsComeLast, UnfailedCountNone}
 use Rattle.history_model.specs.declared.Fault.TheVariants.{File}
 use Rattle.std.proofs.lemmas.Bool.{not-false, or_parts}
 

@@ -1,9 +1,9 @@
 -- A command's parts begin with its first line.
-use Rattle.std.proofs.Common.{◌≡◌, ℕ, true, List, [], ◌∷◌, ◌++◌, length, map, refl, ap, flat_map, Some, None, codes}
+use Rattle.std.proofs.Common.{◌≡◌, true, List, [], ◌∷◌, ◌++◌, length, map, refl, ap, flat_map, Some, None, codes}
 use Rattle.std.specs.List.{list_all}
 use Rattle.history_model.specs.Bytes.{Bytes}
 use Rattle.history_model.specs.Commands.{Command, Commit, Tag, Move, Rename, Delete, Switch, Pack, Index, Names, Files, Past, Log, Show}
-use Rattle.history_model.specs.Spelling.{Part, Line, Field, parts_of, is_part, has_enough, are_items, path_words, option_list, order_words, parents_word, item_word}
+use Rattle.history_model.specs.Spelling.{Part, Line, Field, parts_of, is_part, has_enough, path_words, order_words, parents_word, item_word}
 use Rattle.history_model.specs.Lines.{words_of, size_words, first_line, FirstLinesBegin}
 use Rattle.std.proofs.lemmas.Bool.{and_parts}
 

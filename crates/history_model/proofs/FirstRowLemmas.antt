@@ -12,8 +12,7 @@ use Rattle.history_model.specs.Forms.{max_content}
 use Rattle.history_model.specs.Commands.{Commit}
 use Rattle.history_model.specs.Meaning.{stored_by, parents_of}
 use Rattle.history_model.specs.Causes.{first_cause, holds, do_collide}
-use Rattle.history_model.specs.Rows.{first_command, first_commit}
-use Rattle.history_model.specs.declared.Cause.{Cause}
+use Rattle.history_model.specs.laws.Rows.{first_command, first_commit}
 use Rattle.history_model.specs.declared.Cause.TheVariants.{Taken, Collides, HoldsTag, TooLarge}
 use Rattle.gix_hash.specs.Order.{id_eq}
 use Rattle.gix_hash.specs.declared.kind.Kind.TheVariants.{Sha1}

@@ -1,5 +1,5 @@
 -- The files of names and logs are in the formats that gix_ref_format reads.
-use Rattle.std.proofs.Common.{◌≡◌, ℕ, ◌-◌, ◌==◌, Bool, true, false, cond, not, ◌&&◌, ◌||◌, List, [], ◌∷◌, ◌++◌, length, take, drop, refl, sym, ◌∙◌, ap, subst, arith, tests, Option, Some, None, option_map, unwrap_or, bytes_eq, nat_le, codes, append_assoc, append-nil, filter, take-append-drop}
+use Rattle.std.proofs.Common.{◌≡◌, ◌-◌, ◌==◌, Bool, true, false, cond, not, ◌&&◌, ◌||◌, [], ◌∷◌, ◌++◌, length, take, drop, refl, sym, ◌∙◌, ap, subst, arith, tests, Option, Some, None, option_map, unwrap_or, bytes_eq, nat_le, codes, append_assoc, append-nil, filter, take-append-drop}
 use Rattle.std.specs.Str.{is_utf8}
 use Rattle.std.proofs.Math.Seq.{take-append_seam, drop-append_seam}
 use Rattle.hex.specs.Hex.{hex_digit_value}
@@ -15,7 +15,7 @@ use Rattle.gix_ref_format.specs.Loose.{loose_target, loose_text, referent, leadi
 use Rattle.gix_ref_format.proofs.WrittenLemmas.{name_reads}
 use Rattle.history_model.specs.Bytes.{Bytes, begins, ends, line}
 use Rattle.history_model.specs.Forms.{is_name, is_private, max_name}
-use Rattle.history_model.specs.Formats.{LooseReadsAlike, RecordsAlike, CandidatesAlike, LinesAlike}
+use Rattle.history_model.specs.laws.Formats.{LooseReadsAlike, RecordsAlike, CandidatesAlike, LinesAlike}
 use Rattle.history_model.specs.Objects.{hex, actor_text}
 use Rattle.history_model.specs.PackedNames.{id_from_hex}
 use Rattle.history_model.specs.NameStates.{NameState, Holds, Symbolic, Faulty, loose_line}

@@ -1,6 +1,6 @@
 -- What a graft puts, and where.
 use Rattle.std.proofs.Common.{ℕ, nat_eq, is_some, ◌≡◌, ◌≢◌, ◌⊎◌, Bool, true, false, cond, not, ◌&&◌, ◌||◌, List, [], ◌∷◌, ◌++◌, ◌==◌, ◌+◌, length, drop, refl, sym, ◌∙◌, ap, subst, arith, inl, inr, Option, Some, None, bytes_eq, option_map}
-use Rattle.std.specs.List.{list_any, slice_split, onto_first, filter_map, cons_option}
+use Rattle.std.specs.List.{list_any, onto_first, filter_map, cons_option}
 use Rattle.std.specs.FinMap.{get, insert, entries, contains_key}
 use Rattle.std.proofs.lemmas.Bool.{and_parts, and_from, or_parts, not-true}
 use Rattle.std.proofs.lemmas.List.{length-append}
@@ -8,7 +8,7 @@ use Rattle.std.proofs.lemmas.Option.{same_Some}
 use Rattle.history_model.specs.Bytes.{Bytes, has_byte, is_empty}
 use Rattle.history_model.specs.FileMap.{FileMap, Content, IsFileMap, components, is_path, is_below, is_within, rest_behind, with_rest, carried, with_all}
 use Rattle.history_model.proofs.AfterFirstLemmas.{get-with}
-use Rattle.history_model.proofs.WholeLists.{In, either, clash, same_text, text_itself, none_is_some}
+use Rattle.history_model.proofs.WholeLists.{In, either, clash, same_text, none_is_some}
 use Rattle.history_model.proofs.WholePaths.{below_parts, below_front, below_below, inner_below, eq_same, same_eq}
 use Rattle.history_model.proofs.WholeStores.{in_get}
 

@@ -9,7 +9,7 @@ use Rattle.history_model.specs.FileMap.{FileMap, Content, Graft, is_within, graf
 use Rattle.std.specs.Fmt.{digits}
 use Rattle.history_model.specs.Commands.{GraftLine}
 use Rattle.history_model.specs.Spelling.{edit_parts, parts_text}
-use Rattle.history_model.specs.Rows.{content, lines, lib_list, lib_files, GraftMakes}
+use Rattle.history_model.specs.laws.Rows.{content, lines, lib_list, lib_files, GraftMakes}
 use Rattle.history_model.proofs.RowLemmas.{entries-empty}
 use Rattle.history_model.proofs.WholeItems.{entries_from}
 use Rattle.history_model.proofs.WholeStores.{one_by_keys, get_in, get_retained}

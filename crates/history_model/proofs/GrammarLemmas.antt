@@ -5,7 +5,8 @@ use Rattle.std.proofs.lemmas.Slice.Eq.{bytes_eq-Decides}
 use Rattle.history_model.specs.Bytes.{Bytes}
 use Rattle.history_model.specs.Commands.{Command, Commit, Tag, Move, Rename, Delete, Switch, Pack, Index, Names, Files, Past, Log, Show, Expect, Any, New, At, ActorLine, EditLine, PutLine, RemoveLine, RemoveFileLine, GraftLine, To, Order, Breadth, Newest, Oldest, NewestSince, OldestSince, Date, Topological, LogItem, Tip, Hidden}
 use Rattle.history_model.specs.Spelling.{Part, Line, Field, has_spelling, parents_word, expect_words, at_words, option_list, path_words, order_words, item_word, kind_word, edit_parts, to_part, parent_part, actor_parts, message_parts, end_part, parts_of, has_enough, is_part}
-use Rattle.history_model.specs.Grammar.{is_command, IsPrefixFree}
+use Rattle.history_model.specs.Grammar.{is_command}
+use Rattle.history_model.specs.laws.Grammars.{IsPrefixFree}
 use Rattle.history_model.specs.Stage.{is_spoken}
 use Rattle.history_model.specs.declared.FileKind.{FileKind}
 use Rattle.history_model.specs.declared.FileKind.TheVariants.{File, Exec, Link}

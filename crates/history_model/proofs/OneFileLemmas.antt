@@ -19,7 +19,7 @@ use Rattle.history_model.specs.Forms.{max_content}
 use Rattle.history_model.specs.Commands.{Commit, EditLine, PutLine}
 use Rattle.history_model.specs.Meaning.{new_commit, stored_by, first_files}
 use Rattle.history_model.specs.Causes.{first_cause, holds}
-use Rattle.history_model.specs.Rows.{content}
+use Rattle.history_model.specs.laws.Rows.{content}
 use Rattle.history_model.specs.declared.Cause.TheVariants.{TooLarge}
 use Rattle.gix_hash.specs.declared.kind.Kind.TheVariants.{Sha1}
 use Rattle.history_model.specs.declared.FileKind.TheVariants.{File}

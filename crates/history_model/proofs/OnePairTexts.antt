@@ -11,7 +11,7 @@ use Rattle.gix_hash.specs.Id.{Id}
 use Rattle.gix_hash.specs.Spelling.{hex_text}
 use Rattle.history_model.specs.Forms.{is_id, is_actor, is_actor_part, is_offset, max_seconds, max_actor_part}
 use Rattle.gix_hash.specs.declared.kind.Kind.{Kind}
-use Rattle.history_model.proofs.IdLemmas.{low_digit, id_digits, hex_tells}
+use Rattle.history_model.proofs.IdLemmas.{low_digit, id_digits}
 use Rattle.history_model.proofs.PartLemmas.{split_at, tail_same}
 use Rattle.history_model.proofs.WholeLists.{clash}
 use Rattle.history_model.proofs.WholeTexts.{cut_same, decimal_high}

@@ -13,7 +13,7 @@ use Rattle.history_model.specs.Replies.{Reply, RefusedFor, Faulted}
 use Rattle.history_model.specs.Meaning.{References, after, branch_or_name, read_actor, history_actor, new_commit, new_tag, with_name, with_lines, moved_reference, names_after}
 use Rattle.history_model.specs.Steps.{Step, Steps, goes_on, some_failed, next}
 use Rattle.history_model.specs.Stops.{LeftByStop, is_changing}
-use Rattle.history_model.specs.Pasts.{mover, move_message, step_moves, stands_through, moves_made, PastsTellMoves}
+use Rattle.history_model.specs.laws.Pasts.{mover, move_message, step_moves, stands_through, moves_made, PastsTellMoves}
 use Rattle.history_model.proofs.IdLemmas.{id_itself}
 use Rattle.history_model.proofs.WholeLists.{clash, same_text}
 use Rattle.history_model.proofs.WholeStores.{get_removed}

@@ -2,13 +2,13 @@
 -- id.
 use Rattle.std.proofs.Common.{◌≡◌, Bool, true, false, cond, List, [], ◌∷◌, ◌++◌, map, length, take, drop, refl, sym, ◌∙◌, ap, subst, arith, Option, Some, None, option_map, is_some, bytes_eq}
 use Rattle.std.specs.Ordering.{eq_by_cmp}
-use Rattle.std.specs.FinMap.{FinMap, entries, get, get-entries, get-from_entries, get-insert, insert}
+use Rattle.std.specs.FinMap.{entries, get, get-entries, get-from_entries}
 use Rattle.std.specs.FinMap.Entries.{find}
 use Rattle.std.proofs.lemmas.Cmp.{nat_list_cmp_total}
 use Rattle.std.proofs.lemmas.Map.Text.{is_eq-slice_cmp}
 use Rattle.std.proofs.lemmas.Slice.Eq.{bytes_eq-Decides}
 use Rattle.history_model.specs.Bytes.{Bytes, by_bytes}
-use Rattle.history_model.specs.Objects.{by_id, Value, hex, digest, value_text}
+use Rattle.history_model.specs.Objects.{by_id, Value, hex, value_text}
 use Rattle.gix_hash.specs.Id.{Id}
 use Rattle.gix_hash.specs.Order.{id_eq}
 use Rattle.gix_hash.specs.Kind.{hex_len}
@@ -19,7 +19,6 @@ use Rattle.history_model.specs.StandsFor.{value_files}
 use Rattle.gix_hash.specs.declared.kind.Kind.{Kind}
 use Rattle.history_model.proofs.IdLemmas.{has_kind, hex_tells, length-hex, one_id, id_itself, apart_ids, same_id_key, digest_is_id}
 use Rattle.history_model.proofs.PartLemmas.{head_same, tail_same}
-use Rattle.history_model.proofs.AfterFirstLemmas.{get-with}
 
 -- ---- texts
 

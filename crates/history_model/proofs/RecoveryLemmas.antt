@@ -5,9 +5,7 @@ use Rattle.std.specs.Ordering.{eq_by_cmp}
 use Rattle.std.specs.FinMap.{get, entries, keys, retain_keys, contains_key, contains_key-keys, get-from_entries, get-entries, get-retain_keys, same_map, slice_cmp-IsAntisymmetric, nat_cmp-IsAntisymmetric}
 use Rattle.std.specs.FinMap.Entries.{find}
 use Rattle.std.proofs.lemmas.Cmp.{nat_list_cmp_total}
-use Rattle.std.proofs.lemmas.Map.Text.{is_eq-slice_cmp}
 use Rattle.std.proofs.lemmas.Slice.Eq.{bytes_eq-Decides}
-use Rattle.std.specs.declared.cmp.Ordering.TheVariants.{Equal}
 use Rattle.gix_ref_file.specs.Tree.{Tree, Node, file, folder, bytes_of, is_folder}
 use Rattle.history_model.specs.Bytes.{Bytes, by_bytes, has_byte}
 use Rattle.history_model.specs.FileMap.{is_below}
@@ -16,7 +14,7 @@ use Rattle.history_model.specs.Logs.{whole_lines}
 use Rattle.history_model.specs.Places.{file_at, is_log_place, log_name, is_lock_file, packed_place, unfinished_place}
 use Rattle.history_model.specs.NameStates.{Absent, NameState, is_absent, loose_state, packed_text_state, name_state}
 use Rattle.history_model.specs.Recovery.{is_leftover, is_deserted, recovered_files, recovered_names, recovered_node, recovered_objects}
-use Rattle.history_model.specs.Laws.{RecoveryKeeps, RecoveryReads, RecoveryEnds}
+use Rattle.history_model.specs.laws.Folders.{RecoveryKeeps, RecoveryReads, RecoveryEnds}
 use Rattle.gix_hash.specs.declared.kind.Kind.{Kind}
 use Rattle.history_model.proofs.NameLemmas.{name-lock, name-log}
 use Rattle.std.proofs.lemmas.Bool.{and_parts, and_right}

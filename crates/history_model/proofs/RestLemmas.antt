@@ -5,7 +5,8 @@ use Rattle.std.proofs.lemmas.Fmt.{decimal_injective}
 use Rattle.history_model.specs.Bytes.{Bytes, has_byte, line}
 use Rattle.history_model.specs.Commands.{Command}
 use Rattle.history_model.specs.Spelling.{Part, Line, Field, parts_text, parts_of, is_part, is_word, max_line, has_spelling}
-use Rattle.history_model.specs.Grammar.{GoesOnOf, StopsByOf, HasOneRestCause, RestBeginsWithNone}
+use Rattle.history_model.specs.Grammar.{GoesOnOf, StopsByOf}
+use Rattle.history_model.specs.laws.Grammars.{HasOneRestCause, RestBeginsWithNone}
 use Rattle.history_model.specs.declared.Cause.{Cause}
 use Rattle.history_model.specs.declared.Cause.TheVariants.{Syntax, Truncated, LineTooLong}
 use Rattle.history_model.proofs.PartLemmas.{Agree, split_at, one_is_in, one_line, regrouped, words_same, same_length, below, head_same, tail_same}

@@ -5,9 +5,9 @@ use Rattle.std.specs.List.{list_all, join_with_byte}
 use Rattle.history_model.specs.Bytes.{Bytes, line, has_byte}
 use Rattle.history_model.specs.Commands.{Command, Commit, Files}
 use Rattle.history_model.specs.Spelling.{Part, Line, Field, parts_of, is_word}
-use Rattle.history_model.specs.Grammar.{HasRestCause}
+use Rattle.history_model.specs.Grammar.{HasRestCause, is_command}
 use Rattle.history_model.proofs.Offered.{LineFits, LineStands}
-use Rattle.history_model.specs.Rows.{first_command, xs, Gives, Refuses}
+use Rattle.history_model.specs.laws.Rows.{first_command, xs, Gives, Refuses}
 use Rattle.history_model.specs.Repository.{fresh}
 use Rattle.history_model.specs.Replies.{reply_text, RefusedFor}
 use Rattle.history_model.specs.declared.Cause.{Cause}
@@ -17,7 +17,6 @@ use Rattle.history_model.proofs.PartLemmas.{words_same, split_at, one_line}
 use Rattle.history_model.proofs.GrammarLemmas.{words_differ}
 use Rattle.history_model.proofs.RestLemmas.{line_part}
 use Rattle.history_model.proofs.GrammarLemmas.{is_spelled}
-use Rattle.history_model.specs.Grammar.{is_command}
 use Rattle.std.proofs.lemmas.Bool.{and_parts}
 
 abbrev word_of : Part → Bytes

@@ -1,5 +1,5 @@
 -- Rounds of runs, stopped or at their end, and of recoveries.
-use Rattle.std.proofs.Common.{◌≡◌, ◌⊎◌, ◌==◌, ℕ, Bool, true, false, not, ◌&&◌, ◌||◌, List, [], ◌∷◌, ◌++◌, refl, sym, ◌∙◌, ap, subst, inl, inr, Option, None, Some, is_some, MatchBool, unwrap_or, IsTrue, arith}
+use Rattle.std.proofs.Common.{◌≡◌, ◌⊎◌, ◌==◌, ℕ, Bool, true, false, not, ◌&&◌, ◌||◌, List, [], ◌∷◌, ◌++◌, refl, sym, ◌∙◌, ap, subst, inl, inr, Option, None, Some, is_some, MatchBool, IsTrue, arith}
 use Rattle.std.specs.List.{list_all, flat_map}
 use Rattle.gix_ref_file.specs.History.{History}
 use Rattle.std.proofs.lemmas.Bool.Decides.{nat_tests}
@@ -17,13 +17,13 @@ use Rattle.history_model.specs.Stops.{LeftByStop, Between, is_changing}
 use Rattle.history_model.specs.Steps.{Step, Steps, goes_on, some_failed}
 use Rattle.history_model.specs.Runs.{BeginsWith, Runs, EndsReading, EndsWriting, Ends, CutsShort}
 use Rattle.history_model.specs.Moments.{Moment, IsPairAt, IsCommandPair, StandsAt, ActedOn, ActsOn, last_moment}
-use Rattle.history_model.specs.Rounds.{HasWritten, IsCutOff, Round, IsStoppedIn, IsLast, IsRunOf, Recovers, IsLeft, IsRound, Leaves, IsOutcome}
-use Rattle.history_model.specs.Laws.{RoundsJoin, WritesReplies, RunsEnd, RunsHaveWritten, TracesStop}
+use Rattle.history_model.specs.Rounds.{HasWritten, IsCutOff, Round, IsStoppedIn, IsLast, IsRunOf, Recovers, IsLeft, IsRound, Leaves, IsOutcome, WritesReplies}
+use Rattle.history_model.specs.laws.Joining.{RoundsJoin, RunsEnd, RunsHaveWritten, TracesStop}
 use Rattle.history_model.specs.declared.End.{End}
 use Rattle.history_model.specs.declared.End.TheVariants.{Input, Refused as ByRefusal, Fault as ByFault}
 use Rattle.gix_hash.specs.declared.kind.Kind.{Kind}
 use Rattle.history_model.proofs.RecoveredLemmas.{recovered_stands}
-use Rattle.std.proofs.lemmas.Bool.{or_parts, not-false, or_right, or_left}
+use Rattle.std.proofs.lemmas.Bool.{or_right, or_left}
 use Rattle.std.proofs.lemmas.Option.{same_Some}
 
 -- ---- the kind stays

@@ -1,5 +1,5 @@
 -- Worked rows, computed.
-use Rattle.std.proofs.Common.{◌≡◌, List, [], ◌∷◌, ◌++◌, refl, sym, ◌∙◌, ap, arith, codes, length}
+use Rattle.std.proofs.Common.{◌≡◌, [], ◌∷◌, ◌++◌, refl, sym, ◌∙◌, ap, codes, length}
 use Rattle.std.specs.FinMap.{entries, empty, len-entries, len-empty, get-empty}
 use Rattle.std.specs.FinMap.Entries.{put}
 use Rattle.sha1.specs.Sha1.{sha1, hash_after, compress, rounds, schedule, first_words, digest_bytes}
@@ -12,7 +12,7 @@ use Rattle.history_model.specs.FileMap.{Content}
 use Rattle.history_model.specs.Objects.{hex, digest, blob_text, blob_id, empty_tree_id, tree_text, object_text, root, root_within, folder_id, commit_content, id_of, StoredCommit}
 use Rattle.history_model.specs.Repository.{fresh, Reference}
 use Rattle.history_model.specs.Meaning.{new_commit}
-use Rattle.history_model.specs.Rows.{first_command, first_commit, three_files, content}
+use Rattle.history_model.specs.laws.Rows.{first_command, first_commit, three_files, content}
 use Rattle.gix_hash.specs.declared.kind.Kind.{Kind}
 use Rattle.gix_hash.specs.declared.kind.Kind.TheVariants.{Sha1, Sha256}
 use Rattle.history_model.specs.declared.FileKind.TheVariants.{Exec}

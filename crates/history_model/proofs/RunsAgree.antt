@@ -1,5 +1,5 @@
 -- Two runs over one input agree.
-use Rattle.std.proofs.Common.{◌≡◌, ◌⊎◌, inl, inr, Bool, true, false, not, ◌&&◌, List, [], ◌∷◌, ◌++◌, refl, sym, ◌∙◌, ap, subst, MatchBool, append_assoc, append-nil, length-append, ◌≢◌, ◌≤◌, ◌+◌, ◌||◌, ℕ, zero, suc, length, take, arith}
+use Rattle.std.proofs.Common.{◌≡◌, ◌⊎◌, inl, inr, Bool, true, false, not, ◌&&◌, List, [], ◌∷◌, ◌++◌, refl, sym, ◌∙◌, ap, subst, MatchBool, append_assoc, append-nil, length-append, ◌≢◌, ◌≤◌, ◌+◌, ℕ, zero, suc, length, take, arith}
 use Rattle.std.specs.List.{list_all, flat_map, join_with_byte}
 use Rattle.history_model.specs.Bytes.{Bytes, line, has_byte}
 use Rattle.history_model.specs.Repository.{Repository}
@@ -7,15 +7,14 @@ use Rattle.history_model.specs.Commands.{Command, Commit, Tag, Move, Rename, Del
 use Rattle.history_model.specs.Spelling.{Part, Line, parts_of, parts_text, spelling, max_line}
 use Rattle.history_model.specs.Grammar.{is_command, HasRestCause}
 use Rattle.history_model.proofs.Offered.{StopsBy}
-use Rattle.history_model.specs.Replies.{Reply, Faulted, LogIs, reply_text}
+use Rattle.history_model.specs.Replies.{Reply, LogIs, reply_text}
 use Rattle.history_model.specs.Answers.{kept, time_at}
 use Rattle.history_model.specs.Stops.{is_changing}
-use Rattle.history_model.specs.Steps.{Steps, is_faulted, some_failed, next}
-use Rattle.history_model.specs.Runs.{Runs}
-use Rattle.history_model.specs.Laws.{DifferAtOneTime, leaves_choice, ListsAlike, AreAlike, AreAllAlike, have_no_fault, is_sure, TellsFault, RunsAgree, RunsGive}
+use Rattle.history_model.specs.Steps.{Steps, is_faulted, next, leaves_choice, have_no_fault, is_sure}
+use Rattle.history_model.specs.Runs.{Runs, TellsFault}
+use Rattle.history_model.specs.laws.Determined.{DifferAtOneTime, ListsAlike, AreAlike, AreAllAlike, RunsAgree, RunsGive}
 use Rattle.history_model.specs.declared.Cause.{Cause}
 use Rattle.history_model.specs.declared.Cause.TheVariants.{Syntax, Truncated, LineTooLong}
-use Rattle.history_model.specs.declared.Fault.TheVariants.{Memory}
 use Rattle.history_model.specs.declared.End.TheVariants.{Input, Refused as ByRefusal, Fault as ByFault}
 use Rattle.history_model.proofs.GrammarLemmas.{is_spelled, offered_prefix_free}
 use Rattle.history_model.proofs.RestLemmas.{rest_begins_with_none}

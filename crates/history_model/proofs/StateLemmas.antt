@@ -1,10 +1,9 @@
 -- What `files` prints, and what a `pack` leaves.
-use Rattle.std.proofs.Common.{◌≡◌, Bool, true, false, not, ◌&&◌, T, List, [], ◌∷◌, map, refl, ap, inl, inr, MatchBool, is_some}
+use Rattle.std.proofs.Common.{◌≡◌, Bool, true, false, not, ◌&&◌, T, List, [], ◌∷◌, map, ap, inl, inr, MatchBool, is_some}
 use Rattle.std.specs.List.{AllByRecursion}
 use Rattle.std.specs.List.Sorted.{IsStrictlySortedBy}
 use Rattle.std.specs.Ordering.{is_lt}
-use Rattle.std.specs.declared.cmp.Ordering.{Ordering}
-use Rattle.std.specs.declared.cmp.Ordering.TheVariants.{Less, Equal, Greater}
+use Rattle.std.specs.declared.cmp.Ordering.TheVariants.{Less}
 use Rattle.std.specs.FinMap.{entries, entries_sorted, is_sorted}
 use Rattle.std.specs.FinMap.Entries.{below_all}
 use Rattle.history_model.specs.Bytes.{Bytes, by_bytes}
@@ -15,7 +14,8 @@ use Rattle.history_model.specs.Causes.{first_cause}
 use Rattle.history_model.specs.Replies.{Reply, FileLine, FilesAre}
 use Rattle.history_model.specs.Answers.{file_line, files_shown}
 use Rattle.history_model.specs.Stops.{Between}
-use Rattle.history_model.specs.Laws.{FilesAscend, PacksChangeNothing, HoldsTheSame}
+use Rattle.history_model.specs.laws.Trees.{FilesAscend}
+use Rattle.history_model.specs.laws.Stopping.{PacksChangeNothing, HoldsTheSame}
 use Rattle.gix_ref_file.proofs.Entries.{from_lt}
 
 -- ---- `files`

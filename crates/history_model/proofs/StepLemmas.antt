@@ -4,9 +4,7 @@ use Rattle.std.specs.List.{list_any}
 use Rattle.std.specs.Ordering.{eq_by_cmp}
 use Rattle.std.specs.FinMap.{get, get-insert, get-remove, insert, remove}
 use Rattle.std.proofs.lemmas.Cmp.{nat_list_cmp_total}
-use Rattle.std.proofs.lemmas.Map.Text.{is_eq-slice_cmp}
-use Rattle.std.proofs.lemmas.Slice.Eq.{bytes_eq-Decides}
-use Rattle.history_model.specs.Bytes.{Bytes, by_bytes}
+use Rattle.history_model.specs.Bytes.{Bytes}
 use Rattle.history_model.specs.FileMap.{FileMap}
 use Rattle.history_model.specs.Objects.{CommitValue, StoredFolder, id_of}
 use Rattle.gix_hash.specs.Id.{Id, null_id}
@@ -19,7 +17,9 @@ use Rattle.history_model.specs.Answers.{Answers, StandsForCommit, IsWalk, commit
 use Rattle.gix_traverse_graph.proofs.Listing.{one_set}
 use Rattle.history_model.specs.Steps.{Step, is_faulted, Accepts}
 use Rattle.history_model.specs.Stops.{LeftByStop, Between, IsNotLost, is_changing}
-use Rattle.history_model.specs.Laws.{TreesAreCanonical, StepsAreDetermined, ListsAlike, AreAlike, RepliesTellTheState, RenamesLoseNothing, StopsMayLeaveAll}
+use Rattle.history_model.specs.laws.Trees.{TreesAreCanonical}
+use Rattle.history_model.specs.laws.Determined.{StepsAreDetermined, ListsAlike, AreAlike, RepliesTellTheState}
+use Rattle.history_model.specs.laws.Stopping.{RenamesLoseNothing, StopsMayLeaveAll}
 use Rattle.history_model.specs.declared.Cause.{Cause}
 use Rattle.history_model.proofs.LogLemmas.{some_order, walks_alike}
 use Rattle.history_model.proofs.WholeLists.{In}

@@ -1,5 +1,5 @@
 -- Streams on a fresh repository, and what a run over them writes.
-use Rattle.std.proofs.Common.{◌≡◌, Bool, true, false, not, ◌&&◌, List, [], ◌∷◌, ◌++◌, map, refl, sym, ◌∙◌, ap, inl, Some, None, codes, bytes_eq}
+use Rattle.std.proofs.Common.{◌≡◌, Bool, false, not, ◌&&◌, List, [], ◌∷◌, ◌++◌, map, refl, sym, ◌∙◌, ap, inl, Some, None, codes, bytes_eq}
 use Rattle.std.specs.List.{flat_map, list_any, AllByRecursion}
 use Rattle.std.specs.Fmt.{digits}
 use Rattle.std.specs.FinMap.{empty, get-empty}
@@ -16,7 +16,7 @@ use Rattle.history_model.specs.Commands.{Commit, Files, Show}
 use Rattle.history_model.specs.Replies.{Reply, Faulted, FileLine, Committed, FilesAre, ShowsCommit, ShowsContent, reply_text}
 use Rattle.history_model.specs.Answers.{file_line, files_shown}
 use Rattle.history_model.specs.Steps.{is_faulted}
-use Rattle.history_model.specs.Rows.{Gives, content, first_stream, first_output, empty_file_stream, empty_file_output, hello_stream, hello_output, sample_actor}
+use Rattle.history_model.specs.laws.Rows.{Gives, content, first_stream, first_output, empty_file_stream, empty_file_output, hello_stream, hello_output, sample_actor}
 use Rattle.gix_hash.specs.declared.kind.Kind.TheVariants.{Sha1}
 use Rattle.history_model.specs.declared.Fault.TheVariants.{File as ByFile}
 use Rattle.history_model.specs.declared.FileKind.TheVariants.{File}

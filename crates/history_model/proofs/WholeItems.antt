@@ -4,8 +4,6 @@ use Rattle.std.specs.List.{before_first, after_first, flat_map, filter_map, cons
 use Rattle.std.specs.FinMap.{FinMap, entries, entries_sorted, from_entries, entries-insert, is_sorted, put}
 use Rattle.std.specs.FinMap.Entries.{below_all}
 use Rattle.std.specs.Ordering.{is_lt}
-use Rattle.std.specs.declared.cmp.Ordering.{Ordering}
-use Rattle.std.specs.declared.cmp.Ordering.TheVariants.{Less, Equal, Greater}
 use Rattle.std.proofs.lemmas.Cmp.{nat_list_cmp_total}
 use Rattle.history_model.specs.Bytes.{Bytes, by_bytes, has_byte, is_empty}
 use Rattle.history_model.specs.FileMap.{FileMap, Content, is_below, inside}

@@ -1,10 +1,9 @@
 -- Members of lists, and what filtered, mapped and sorted lists have.
-use Rattle.std.proofs.Common.{◌≡◌, ◌⊎◌, Bool, true, false, not, ◌&&◌, ◌||◌, List, [], ◌∷◌, ◌++◌, map, refl, sym, ◌∙◌, ap, subst, inl, inr, Some, None, bytes_eq}
+use Rattle.std.proofs.Common.{◌≡◌, ◌⊎◌, Bool, true, false, List, [], ◌∷◌, ◌++◌, map, refl, sym, ◌∙◌, ap, subst, inl, inr, Some, None, bytes_eq}
 use Rattle.std.specs.List.{list_any, list_all, flat_map, AllByRecursion}
 use Rattle.std.proofs.lemmas.Slice.Eq.{bytes_eq-Decides}
 use Rattle.history_model.specs.Bytes.{Bytes}
-use Rattle.std.proofs.lemmas.Bool.{or_parts, and_from, and_parts, not-true, not-false, or_cases, or_from, not_from_false}
-use Rattle.std.proofs.lemmas.Option.{same_Some}
+use Rattle.std.proofs.lemmas.Bool.{or_parts, and_from, and_parts, or_cases}
 use Rattle.history_model.proofs.NameLemmas.{some_or}
 
 -- x is a member of the list

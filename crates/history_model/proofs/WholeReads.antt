@@ -1,6 +1,6 @@
 -- What a command reads of a whole repository, and the files of its commit.
 use Rattle.std.proofs.Common.{◌≡◌, ◌≤◌, ◌⊎◌, Bool, true, false, cond, not, ◌||◌, List, [], ◌∷◌, ◌++◌, length, refl, sym, ◌∙◌, ap, subst, arith, tests, inl, inr, Option, Some, None, is_some, bytes_eq, nat_lt, option_map, option_to_list, unwrap_or, option_and_then, find}
-use Rattle.std.specs.List.{list_any, filter_map, cons_option}
+use Rattle.std.specs.List.{list_any, filter_map}
 use Rattle.std.specs.FinMap.{entries, get, get-empty, empty, contains_key, retain_keys}
 use Rattle.history_model.specs.Bytes.{Bytes, by_bytes, has_byte}
 use Rattle.history_model.specs.FileMap.{FileMap, Content, is_path, components, is_within, Edit, Put, Remove, RemoveFile, Graft, ComesFromFiles, edited, edited_by, edit_path, cleared, carried, grafted, grafted_paths}

@@ -12,7 +12,7 @@ use Rattle.history_model.specs.Meaning.{after, stored_by, takes_id}
 use Rattle.history_model.specs.Causes.{first_cause}
 use Rattle.history_model.specs.Stops.{LeftByStop, Between, made, is_changing}
 use Rattle.history_model.specs.Steps.{Accepts}
-use Rattle.history_model.specs.Wholeness.{IsSound, StepsKeepSound, SequencesKeepSound, StopsKeepSound}
+use Rattle.history_model.specs.laws.Wholeness.{IsSound, StepsKeepSound, SequencesKeepSound, StopsKeepSound}
 use Rattle.history_model.specs.declared.Cause.{Cause}
 use Rattle.history_model.proofs.WholeLists.{In, none_is_some}
 use Rattle.history_model.proofs.WholeNames.{after_whole}

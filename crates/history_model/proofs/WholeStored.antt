@@ -7,7 +7,7 @@ use Rattle.history_model.specs.Repository.{Repository, IsStored}
 use Rattle.history_model.specs.Commands.{Command}
 use Rattle.history_model.specs.Meaning.{after, stored_by, takes_id, names_after, branch_after}
 use Rattle.history_model.specs.Causes.{first_cause}
-use Rattle.history_model.specs.Wholeness.{IsSound, AcceptedStoreExactly}
+use Rattle.history_model.specs.laws.Wholeness.{IsSound, AcceptedStoreExactly}
 use Rattle.history_model.proofs.WholeLists.{In, texts_differ}
 use Rattle.history_model.proofs.WholeTexts.{text_same}
 use Rattle.history_model.proofs.WholeStores.{Near, all_keep, all_near, all_from, bytes_stored}

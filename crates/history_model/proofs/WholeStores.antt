@@ -1,10 +1,9 @@
 -- What a store has after values are stored: each value's id, with a value of the same text.
 use Rattle.std.proofs.Common.{◌≡◌, ◌⊎◌, Bool, true, false, cond, ◌&&◌, ◌||◌, List, [], ◌∷◌, refl, sym, ◌∙◌, ap, subst, inl, inr, Option, Some, None, is_some, bytes_eq, option_map, unwrap_or, Less, Equal, Greater, Ordering}
 use Rattle.std.specs.Ordering.{eq_by_cmp, is_lt, is_eq}
-use Rattle.std.specs.FinMap.{FinMap, entries, get, get-entries, get-insert, get-remove, get-retain_keys, insert, remove, empty, retain_keys, contains_key, same_map, slice_cmp-IsAntisymmetric, nat_cmp-IsAntisymmetric, is_sorted}
+use Rattle.std.specs.FinMap.{FinMap, entries, get, get-entries, get-remove, get-retain_keys, insert, remove, empty, retain_keys, contains_key, same_map, slice_cmp-IsAntisymmetric, nat_cmp-IsAntisymmetric, is_sorted}
 use Rattle.std.specs.FinMap.Entries.{find, below_all}
 use Rattle.std.proofs.lemmas.Cmp.{nat_list_cmp_total}
-use Rattle.std.proofs.lemmas.Map.Text.{is_eq-slice_cmp}
 use Rattle.history_model.specs.Bytes.{Bytes, by_bytes}
 use Rattle.history_model.specs.FileMap.{FileMap, inside}
 use Rattle.history_model.specs.Objects.{by_id, Value, StoredCommit, StoredTag, StoredBytes, StoredFolder, value_text, id_of, empty_tree_id}
@@ -17,7 +16,6 @@ use Rattle.history_model.proofs.IdLemmas.{one_id, id_itself, get_with_id}
 use Rattle.history_model.proofs.WholeTexts.{text_same}
 use Rattle.history_model.proofs.WholeItems.{sorted_entries}
 use Rattle.history_model.proofs.WholeRoots.{HasAll, ArePlain, one_map, inside_has, plain_inside}
-use Rattle.history_model.proofs.AfterFirstLemmas.{get-with}
 use Rattle.history_model.proofs.PlaceLemmas.{same_key}
 use Rattle.std.proofs.lemmas.Bool.{or_parts, and_parts, not-false}
 use Rattle.std.proofs.lemmas.Option.{same_Some}

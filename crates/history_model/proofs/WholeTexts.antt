@@ -5,15 +5,10 @@ use Rattle.gix_object_lines.specs.Kind.{kind_word}
 use Rattle.gix_object_lines.specs.declared.kind.Kind.{Kind as ObjectKind}
 use Rattle.gix_object_lines.proofs.Headers.{word_lacks_space, kind_word-injective}
 use Rattle.history_model.specs.Bytes.{Bytes, has_byte}
-use Rattle.history_model.specs.Objects.{digest, object_text, Value, object_kind, content_of, value_text}
-use Rattle.gix_hash.specs.Id.{Id}
-use Rattle.gix_hash.specs.Kind.{hex_len}
-use Rattle.history_model.specs.Forms.{is_id}
+use Rattle.history_model.specs.Objects.{object_text, Value, object_kind, content_of, value_text}
 use Rattle.gix_hash.specs.declared.kind.Kind.{Kind}
-use Rattle.history_model.proofs.IdLemmas.{has_kind, digest_is_id}
 use Rattle.history_model.proofs.PartLemmas.{split_at, head_same, tail_same}
 use Rattle.std.proofs.lemmas.Bool.{or_from}
-use Rattle.history_model.proofs.PlaceLemmas.{id_length}
 
 unequal_numbers : (a d : ℕ) → d < a → (a == d) ≡ false
 unequal_numbers a d h = grind (arith, tests)

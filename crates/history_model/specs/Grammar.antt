@@ -71,27 +71,3 @@ pub record HasRestCauseOf (is_known : Command → Bool) (rest : Bytes) (cause : 
 
 abbrev pub HasRestCause : Bytes → Cause → Type 0
 HasRestCause = HasRestCauseOf is_command
-
--- ---- laws of each such grammar, also of that of all commands
-
--- no command's text begins another's
-abbrev pub IsPrefixFree : (Command → Bool) → Type 0
-IsPrefixFree is_known = (a b : Command) (x y : Bytes) → IsTrue (is_known a) → IsTrue (is_known b)
-    → spelling a ++ x ≡ spelling b ++ y → (a ≡ b) × (x ≡ y)
-
--- a rest has at most one cause, and none if it begins with a command
-abbrev pub HasOneRestCause : (Command → Bool) → Type 0
-HasOneRestCause is_known =
-    (rest : Bytes) (x y : Cause) → HasRestCauseOf is_known rest x → HasRestCauseOf is_known rest y
-    → x ≡ y
-
-abbrev pub RestBeginsWithNone : (Command → Bool) → Type 0
-RestBeginsWithNone is_known = (rest more : Bytes) (cause : Cause) (command : Command)
-    → HasRestCauseOf is_known rest cause → IsTrue (is_known command)
-    → rest ≡ spelling command ++ more → ⊥
-
--- a rest that isn't empty begins with a command or has a cause
-abbrev pub RestBeginsOrHasCause : (Command → Bool) → Type 0
-RestBeginsOrHasCause is_known = (rest : Bytes) → rest ≢ []
-    → ((command : Command) × (more : Bytes) × IsTrue (is_known command)
-    × (rest ≡ spelling command ++ more)) ⊎ ((cause : Cause) × HasRestCauseOf is_known rest cause)

@@ -1,6 +1,6 @@
 -- The lines of the command grammar: their meaning, their words, the fields that follow them, and
 -- the first line of each command.
-use Rattle.std.specs.Prelude.{◌≡◌, ℕ, ◌^◌, Bool, List, [], ◌∷◌, ◌++◌, length, map, nat_lt, Option, Some, None, option_map, codes, decimal, IsTrue}
+use Rattle.std.specs.Prelude.{◌≡◌, ℕ, ◌^◌, Bool, List, [], ◌∷◌, ◌++◌, length, map, nat_lt, Option, option_map, codes, decimal, IsTrue}
 use Rattle.std.specs.List.{list_all, flat_map}
 use Rattle.history_model.specs.Bytes.{Bytes}
 use Rattle.history_model.specs.Commands.{Command, Commit, Tag, Move, Rename, Delete, Switch, Pack, Index, Names, Files, Past, Log, Show, Expect, Order, LogItem}

@@ -153,3 +153,37 @@ abbrev pub Outcomes : Repository → List Round → Repository → Type 0
 Outcomes old [] new = new ≡ old
 Outcomes old (round ∷ rounds) new =
     (mid : Repository) × IsOutcome old round mid × Outcomes mid rounds new
+
+-- A run over the input, stopped at a pair after these replies were made and written.
+abbrev pub stopped_round : Kind → History → History → Moment → Bytes → List Reply → Pair → Round
+stopped_round kind objects names begin input replies pair = record {
+  objects = objects;
+  names = names;
+  begin = begin;
+  input = input;
+  replies = replies;
+  written = flat_map reply_text replies;
+  last = pair;
+  recoveries = Some [];
+  left = recovered kind pair;
+}
+
+-- A run over the input that ended at a pair, which is left as it is.
+abbrev pub ended_round : History → History → Moment → Bytes → List Reply → Bytes → Pair → Round
+ended_round objects names begin input replies written pair = record {
+  objects = objects;
+  names = names;
+  begin = begin;
+  input = input;
+  replies = replies;
+  written = written;
+  last = pair;
+  recoveries = None;
+  left = pair;
+}
+
+-- A run over the input writes the replies to the commands that it acted on, the last perhaps in
+-- part.
+abbrev pub WritesReplies : Bytes → List Command → List Reply → Bytes → Type 0
+WritesReplies input commands replies output =
+    (rest : Bytes) × BeginsWith input commands rest × HasWritten replies rest output

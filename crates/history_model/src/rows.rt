@@ -4,8 +4,7 @@ ghost use Rattle.std.specs.Prelude.{◌≡◌, ◌+◌, ◌++◌, ◌∷◌, [],
 ghost use Rattle.history_model.specs.Bytes.{line};
 ghost use Rattle.history_model.specs.Objects.{hex, blob_id, blob_text, digest, tree_text, root_within, empty_tree_id, commit_content, id_of, StoredCommit};
 ghost use Rattle.history_model.specs.Spelling.{edit_parts, max_line, parts_text};
-ghost use Rattle.history_model.specs.Rows.{Gives, Refuses, first_commit, first_stream, first_output, empty_file_stream, empty_file_output};
-ghost use Rattle.history_model.specs.Rows.{hello_stream, hello_output, three_files, content, lines, lib_files, GraftMakes, xs};
+ghost use Rattle.history_model.specs.laws.Rows.{Gives, Refuses, first_commit, first_stream, first_output, empty_file_stream, empty_file_output, hello_stream, hello_output, three_files, content, lines, lib_files, GraftMakes, xs};
 ghost use Rattle.history_model.specs.FileMap.{Graft, edited, grafts_nothing};
 ghost use Rattle.history_model.specs.Commands.{GraftLine};
 ghost use Rattle.gix_hash.specs.declared.kind.Kind.TheVariants.{Sha1, Sha256};

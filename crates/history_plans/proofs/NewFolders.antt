@@ -18,7 +18,7 @@ use Rattle.history_model.specs.Words.{commit_of, word_meaning}
 use Rattle.history_model.specs.Meaning.{edits_of, files_at, first_files, new_commit, parents_of, read_edit, some_taken, stored_by, takes_id}
 use Rattle.history_layout.specs.Passing.{AreNewFolders}
 use Rattle.history_layout.specs.TreeSteps.{HasText}
-use Rattle.history_model.specs.Wholeness.{IsSound}
+use Rattle.history_model.specs.laws.Wholeness.{IsSound}
 use Rattle.history_model.proofs.IdLemmas.{digest_is_id, has_kind}
 use Rattle.history_model.proofs.WholeLists.{In, all_in, in_left, in_either, in_map, of_flat, of_map, none_passes, one_passes, passes_one, clash}
 use Rattle.history_model.proofs.WholeReads.{read_holds}

@@ -6,8 +6,7 @@ use Rattle.std.proofs.lemmas.List.{map-append}
 use Rattle.std.proofs.lemmas.List.Folds.{list_any-append}
 use Rattle.history_model.specs.Bytes.{Bytes}
 use Rattle.history_model.specs.FileMap.{FileMap, folders_of, grafts_nothing, some_refused}
-use Rattle.history_model.specs.Objects.{CommitValue, Value, StoredBytes, StoredFolder, StoredCommit, folder_id, content_of, commit_content, root, tree_text}
-use Rattle.history_model.specs.Objects.{id_of as value_id}
+use Rattle.history_model.specs.Objects.{CommitValue, Value, StoredBytes, StoredFolder, StoredCommit, folder_id, content_of, commit_content, root, tree_text, id_of as value_id}
 use Rattle.gix_hash.specs.Id.{Id, null_id, id_of}
 use Rattle.std.specs.FinMap.{get}
 use Rattle.history_model.specs.Repository.{HoldsCommit, IsWholeStore, as_commit, id_at}
@@ -19,7 +18,7 @@ use Rattle.history_model.specs.Causes.{first_cause, grafted_in, is_bad_path, is_
 use Rattle.history_layout.specs.Passing.{AreNewFolders, commit_puts}
 use Rattle.history_model.specs.Steps.{MayTake}
 use Rattle.history_layout.specs.TreeSteps.{HasText, move_entry}
-use Rattle.history_model.specs.Wholeness.{IsSound}
+use Rattle.history_model.specs.laws.Wholeness.{IsSound}
 use Rattle.history_model.specs.declared.Cause.{Cause}
 use Rattle.history_model.specs.declared.Cause.TheVariants.{BadPath, IsFolder, NoSuchPath, TooLarge}
 use Rattle.history_model.specs.declared.Fault.{Fault}

@@ -20,7 +20,7 @@ use Rattle.history_files.specs.declared.found.Found.{Found}
 use Rattle.history_model.specs.Answers.{differs_at, files_before, parents_at, same_entries, same_kind}
 use Rattle.history_model.specs.Bytes.{Bytes, by_bytes}
 use Rattle.history_model.specs.FileMap.{FileMap, Content, IsFileMap, cut_to, is_below, is_within}
-use Rattle.history_model.specs.Laws.{IsTreeIn}
+use Rattle.history_model.specs.laws.Trees.{IsTreeIn}
 use Rattle.history_model.specs.Meaning.{files_at, first_files}
 use Rattle.history_model.specs.Objects.{CommitValue, Value, StoredCommit, StoredFolder, entry_at, folder_id}
 use Rattle.history_model.specs.Repository.{HoldsCommit, IsWholeStore, as_commit}

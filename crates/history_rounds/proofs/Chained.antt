@@ -9,8 +9,7 @@ use Rattle.history_model.specs.Places.{Pair}
 use Rattle.history_model.specs.Repository.{Repository}
 use Rattle.history_model.specs.StandsFor.{StandsWhole}
 use Rattle.history_model.specs.Recovery.{recovered}
-use Rattle.history_model.specs.Rounds.{Round, IsRound, AreRounds, last_left}
-use Rattle.history_model.specs.Laws.{stopped_round}
+use Rattle.history_model.specs.Rounds.{Round, IsRound, AreRounds, last_left, stopped_round}
 use Rattle.history_model.specs.Joined.{pair_now}
 use Rattle.history_model.proofs.RoundLemmas.{rounds_join}
 use Rattle.history_repository.specs.Opened.{trees_of}

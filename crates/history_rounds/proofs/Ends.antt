@@ -7,7 +7,7 @@ use Rattle.history_model.specs.Replies.{Reply}
 use Rattle.history_model.specs.Repository.{Repository}
 use Rattle.history_model.specs.Steps.{some_failed}
 use Rattle.history_model.specs.Runs.{CutsShort}
-use Rattle.history_model.specs.Laws.{WritesReplies}
+use Rattle.history_model.specs.Rounds.{WritesReplies}
 use Rattle.history_model.specs.declared.End.{End}
 use Rattle.history_model.proofs.RoundLemmas.{runs_have_written}
 use Rattle.history_model.proofs.RunsTold.{runs_told, reading_told, writing_told}

@@ -12,9 +12,9 @@ use Rattle.history_model.specs.Recovery.{recovered}
 use Rattle.history_model.specs.Steps.{some_failed}
 use Rattle.history_model.specs.StandsFor.{StandsWhole}
 use Rattle.history_model.specs.Moments.{Moment, GoesOnFrom, Traces}
-use Rattle.history_model.specs.Rounds.{Round, IsLast, IsLeft, IsRound}
-use Rattle.history_model.specs.Laws.{WritesReplies}
-use Rattle.history_model.specs.Joined.{GoesOnAt, pair_now}
+use Rattle.history_model.specs.Rounds.{Round, IsLast, IsLeft, IsRound, WritesReplies}
+use Rattle.history_model.specs.laws.Joining.{GoesOnAt}
+use Rattle.history_model.specs.Joined.{pair_now}
 use Rattle.history_model.proofs.FailureLemmas.{traces_weaken}
 use Rattle.history_model.proofs.Joining.{begins_there, now_at, of_each, stops_make_rounds}
 use Rattle.history_repository.specs.Face.{has_failed, names_part, objects_part}

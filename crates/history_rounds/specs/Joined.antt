@@ -10,8 +10,7 @@ use Rattle.history_model.specs.Places.{Pair}
 use Rattle.history_model.specs.StandsFor.{StandsWhole}
 use Rattle.history_model.specs.Recovery.{recovered}
 use Rattle.history_model.specs.Moments.{Moment, GoesOnFrom, IsRunPair, last_moment}
-use Rattle.history_model.specs.Rounds.{Round, IsRound, AreRounds, Outcomes, last_left}
-use Rattle.history_model.specs.Laws.{stopped_round}
+use Rattle.history_model.specs.Rounds.{Round, IsRound, AreRounds, Outcomes, last_left, stopped_round}
 use Rattle.history_model.specs.Joined.{pair_now}
 use Rattle.history_model.specs.declared.End.{End}
 use Rattle.history_model.specs.Repository as plain

@@ -9,7 +9,7 @@ use Rattle.gix_ref_format.specs.PackedBuffer.{hit}
 use Rattle.gix_ref_format.specs.PackedKept.{kept}
 use Rattle.history_model.specs.Bytes.{Bytes, has_twice}
 use Rattle.history_model.specs.Repository.{Repository}
-use Rattle.history_model.specs.Wholeness.{IsSound}
+use Rattle.history_model.specs.laws.Wholeness.{IsSound}
 use Rattle.history_layout.specs.PackSteps.{record_for}
 use Rattle.history_edits.specs.PackPlans.{AsksAll, IsTableOf, record_name}
 use Rattle.history_store.specs.Changing.{HoldNamesOf}

@@ -2,7 +2,7 @@
 
 ghost use Rattle.history_edits.specs.EditCommits.{CommitMakes};
 ghost use Rattle.history_edits.specs.EditPlans.{EditsReady};
-ghost use Rattle.history_model.specs.Rows.{Gives, first_stream, first_output};
+ghost use Rattle.history_model.specs.laws.Rows.{Gives, first_stream, first_output};
 ghost use Rattle.history_layout.specs.Passing.{CommitsStoreWhole};
 
 use history_edits::laws;

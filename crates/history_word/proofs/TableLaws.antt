@@ -3,7 +3,8 @@
 use Rattle.std.proofs.Common.{◌≡◌, Bool, true, false, ◌&&◌, refl, subst}
 use Rattle.history_model.specs.Spelling.{has_spelling}
 use Rattle.history_model.specs.Stage.{opens}
-use Rattle.history_model.specs.Grammar.{is_command, RestBeginsOrHasCause}
+use Rattle.history_model.specs.Grammar.{is_command}
+use Rattle.history_model.specs.laws.Grammars.{RestBeginsOrHasCause}
 use Rattle.history_word.specs.TableRuns.{all_lines, TableTellsStops}
 use Rattle.history_word.proofs.TableRests as rests
 use Rattle.history_word.proofs.TableStops as stops

@@ -5,7 +5,8 @@ use Rattle.std.proofs.lemmas.List.Splits.{join_with_byte-slice_split, slice_spli
 use Rattle.history_model.specs.Bytes.{Bytes, line, has_byte, is_empty}
 use Rattle.history_model.specs.Commands.{Command}
 use Rattle.history_model.specs.Spelling.{Part, Line, Field, parts_text, part_text, spelling, is_part, is_word, max_line}
-use Rattle.history_model.specs.Grammar.{LineFitsOf, FieldStandsOf, StopsByOf, HasRestCauseOf, RestBeginsOrHasCause}
+use Rattle.history_model.specs.Grammar.{LineFitsOf, FieldStandsOf, StopsByOf, HasRestCauseOf}
+use Rattle.history_model.specs.laws.Grammars.{RestBeginsOrHasCause}
 use Rattle.history_model.specs.declared.Cause.{Cause}
 use Rattle.history_model.specs.declared.Cause.TheVariants.{Syntax, Truncated, LineTooLong}
 use Rattle.history_model.specs.Lines.{Heading, CommitHeading, ParentHeading, PutHeading, RemoveHeading, RemoveFileHeading, GraftHeading, ActorHeading, MessageHeading, EndHeading, TagHeading, MoveHeading, ToHeading, RenameHeading, DeleteHeading, SwitchHeading, PackHeading, IndexHeading, NamesHeading, FilesHeading, PastHeading, LogHeading, ShowHeading, words_of}

@@ -4,7 +4,8 @@ ghost use Rattle.history_word.specs.LineTable.{WordsAreHeadings};
 ghost use Rattle.history_word.specs.TableRuns.{all_lines, TableTellsCommands, TableTellsWhatGoesOn, TableTellsFields, TableTellsLines, TableTellsWhatFits, TableTellsStops, TableTakesLines, TableTakesFields};
 ghost use Rattle.history_model.specs.Spelling.{has_spelling};
 ghost use Rattle.history_model.specs.Stage.{opens};
-ghost use Rattle.history_model.specs.Grammar.{is_command, RestBeginsOrHasCause};
+ghost use Rattle.history_model.specs.Grammar.{is_command};
+ghost use Rattle.history_model.specs.laws.Grammars.{RestBeginsOrHasCause};
 
 /// Words are read as a line of the table exactly if they are that line's words.
 pub fn words_are_headings()

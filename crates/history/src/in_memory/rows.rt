@@ -1,7 +1,7 @@
 //! Worked streams, run.
 
 ghost use Rattle.std.specs.Prelude.{IfOk};
-ghost use Rattle.history_model.specs.Rows.{first_stream, first_output, hello_stream, hello_output};
+ghost use Rattle.history_model.specs.laws.Rows.{first_stream, first_output, hello_stream, hello_output};
 ghost use Rattle.gix_hash.specs.declared.kind.Kind.TheVariants.{Sha1};
 ghost use Rattle.history.specs.Answered.{Answers, AreOrTellFault};
 

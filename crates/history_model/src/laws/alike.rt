@@ -1,6 +1,6 @@
 //! Laws on commands with the same effect, over the definitions alone.
 
-ghost use Rattle.history_model.specs.Alike.{EditsCutAnyWay, OrdersPrintOneSet};
+ghost use Rattle.history_model.specs.laws.Alike.{EditsCutAnyWay, OrdersPrintOneSet};
 
 /// A list of edits, cut in two ways into accepted commits from equal files in repositories of one
 /// kind, gives equal files and one root tree id, if each graft's word means a commit with the same

@@ -1,6 +1,6 @@
 //! Laws on failed calls, over the definitions alone.
 
-ghost use Rattle.history_model.specs.Failures.{FaultsAreCounted, FaultsComeLast, UnfailedCountNone};
+ghost use Rattle.history_model.specs.laws.Failures.{FaultsAreCounted, FaultsComeLast, UnfailedCountNone};
 
 /// Over files whose readings can't fail: if a run counted no failed call, none of its replies is
 /// `fault File`.

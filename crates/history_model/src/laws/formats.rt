@@ -1,6 +1,6 @@
 //! Laws that tie the files of names and logs to gix_ref_format, over the definitions alone.
 
-ghost use Rattle.history_model.specs.Formats.{LooseReadsAlike, RecordsAlike, CandidatesAlike, LinesAlike};
+ghost use Rattle.history_model.specs.laws.Formats.{LooseReadsAlike, RecordsAlike, CandidatesAlike, LinesAlike};
 
 /// A loose file that reads as an id or a name has the same target in gix_ref_format, which accepts
 /// more spellings.

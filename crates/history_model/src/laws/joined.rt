@@ -1,6 +1,6 @@
 //! Laws that make rounds of runs, for the law [`rounds`](super::rounds), by definitions alone.
 
-ghost use Rattle.history_model.specs.Joined.{RunsMakeRounds, StopsMakeRounds};
+ghost use Rattle.history_model.specs.laws.Joining.{RunsMakeRounds, StopsMakeRounds};
 
 use gix_ref_file::Files;
 

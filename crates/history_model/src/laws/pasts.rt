@@ -1,6 +1,6 @@
 //! The law on the past of a name, over the definitions alone.
 
-ghost use Rattle.history_model.specs.Pasts.{PastsTellMoves};
+ghost use Rattle.history_model.specs.laws.Pasts.{PastsTellMoves};
 
 /// If no changing command had a fault, the past of a name is exactly the moves that these steps
 /// made since it was last created, newest first, and then those before these steps, if it existed

@@ -1,6 +1,6 @@
 //! Laws on whole repositories in written form, over the definitions alone.
 
-ghost use Rattle.history_model.specs.Wholeness.{StepsKeepSound, SequencesKeepSound, StopsKeepSound, AcceptedStoreExactly, PairsAreOfOne};
+ghost use Rattle.history_model.specs.laws.Wholeness.{StepsKeepSound, SequencesKeepSound, StopsKeepSound, AcceptedStoreExactly, PairsAreOfOne};
 
 /// A step keeps a repository whole and in written form, whatever the reply is.
 pub fn steps_keep_sound()

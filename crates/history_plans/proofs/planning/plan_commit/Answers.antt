@@ -2,7 +2,7 @@ use Rattle.std.proofs.Common.{sym, ◌∙◌, ap, subst, map, option_map, Err, L
 use Rattle.std.specs.List.{AllByRecursion}
 use Rattle.std.proofs.lemmas.Result.{err_from_is_err_and}
 use Rattle.history_model.specs.Forms.{max_content}
-use Rattle.history_model.specs.Wholeness.{IsSound}
+use Rattle.history_model.specs.laws.Wholeness.{IsSound}
 use Rattle.history_model.specs.Meaning.{new_commit}
 use Rattle.history_layout.specs.OneNameSteps.{commit_move}
 use Rattle.history_repository.specs.Meant.{peeled_id}

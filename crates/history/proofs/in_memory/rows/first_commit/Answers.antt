@@ -1,4 +1,4 @@
-use Rattle.history_model.specs.Rows.{first_stream, first_output}
+use Rattle.history_model.specs.laws.Rows.{first_stream, first_output}
 use Rattle.history.proofs.Answering.{row_meant}
 use Rattle.history.proofs.in_memory.rows.first_commit.Goals as goal
 

@@ -1,4 +1,4 @@
-use Rattle.history_model.specs.Rows.{hello_stream, hello_output}
+use Rattle.history_model.specs.laws.Rows.{hello_stream, hello_output}
 use Rattle.history.proofs.Answering.{row_meant}
 use Rattle.history.proofs.in_memory.rows.hello_file.Goals as goal
 

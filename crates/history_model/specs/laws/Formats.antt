@@ -1,6 +1,6 @@
 -- The statements of the laws on the files of names and logs: they are in the formats that
 -- gix_ref_format reads, which accepts more spellings.
-use Rattle.std.specs.Prelude.{◌≡◌, not, ◌&&◌, ◌∷◌, filter, Option, Some, None, if◌then◌else◌, IsTrue}
+use Rattle.std.specs.Prelude.{◌≡◌, not, ◌&&◌, ◌∷◌, filter, Some, None, if◌then◌else◌, IsTrue}
 use Rattle.gix_hash.specs.Id.{Id}
 use Rattle.gix_hash.specs.declared.kind.Kind.{Kind}
 use Rattle.gix_ref_name.specs.Targets.{ToObject, ToName}

@@ -11,7 +11,7 @@ use Rattle.history_model.specs.Meaning.{branch_or_name, name_commit, parents_of,
 use Rattle.history_model.specs.Replies.{Committed, LogIs}
 use Rattle.history_model.specs.Answers.{since_of}
 use Rattle.history_model.specs.Steps.{Step}
-use Rattle.history_model.specs.Wholeness.{IsSound}
+use Rattle.history_model.specs.laws.Wholeness.{IsSound}
 
 -- ---- edits in one commit or in several
 

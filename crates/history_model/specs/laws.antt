@@ -1,0 +1,12 @@
+pub mod Grammars
+pub mod Trees
+pub mod Rows
+pub mod Formats
+pub mod Wholeness
+pub mod Determined
+pub mod Alike
+pub mod Stopping
+pub mod Folders
+pub mod Failures
+pub mod Pasts
+pub mod Joining
