@@ -1,5 +1,5 @@
 -- From what the system does at its own paths to what a folder makes.
-use Rattle.std.proofs.Common.{◌≡◌, inl, inr, ℕ, Bool, true, false, cond, ◌&&◌, ◌||◌, List, [], ◌∷◌, ◌++◌, length, take, Option, Some, None, refl, sym, ◌∙◌, ap, subst, arith}
+use Rattle.std.proofs.Common.{◌≡◌, inl, inr, ⊎_elim, ℕ, Bool, true, false, cond, ◌&&◌, ◌||◌, List, [], ◌∷◌, length, take, Option, Some, None, refl, sym, ◌∙◌, ap, subst, arith}
 use Rattle.std.specs.Prelude.{Result, Ok, Err, IfOk, IfErr, OnOk, IsTrue, IsFalse, IsSome, IsErrOf, is_some, is_none, ◌==◌}
 use Rattle.std.specs.List.{AllByRecursion}
 use Rattle.std.specs.FinMap.{get, insert}
@@ -9,8 +9,9 @@ use Rattle.std.proofs.lemmas.List.{append-nil}
 use Rattle.gix_ref_file.specs.declared.files.FileError.{FileError}
 use Rattle.gix_ref_file.specs.declared.files.FileError.TheVariants.{Failed}
 use Rattle.gix_ref_file.specs.Tree.{Tree, Node, file, is_path, node_at}
-use Rattle.gix_ref_file.specs.Changes.{Change, to_create, allows, after, may_hold_file, MayLeave}
-use Rattle.gix_ref_file.specs.History.{History, trees, Adds, Makes, HasRisen, HasCause}
+use Rattle.gix_ref_file.specs.Changes.{Change, to_create, after, may_hold_file, MayLeave}
+use Rattle.gix_ref_file.proofs.Rooted.{adds_now}
+use Rattle.gix_ref_file.specs.History.{History, trees, Adds, HasRisen, HasCause}
 use Rattle.std.specs.IoError.{error_kind}
 use Rattle.std.specs.declared.io.ErrorKind.TheVariants.{AlreadyExists}
 use Rattle.gix_ref_folder.specs.Errors.{IsNew}
@@ -29,17 +30,7 @@ at_place root part path place text is of = (is ∙ of.0, of.1)
 pub cause_of : {T : Type 0} (allowed : Bool) (before old now : ℕ) (result : Result T FileError) → before ≡ old → (IsErrOf result Failed → HasRisen before now) → HasCause allowed old now result
 cause_of allowed before old now result same risen failed = inl (subst (λ n. HasRisen n now) same (risen failed))
 
--- what is returned in place of the system's result makes what that did
-pub makes_of : {T : Type 0} (change : Change) (old new : History) (told : Result T Error) (result : Result T FileError)
-    → IfOk result (λ value. told ≡ Ok value) → Does change old new told → Makes change old new result
-makes_of change old new told (Ok value) is does = record {
-  allowed = subst (λ t. OnOk t (IsTrue (allows old.tree change))) is does.allowed;
-  made = subst (λ t. OnOk t (new.tree ≡ after change old.tree)) is does.made;
-  moments = does.moments;
-}
-makes_of change old new told (Err e) is does = record { allowed = tt; made = tt; moments = does.moments }
-
--- and says what it says
+-- what is returned in place of the system's result says what it says
 pub passed : {T : Type 0} (P : T → Type 0) (told : Result T Error) (result : Result T FileError) → IfOk result (λ value. told ≡ Ok value) → IfOk told P → IfOk result P
 passed P told (Ok value) is says = subst (λ t. IfOk t P) is says
 passed P told (Err e) is says = tt
@@ -59,28 +50,9 @@ does_err change old new told e does = record { allowed = tt; made = tt; moments 
 pub does_ok : {T U : Type 0} (change : Change) (old new : History) (told : U) (value : T) → Does change old new (Ok told) → Does change old new (Ok value)
 does_ok change old new told value does = record { allowed = does.allowed; made = does.made; moments = does.moments }
 
--- ---- the tree after a call
-abbrev last : Tree → List Tree → Tree
-last t [] = t
-last t (u ∷ us) = last u us
-
-last_trees : (past : List Tree) (t d : Tree) → last d (past ++ t ∷ []) ≡ t
-last_trees [] t d = refl
-last_trees (u ∷ past) t d = last_trees past t u
-
-last_added : (P : Tree → Type 0) (past : List Tree) (t d : Tree) (during : List Tree) → AllByRecursion P during → P t → P (last d ((past ++ t ∷ []) ++ during))
-last_added P (u ∷ past) t d during all now = last_added P past t u during all now
-last_added P [] t d during all now = from t during all now
-  where
-    from : (x : Tree) (ts : List Tree) → AllByRecursion P ts → P x → P (last x ts)
-    from x [] all so_far = so_far
-    from x (y ∷ ts) all so_far = from y ts all.1 all.0
-
--- the tree after it has what the one before and each that was added have
+-- the tree after a call has what the one before and each that was added have
 pub now_has : (P : Tree → Type 0) (old new : History) → Adds P old new → P old.tree → P new.tree
-now_has P old new adds before =
-    let now : last new.tree (trees old ++ adds.during) ≡ new.tree = ap (last new.tree) (sym adds.added) ∙ last_trees new.past new.tree new.tree in
-    subst P now (last_added P old.past old.tree new.tree adds.during adds.all before)
+now_has P old new adds before = ⊎_elim (λ same. subst P (sym same) before) (λ made. made) (adds_now P old new adds)
 
 -- if something is there already, the making of a file changes nothing
 made_none : (path bytes : List ℕ) (tree : Tree) → IsSome (node_at tree path) → after (to_create path bytes) tree ≡ tree

@@ -1,8 +1,10 @@
 //! How many changes failed, and why the last call did.
 ghost use Rattle.std.specs.Prelude.{◌≡◌, ◌≤◌, ◌+◌, ◌-◌, ◌^◌, min, IfOk, IfNone, OnOk, Ok, IsErrOf};
-ghost use Rattle.gix_ref_file.specs.History.{HasRisen};
+ghost use Rattle.gix_ref_file.specs.Changes.{Change};
+ghost use Rattle.gix_ref_file.specs.History.{HasRisen, History, Makes};
 ghost use Rattle.gix_ref_file.specs.declared.files.FileError.TheVariants.{Failed, Memory};
 ghost use Rattle.gix_ref_folder.specs.Errors.{count_of};
+ghost use Rattle.gix_ref_folder.specs.Systems.{Does};
 
 use crate::failure::Failure;
 use crate::faults::fault;
@@ -95,6 +97,8 @@ impl Failures {
         changed: io::Result<T>,
     ) -> Result<T, FileError>
         ensures ok { IfOk result (λ value. changed ≡ Ok value) }
+        ensures made { (change : Change) (old new : History) → Does change old new changed
+            → Makes change old new result }
         ensures later { count_of self.old ≤ count_of self.new }
         ensures unfailed { OnOk result (count_of self.new ≡ count_of self.old) }
         ensures risen { IsErrOf result Failed → HasRisen (count_of self.old) (count_of self.new) }

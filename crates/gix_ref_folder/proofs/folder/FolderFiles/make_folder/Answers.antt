@@ -1,11 +1,8 @@
-use Rattle.gix_ref_folder.proofs.Made.{makes_of, cause_of}
+use Rattle.gix_ref_folder.proofs.Made.{cause_of}
 use Rattle.gix_ref_folder.proofs.folder.FolderFiles.make_folder.Goals as goal
 
 pub returns-clause-honest : goal.returns-clause-honest
 returns-clause-honest g c honest = (c.put_folder-made.ensures.change honest).0
-
-pub returns-clause-change : goal.returns-clause-change
-returns-clause-change g c honest = makes_of _ _ _ _ _ c.changed.ensures.ok (c.put_folder-made.ensures.change honest).1
 
 pub returns-clause-cause : goal.returns-clause-cause
 returns-clause-cause g c honest = cause_of _ _ _ _ _ c.put_folder-made.ensures.failures c.changed.ensures.risen
