@@ -1,24 +1,20 @@
 -- Trees that hold one part's own, how changes keep them so, and the names in their roots.
-use Rattle.std.proofs.Common.{◌≡◌, ◌⊎◌, inl, inr, ⊎_elim, ℕ, zero, suc, ◌-◌, ◌<◌, Bool, true, false, cond, not, ◌&&◌, ◌||◌, List, [], ◌∷◌, ◌++◌, length, take, drop, map, filter_map, reverse, Some, None, refl, sym, ◌∙◌, ap, subst, arith}
-use Rattle.std.specs.Prelude.{IsTrue, IsFalse, IsSome, is_some, nat_le, Vec}
-use Rattle.std.specs.List.{AllByRecursion, filter, suffix_len, prefix_len, after_last, cons_option, list_any}
-use Rattle.std.specs.Ordering.{is_eq}
+use Rattle.std.proofs.Common.{◌≡◌, inl, inr, ⊎_elim, ℕ, Bool, true, false, cond, not, ◌||◌, List, [], ◌∷◌, ◌++◌, take, map, filter_map, Some, None, refl, sym, ◌∙◌, ap, subst}
+use Rattle.std.specs.Prelude.{IsTrue, IsFalse, is_some, Vec}
+use Rattle.std.specs.List.{AllByRecursion, filter, after_last, cons_option, list_any}
 use Rattle.std.specs.declared.alloc.Global.{Global}
-use Rattle.std.specs.declared.cmp.Ordering.{Ordering}
-use Rattle.std.specs.declared.cmp.Ordering.TheVariants.{Less, Equal, Greater}
-use Rattle.std.specs.Cmp.{eq_by_cmp_equiv}
 use Rattle.std.specs.Cmp.Lexicographic.{nat_list_cmp_total}
-use Rattle.std.specs.FinMap.{slice_cmp-IsAntisymmetric, nat_cmp-IsAntisymmetric, get, insert, remove, keys, get-insert, get-remove, contains_key-keys}
+use Rattle.std.specs.FinMap.{get, insert, remove, keys, get-insert, get-remove, contains_key-keys}
 use Rattle.std.specs.List.Sorted.{IsPermutation}
-use Rattle.std.proofs.Math.ListN.{get_or}
-use Rattle.std.proofs.lemmas.List.{append-nil, map-append, get_or-reverse, length-reverse, length-take-le}
+use Rattle.std.proofs.lemmas.List.{append-nil, map-append}
 use Rattle.std.proofs.lemmas.List.Elements.{filter-append}
 use Rattle.std.proofs.lemmas.List.Sorted.{IsPermutation-refl}
-use Rattle.std.proofs.lemmas.List.Sums.{prefix_len_stops}
-use Rattle.std.proofs.lemmas.Bool.Decides.{Decides-eqb}
 use Rattle.gix_ref_file.specs.Tree.{Tree, Node, file, folder, same_path, is_slash, is_path, parent, node_at, bytes_at, names_at, name_in, IsRooted}
 use Rattle.gix_ref_file.specs.Changes.{Change, to_create, to_write, to_append, to_rename, to_remove_file, to_make_folder, to_remove_folder, paths_of, after, cut, MayLeave}
-use Rattle.gix_ref_file.specs.History.{History, trees, Adds}
+use Rattle.gix_ref_file.specs.History.{History, Adds}
+use Rattle.gix_ref_file.proofs.Ascending.{root_name}
+use Rattle.gix_ref_file.proofs.Rooted.{adds_now}
+use Rattle.gix_ref_file.proofs.Trees.{one_path, same_path_itself}
 use Rattle.gix_ref_folder.specs.Parts.{has, is_object_path}
 use Rattle.gix_ref_folder.specs.Systems.{AreRootNames}
 use Rattle.gix_ref_folder.specs.declared.part.Part.{Part}
@@ -28,18 +24,6 @@ use Rattle.gix_ref_folder_tests.specs.declared.over_files.OverFiles.{OverFiles}
 
 abbrev pub AreOf : Part → List (List ℕ) → Type 0
 AreOf part paths = AllByRecursion (λ path. IsTrue (has part path)) paths
-
--- ---- paths
-same_path_itself : (k : List ℕ) → same_path k k ≡ true
-same_path_itself k = (eq_by_cmp_equiv nat_list_cmp_total).refl k
-
-one_path : (p q : List ℕ) → same_path p q ≡ true → p ≡ q
-one_path p q same = slice_cmp-IsAntisymmetric nat_cmp-IsAntisymmetric p q (from_is_eq _ same)
-  where
-    from_is_eq : (o : Ordering) → is_eq o ≡ true → o ≡ Equal
-    from_is_eq Equal same = refl
-    from_is_eq Less same = cc
-    from_is_eq Greater same = cc
 
 -- ---- what exists after a change
 own_insert : (part : Part) (t : Tree) (p : List ℕ) (n : Node) → IsOwn part t → IsTrue (has part p) → IsOwn part (insert t p n)
@@ -73,70 +57,11 @@ own_left : (part : Part) (change : Change) (t u : Tree) → IsOwn part t → Are
 own_left part change t u own of (inl same) = subst (IsOwn part) (sym same) own
 own_left part change t u own of (inr (n, may, is)) = subst (IsOwn part) (sym is) (own_after part n change t own of)
 
-abbrev last : Tree → List Tree → Tree
-last t [] = t
-last t (u ∷ us) = last u us
-
-last_trees : (past : List Tree) (t d : Tree) → last d (past ++ t ∷ []) ≡ t
-last_trees [] t d = refl
-last_trees (u ∷ past) t d = last_trees past t u
-
-last_added : (P : Tree → Type 0) (past : List Tree) (t d : Tree) (during : List Tree) → AllByRecursion P during → P t → P (last d ((past ++ t ∷ []) ++ during))
-last_added P (u ∷ past) t d during all now = last_added P past t u during all now
-last_added P [] t d during all now = from t during all now
-  where
-    from : (x : Tree) (ts : List Tree) → AllByRecursion P ts → P x → P (last x ts)
-    from x [] all so_far = so_far
-    from x (y ∷ ts) all so_far = from y ts all.1 all.0
-
--- the tree after it has what the one before and each that was added have
-now_has : (P : Tree → Type 0) (old new : History) → Adds P old new → P old.tree → P new.tree
-now_has P old new adds before =
-    let now : last new.tree (trees old ++ adds.during) ≡ new.tree = ap (last new.tree) (sym adds.added) ∙ last_trees new.past new.tree new.tree in
-    subst P now (last_added P old.past old.tree new.tree adds.during adds.all before)
-
 pub own_now : (part : Part) (change : Change) (old new : History) → Adds (MayLeave change old.tree) old new → AreOf part (paths_of change) → IsOwn part old.tree → IsOwn part new.tree
-own_now part change old new adds of own = own_left part change old.tree new.tree own of (now_has (MayLeave change old.tree) old new adds (inl refl))
+own_now part change old new adds of own =
+    ⊎_elim (λ same. subst (IsOwn part) (sym same) own) (own_left part change old.tree new.tree own of) (adds_now (MayLeave change old.tree) old new adds)
 
--- ---- in the root a path is its name
-abbrev inside : ℕ → Bool
-inside byte = not (is_slash byte)
-
-begins_well : (b : ℕ) (path : List ℕ) → b ≡ 47 → IsFalse (is_path (b ∷ path))
-begins_well b path is = ap (λ x. is_path (x ∷ path)) is ∙ never (nat_le (suc (length path)) 4096)
-  where
-    never : (short : Bool) → (short && false) ≡ false
-    never true = refl
-    never false = refl
-
-slash_before : (path : List ℕ) → suffix_len inside path < length path → get_or path (length path - suffix_len inside path - 1) 0 ≡ 47
-slash_before path room =
-    let skipped = suffix_len inside path in
-    let stops : inside (get_or (reverse path) skipped 0) ≡ false = prefix_len_stops inside (reverse path) 0 (omega (arith, room, length-reverse path)) in
-    let place : length path - 1 - skipped ≡ length path - skipped - 1 = omega (arith, room) in
-    let byte : get_or (reverse path) skipped 0 ≡ get_or path (length path - skipped - 1) 0 = get_or-reverse path skipped 0 room ∙ ap (λ k. get_or path k 0) place in
-    is_47 _ (sym (ap inside byte) ∙ stops)
-  where
-    is_47 : (b : ℕ) → not (is_slash b) ≡ false → b ≡ 47
-    is_47 b h = by_case (is_slash b) refl h
-      where
-        by_case : (same : Bool) → is_slash b ≡ same → not same ≡ false → b ≡ 47
-        by_case true is h = (Decides-eqb b 47).0 is
-        by_case false is h = cc
-
-root_name : (path : List ℕ) → IsTrue (is_path path) → parent path ≡ [] → after_last is_slash path ≡ path
-root_name path is root = by_len (length path - suffix_len inside path) refl
-  where
-    by_len : (k : ℕ) → length path - suffix_len inside path ≡ k → drop k path ≡ path
-    by_len zero e = refl
-    by_len (suc zero) e = absurd (not_first path is (ap (λ n. get_or path (n - 1) 0) (sym e) ∙ slash_before path (omega (arith, e))) (omega (arith, e)))
-      where
-        not_first : (p : List ℕ) → IsTrue (is_path p) → get_or p 0 0 ≡ 47 → 0 < length p → ⊥
-        not_first [] is first some = omega (arith, some)
-        not_first (b ∷ p) is first some = cc (is, begins_well b p first)
-    by_len (suc (suc k)) e = absurd (omega (arith, e, ap length root, length-take-le (length path - suffix_len inside path - 1) path (omega arith)))
-
--- ---- so the names right in the root are of the part
+-- ---- the names right in the root are of the part
 or_true : (b : Bool) → (b || true) ≡ true
 or_true true = refl
 or_true false = refl
