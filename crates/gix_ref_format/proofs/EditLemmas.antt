@@ -19,22 +19,22 @@ use Rattle.gix_ref_format.specs.declared.packed.edit.Edit.{Edit}
 use Rattle.gix_ref_format.specs.declared.packed.edit.Edit.TheVariants.{Write, Remove}
 use Rattle.gix_ref_format.specs.Edited.{Line, line_of, lines_of, line_at, under, ComesBefore, Ascend, IsEdited, own_line, is_same, standing, NoneFalls, Rises, Arranges}
 
-abbrev cmp : List ℕ → List ℕ → Ordering
+abbrev pub cmp : List ℕ → List ℕ → Ordering
 cmp = slice_cmp nat_cmp
 
-clash : {A : Type 0} → true ≡ false → A
+pub clash : {A : Type 0} → true ≡ false → A
 clash e = absurd (go e)
   where
     go : true ≡ false → ⊥
     go e = cc
 
-same_of : (x y : List ℕ) → bytes_eq x y ≡ true → x ≡ y
+pub same_of : (x y : List ℕ) → bytes_eq x y ≡ true → x ≡ y
 same_of x y e = (bytes_eq-Decides x y).0 e
 
-itself : (x : List ℕ) → bytes_eq x x ≡ true
+pub itself : (x : List ℕ) → bytes_eq x x ≡ true
 itself x = (bytes_eq-Decides x x).1 refl
 
-less_than : (x y : List ℕ) → is_lt (cmp y x) ≡ false → bytes_eq x y ≡ false → cmp x y ≡ Less
+pub less_than : (x y : List ℕ) → is_lt (cmp y x) ≡ false → bytes_eq x y ≡ false → cmp x y ≡ Less
 less_than x y not_below differs = go (cmp x y) refl
   where
     go : (o : Ordering) → cmp x y ≡ o → cmp x y ≡ Less
@@ -42,7 +42,7 @@ less_than x y not_below differs = go (cmp x y) refl
     go Equal is = clash (sym (ap is_eq is) ∙ is_eq-slice_cmp x y ∙ differs)
     go Greater is = clash (sym (ap (λ o. is_lt (ordering_reverse o)) is) ∙ sym (ap is_lt (nat_list_cmp_total.antisymm y x)) ∙ not_below)
 
-differs_from_less : (x y : List ℕ) → cmp x y ≡ Less → bytes_eq y x ≡ false
+pub differs_from_less : (x y : List ℕ) → cmp x y ≡ Less → bytes_eq y x ≡ false
 differs_from_less x y less = sym (is_eq-slice_cmp y x) ∙ ap is_eq (nat_list_cmp_total.antisymm y x ∙ ap ordering_reverse less)
 
 -- ---- lines that say records of their own names
@@ -61,11 +61,11 @@ says line = option_and_then (λ (l : Line). l.says) line
 
 -- ---- what comes before all
 
-before_all : (n m : List ℕ) (rs : List Record) → cmp n m ≡ Less → ComesBefore m rs → ComesBefore n rs
+pub before_all : (n m : List ℕ) (rs : List Record) → cmp n m ≡ Less → ComesBefore m rs → ComesBefore n rs
 before_all n m [] less before = tt
 before_all n m (r ∷ rs) less before = (nat_list_cmp_total.trans n m r.name less before.0, before_all n m rs less before.1)
 
-before_none : (n : List ℕ) (rs : List Record) → ComesBefore n rs → hit rs n ≡ None
+pub before_none : (n : List ℕ) (rs : List Record) → ComesBefore n rs → hit rs n ≡ None
 before_none n [] before = refl
 before_none n (r ∷ rs) before =
     ap (λ (b : Bool). cond b (Some r) (hit rs n)) (differs_from_less n r.name before.0) ∙ before_none n rs before.1

@@ -1,5 +1,5 @@
 -- Records that are gathered one by one.
-use Rattle.std.proofs.Common.{◌≡◌, ◌∙◌, ap, refl, sym, ℕ, List, [], ◌∷◌, ◌++◌, map, Some, None, option_map}
+use Rattle.std.proofs.Common.{◌≡◌, ◌∙◌, ap, refl, sym, ℕ, List, [], ◌∷◌, ◌++◌, Some, option_map}
 use Rattle.std.proofs.lemmas.List.{map-append}
 use Rattle.gix_ref_format.specs.Packed.{Record, Item, Good, Bad, BadHeader, all_good}
 use Rattle.gix_ref_format.specs.PackedBuffer.{entry_record, entry_records, first_bad, GatherFault, ItemFault}

@@ -1,5 +1,5 @@
 -- Texts that spell ids.
-use Rattle.std.proofs.Common.{◌≡◌, ℕ, zero, suc, ◌<◌, Bool, true, false, cond, ◌&&◌, List, [], ◌∷◌, map, length, refl, sym, ◌∙◌, ap, subst, arith, tests, Option, Some, None, option_map, is_some, unwrap_or, ◌==◌}
+use Rattle.std.proofs.Common.{◌≡◌, ℕ, Bool, true, false, cond, List, [], ◌∷◌, map, length, refl, sym, ◌∙◌, ap, subst, arith, tests, Option, Some, None, option_map, is_some, unwrap_or, ◌==◌}
 use Rattle.std.specs.Prelude.{Any}
 use Rattle.std.specs.List.{list_all}
 use Rattle.hex.specs.Hex.{hex_digit_value}

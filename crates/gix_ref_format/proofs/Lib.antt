@@ -2,9 +2,11 @@ pub mod EditLemmas
 pub mod GatherLemmas
 pub mod IdLemmas
 pub mod LineLemmas
+pub mod MergeLemmas
 pub mod PackedLemmas
 pub mod PrefixLemmas
 pub mod ReadBack
+pub mod RunLemmas
 pub mod SortLemmas
 pub mod SpaceLemmas
 pub mod WordLemmas

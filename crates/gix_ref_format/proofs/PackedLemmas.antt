@@ -1,5 +1,5 @@
 -- Lines of `packed-refs`, and what they give.
-use Rattle.std.proofs.Common.{◌≡◌, ◌∙◌, ap, refl, sym, ℕ, ◌+◌, Bool, true, false, cond, ◌&&◌, List, [], ◌∷◌, drop, take, codes, Option, Some, None, option_map, is_some, subst, length, ◌-◌}
+use Rattle.std.proofs.Common.{◌≡◌, ◌∙◌, ap, refl, sym, ℕ, ◌+◌, Bool, true, false, cond, ◌&&◌, List, [], ◌∷◌, drop, take, codes, Option, Some, None, option_map, subst, length, ◌-◌}
 use Rattle.std.specs.Prelude.{◌==◌}
 use Rattle.std.specs.List.{slice_split}
 use Rattle.gix_hash.specs.Id.{Id}
@@ -8,12 +8,11 @@ use Rattle.gix_hash.specs.declared.kind.Kind.{Kind}
 use Rattle.gix_object_lines.specs.Bytes.{is_among}
 use Rattle.gix_object_lines.specs.NameTest.{begins, is_full_name}
 use Rattle.gix_ref_format.specs.declared.packed.Peeled.{Peeled}
-use Rattle.gix_ref_format.specs.declared.packed.Header.{Header}
 use Rattle.std.proofs.lemmas.List.{length-drop}
 use Rattle.std.proofs.Math.Seq.{take-length}
 use Rattle.gix_ref_format.specs.Ids.{id_from_hex}
 use Rattle.gix_ref_format.specs.Lines.{lines}
-use Rattle.gix_ref_format.specs.Packed.{Record, Item, Good, without_peel, record_text, record_line, peel_line, header_of, header_by, peeled_by, items, item_of, next_number, HasPeel}
+use Rattle.gix_ref_format.specs.Packed.{Record, Item, Good, without_peel, record_text, record_line, header_of, header_by, peeled_by, items, next_number, HasPeel}
 
 abbrev words_in : List ℕ → List (List ℕ)
 words_in text = slice_split (λ byte. byte == 32) (drop 17 text)

@@ -86,11 +86,11 @@ ends_otherwise : (b : ℕ) (text : List ℕ) → Lacks b text → without_last b
 ends_otherwise b text lacks =
     ap (λ (t : Bool). cond t (take (length text - 1) text) text) (tail_differs b (drop (length text - 1) text) (lacks_drop b (length text - 1) text lacks))
 
-last_cut : (text : List ℕ) (byte : ℕ) → drop (length text) (text ++ byte ∷ []) ≡ byte ∷ []
+pub last_cut : (text : List ℕ) (byte : ℕ) → drop (length text) (text ++ byte ∷ []) ≡ byte ∷ []
 last_cut [] byte = refl
 last_cut (b ∷ text) byte = last_cut text byte
 
-front_cut : (text rest : List ℕ) → take (length text) (text ++ rest) ≡ text
+pub front_cut : (text rest : List ℕ) → take (length text) (text ++ rest) ≡ text
 front_cut [] rest = take-zero rest
   where
     take-zero : (xs : List ℕ) → take 0 xs ≡ []
@@ -98,7 +98,7 @@ front_cut [] rest = take-zero rest
     take-zero (x ∷ xs) = refl
 front_cut (b ∷ text) rest = ap (λ t. b ∷ t) (front_cut text rest)
 
-back_cut : (text rest : List ℕ) → drop (length text) (text ++ rest) ≡ rest
+pub back_cut : (text rest : List ℕ) → drop (length text) (text ++ rest) ≡ rest
 back_cut [] rest = refl
 back_cut (b ∷ text) rest = back_cut text rest
 

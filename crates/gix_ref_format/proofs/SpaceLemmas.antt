@@ -1,5 +1,5 @@
 -- Spaces before a name.
-use Rattle.std.proofs.Common.{◌≡◌, ◌≢◌, ap, refl, ℕ, Bool, true, false, cond, List, [], ◌∷◌, arith, tests}
+use Rattle.std.proofs.Common.{◌≡◌, ◌≢◌, ap, refl, ℕ, Bool, true, false, cond, List, [], ◌∷◌}
 use Rattle.std.specs.Prelude.{◌==◌}
 use Rattle.gix_ref_format.specs.Loose.{without_spaces}
 use Rattle.std.proofs.lemmas.Bool.{eqb-true}

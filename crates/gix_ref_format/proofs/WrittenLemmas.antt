@@ -1,5 +1,5 @@
 -- What is written of a target is read as it.
-use Rattle.std.proofs.Common.{◌≡◌, ◌≢◌, ◌∙◌, ap, refl, sym, subst, ℕ, zero, suc, ◌+◌, ◌-◌, Bool, true, false, cond, not, ◌&&◌, ◌||◌, List, [], ◌∷◌, ◌++◌, length, take, drop, map, codes, Option, Some, None, option_map, arith, tests, nat_eq, rules}
+use Rattle.std.proofs.Common.{◌≡◌, ◌∙◌, ap, refl, sym, ℕ, zero, suc, ◌-◌, Bool, true, false, cond, not, ◌&&◌, ◌||◌, List, [], ◌∷◌, ◌++◌, length, take, drop, codes, Some, None, option_map, arith, nat_eq}
 use Rattle.std.specs.Prelude.{◌==◌, bytes_eq}
 use Rattle.std.specs.List.{list_any, ends_with}
 use Rattle.std.proofs.lemmas.List.{length-map, length-append}
@@ -9,7 +9,7 @@ use Rattle.gix_hash.specs.Kind.{hex_len}
 use Rattle.gix_hash.specs.Spelling.{hex_text, hex_character, IsHexOf}
 use Rattle.gix_hash.specs.declared.kind.Kind.{Kind}
 use Rattle.gix_object_lines.specs.NameTest.{is_partial_name, is_full_name, is_barred, is_capitals, has_slash, begins, ends, holds}
-use Rattle.gix_ref_name.specs.Targets.{Points, ToObject, ToName}
+use Rattle.gix_ref_name.specs.Targets.{ToObject, ToName}
 use Rattle.gix_ref_format.specs.Ids.{id_from_hex}
 use Rattle.gix_ref_format.specs.Lines.{without_last}
 use Rattle.gix_ref_format.specs.Loose.{loose_target, loose_text, without_spaces, referent, leading_id, is_symbolic, ends_word}

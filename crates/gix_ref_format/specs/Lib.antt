@@ -7,4 +7,5 @@ pub mod Packed
 pub mod PackedBuffer
 pub mod PackedIter
 pub mod PackedKept
+pub mod PackedText
 pub mod Written

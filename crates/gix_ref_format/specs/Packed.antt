@@ -1,8 +1,8 @@
 -- The file `packed-refs` (git-pack-refs(1); gitrepository-layout, "packed-refs"): lines
 -- `<hex> <name>`, each followed or not by a line `^<hex>`, the peeled id of the tag. A first line
 -- that begins with `#` is a header.
-use Rattle.std.specs.Prelude.{ℕ, ◌≡◌, ◌+◌, ◌==◌, min, Bool, true, false, ◌&&◌, is_some, List, [], ◌∷◌, ◌++◌, map, length, take, drop, codes, if◌then◌else◌, Option, Some, None, option_map, option_and_then, Result, Ok, Err, IsTrue, IsFalse}
-use Rattle.std.specs.List.{slice_split, ends_with}
+use Rattle.std.specs.Prelude.{ℕ, ◌≡◌, ◌+◌, ◌==◌, min, Bool, true, false, ◌&&◌, is_some, List, [], ◌∷◌, take, drop, codes, if◌then◌else◌, Option, Some, None, option_map, option_and_then, Result, Ok, Err}
+use Rattle.std.specs.List.{slice_split}
 use Rattle.bstr.specs.BStr.{bstr_bytes}
 use Rattle.gix_hash.specs.Id.{Id, id_of}
 use Rattle.gix_hash.specs.Kind.{hex_len}

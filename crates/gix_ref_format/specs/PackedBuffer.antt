@@ -1,9 +1,9 @@
 -- The whole of `packed-refs`, ready for lookups.
-use Rattle.std.specs.Prelude.{ℕ, ◌≡◌, Bool, List, [], ◌∷◌, map, find, Option, Some, None, option_map, bytes_eq, IfSome}
+use Rattle.std.specs.Prelude.{ℕ, ◌≡◌, Bool, List, [], ◌∷◌, map, find, Option, Some, None, option_map, bytes_eq}
 use Rattle.std.specs.List.Sorted.{IsPermutation, IsSortedBy}
 use Rattle.std.specs.Ordering.{is_lt, nat_cmp}
 use Rattle.std.specs.Cmp.Lexicographic.{slice_cmp}
-use Rattle.gix_hash.specs.Id.{Id, id_of}
+use Rattle.gix_hash.specs.Id.{id_of}
 use Rattle.gix_hash.specs.declared.kind.Kind.{Kind}
 use Rattle.gix_object_lines.specs.NameTest.{begins}
 use Rattle.gix_ref_format.specs.Packed.{Record, Item, Good, Bad, BadHeader, packed_items, packed_records}

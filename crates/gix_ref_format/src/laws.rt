@@ -11,6 +11,7 @@ mod written;
 use gix_hash::laws::printed_id_reads_back;
 use gix_hash::{Kind, ObjectId};
 use gix_ref_name::FullNameRef;
+pub(crate) use written::{entries_can_stand, record_can_stand};
 pub use written::{records_can_stand, written_records_are_read};
 
 /// The text that is written of an id is read as that id.

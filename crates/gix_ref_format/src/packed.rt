@@ -12,6 +12,8 @@ pub mod iter;
 mod merge;
 mod open;
 mod records;
+mod run;
+mod text;
 mod write;
 
 pub use crate::packed::buffer::Buffer;

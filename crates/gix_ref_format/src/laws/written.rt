@@ -2,10 +2,14 @@
 
 ghost use Rattle.std.specs.Prelude.{◌≡◌, map, Some};
 ghost use Rattle.gix_hash.specs.Id.{id_of};
+ghost use Rattle.gix_hash.specs.declared.kind.Kind.{Kind};
 ghost use Rattle.gix_ref_format.specs.Packed.{packed_records, record_of};
-ghost use Rattle.gix_ref_format.specs.Written.{IsIdOf, IsRecordOf, AreRecordsOf, HasKind, AllHaveKind, packed_text};
+ghost use Rattle.gix_ref_format.specs.PackedBuffer.{entry_records};
+ghost use Rattle.gix_ref_format.specs.PackedText.{AllStand, CanStand};
+ghost use Rattle.gix_ref_format.specs.Written.{IsIdOf, AreRecordsOf, AllHaveKind, packed_text};
 
 use crate::packed::Reference;
+use crate::packed::buffer::Entry;
 use gix_hash::laws::printed_id_reads_back;
 use gix_hash::{Kind, ObjectId};
 
@@ -23,22 +27,32 @@ pub fn records_can_stand(records: &[Reference<'_>], kind: Kind)
         → AreRecordsOf kind (map record_of records.now) }
 {
     for record in records {
-        record_can_stand(record, kind);
+        record_can_stand(record);
     }
 }
 
-fn record_can_stand(record: &Reference<'_>, kind: Kind)
-    ensures { HasKind kind (record_of record.now) → IsRecordOf kind (record_of record.now) }
+/// Those of entries may be in a file of the hash function of their ids.
+pub(crate) fn entries_can_stand(entries: &[Entry])
+    ensures { AllStand (entry_records entries.now) }
 {
-    id_can_stand(&record.target, kind);
+    for entry in entries {
+        record_can_stand(&entry.as_reference());
+    }
+}
+
+/// So may each record.
+pub(crate) fn record_can_stand(record: &Reference<'_>)
+    ensures { CanStand (record_of record.now) }
+{
+    id_can_stand(&record.target);
     let _name = record.name.as_bstr();
     if let Some(peeled) = record.object {
-        id_can_stand(&peeled, kind);
+        id_can_stand(&peeled);
     }
 }
 
-fn id_can_stand(id: &ObjectId, kind: Kind)
-    ensures { (id_of id.now).kind ≡ kind → IsIdOf kind (id_of id.now) }
+fn id_can_stand(id: &ObjectId)
+    ensures { (kind : Kind) → (id_of id.now).kind ≡ kind → IsIdOf kind (id_of id.now) }
 {
     printed_id_reads_back(id);
     let _bytes = id.as_slice();

@@ -1,19 +1,21 @@
 //! Reading `packed-refs` again: what is known of it isn't parsed a second time.
 
-ghost use Rattle.std.specs.Prelude.{◌≡◌, Some, map, option_map, IfErr, IfOk, IfSome, IsErrOf, IsTrue, MatchResult};
+ghost use Rattle.std.specs.Prelude.{◌≡◌, ◌++◌, Some, bytes_eq, map, not, option_map, IfErr, IfOk, IfSome, IsErrOf, IsTrue, MatchResult};
 ghost use Rattle.std.specs.List.{filter};
 ghost use Rattle.gix_hash.specs.Id.{id_of};
 ghost use Rattle.gix_ref_file.specs.Tree.{node_at, bytes_of};
-ghost use Rattle.gix_ref_format.specs.Packed.{packed_records, record_of};
 ghost use Rattle.gix_ref_format.specs.PackedBuffer.{entry_records, IsInOrder, Keeps, KeepsFile, OpenFault, FileFault};
 ghost use Rattle.gix_ref_format.specs.PackedKept.{IsKnownOf, kept, text_of};
-ghost use Rattle.gix_ref_format.specs.Written.{AllHaveKind};
+ghost use Rattle.gix_ref_format.specs.PackedText.{IsWritten};
+ghost use Rattle.gix_ref_format.specs.Written.{AllHaveKind, header_text};
 ghost use Rattle.gix_ref_format.specs.declared.packed.buffer.Error.TheVariants.{Io};
 
-use crate::laws::written_records_are_read;
+use crate::laws::entries_can_stand;
 use crate::packed::buffer::{Buffer, Entry, Error, name_of};
-use crate::packed::{Reference, packed_text};
+use crate::packed::run::Run;
+use crate::packed::write::HEADER;
 use gix_hash::{Kind, ObjectId};
+use gix_object_lines::cut::strip_prefix;
 use gix_ref_file::{FileError, Files};
 use gix_ref_name::FullNameRef;
 use std::alloc::{AllocError, Global};
@@ -88,11 +90,32 @@ impl Buffer {
             (OpenFault kind bytes.items) }
         ensures bytes { IfOk result (λ buffer. buffer.bytes ≡ bytes) }
     {
-        let entries = others(self.entries, gone.to_path());
-        if are_written(alloc, &entries, &bytes, kind)? {
-            return Ok(Buffer { bytes, entries });
+        if !self.has_become(&bytes, gone.to_path()) {
+            return Buffer::from_bytes(alloc, bytes, kind);
         }
-        Buffer::from_bytes(alloc, bytes, kind)
+        let entries = others(self.entries, gone.to_path());
+        if !have_kind(&entries, kind) {
+            return Buffer::from_bytes(alloc, bytes, kind);
+        }
+        entries_can_stand(&entries);
+        Ok(Buffer {
+            bytes,
+            entries,
+            is_written: true,
+        })
+    }
+
+    // Returns whether both its bytes and these are what is written of its records, these but for
+    // that of the name.
+    fn has_become(&self, bytes: &[u8], gone: &[u8]) -> bool
+        ensures { IsTrue result
+            → IsWritten (filter (λ r. not (bytes_eq r.name gone.now)) (kept self.now)) bytes.now }
+    {
+        if !self.is_written {
+            return false;
+        }
+        let (front, back) = self.run().around(gone);
+        are_joined(bytes, front, back)
     }
 }
 
@@ -106,7 +129,12 @@ fn again(alloc: Global, bytes: Vec<u8>, kind: Kind, known: Option<&Buffer>) -> R
     if let Some(buffer) = known {
         if buffer.as_ref() == bytes.as_slice() {
             let entries = copied(alloc, &buffer.entries)?;
-            return Ok(Buffer { bytes, entries });
+            let is_written = buffer.is_written;
+            return Ok(Buffer {
+                bytes,
+                entries,
+                is_written,
+            });
         }
     }
     Buffer::from_bytes(alloc, bytes, kind)
@@ -128,48 +156,34 @@ fn copied(alloc: Global, entries: &[Entry]) -> Result<Vec<Entry>, AllocError>
 
 // The entries of other names, in their order.
 fn others(mut entries: Vec<Entry>, gone: &[u8]) -> Vec<Entry>
-    ensures { IsInOrder entries.items → IsInOrder result.items }
+    ensures order { IsInOrder entries.items → IsInOrder result.items }
+    ensures others { entry_records result.items
+        ≡ filter (λ r. not (bytes_eq r.name gone.now)) (entry_records entries.items) }
 {
     entries.retain(|entry| name_of(entry) != gone);
     entries
 }
 
-// Returns whether the bytes are the text of these records, whose ids are all of this kind.
-fn are_written(
-    alloc: Global,
-    entries: &[Entry],
-    bytes: &[u8],
-    kind: Kind,
-) -> Result<bool, AllocError>
-    ensures { IfOk result (λ are. IsTrue are
-        → packed_records kind bytes.now ≡ Some (entry_records entries.now)) }
+// Returns whether the bytes are a header and the lines of both.
+fn are_joined(bytes: &[u8], front: Run<'_>, back: Run<'_>) -> bool
+    ensures { IsTrue result
+        → bytes.now ≡ header_text ++ (front.entry.text.now ++ back.entry.text.now) }
 {
-    let records = lent(alloc, entries)?;
-    if !have_kind(&records, kind) {
-        return Ok(false);
-    }
-    written_records_are_read(&records, kind);
-    let text = packed_text(alloc, &records)?;
-    Ok(text.as_slice() == bytes)
-}
-
-// The records of the entries.
-fn lent<'a>(alloc: Global, entries: &'a [Entry]) -> Result<Vec<Reference<'a>>, AllocError>
-    ensures { IfOk result (λ records. map record_of records.items ≡ entry_records entries.now) }
-{
-    let mut records = Vec::new(alloc);
-    for entry in entries {
-        records.push(entry.as_reference())?;
-    }
-    Ok(records)
+    let Some(lines) = strip_prefix(bytes, HEADER) else {
+        return false;
+    };
+    let Some(rest) = strip_prefix(lines, front.text) else {
+        return false;
+    };
+    rest == back.text
 }
 
 // Returns whether all ids are of this kind.
-fn have_kind(records: &[Reference<'_>], kind: Kind) -> bool
-    ensures { IsTrue result → AllHaveKind kind (map record_of records.now) }
+fn have_kind(entries: &[Entry], kind: Kind) -> bool
+    ensures { IsTrue result → AllHaveKind kind (entry_records entries.now) }
 {
-    for record in records {
-        if record.target.kind() != kind || !is_peeled_of(record.object, kind) {
+    for entry in entries {
+        if entry.target.kind() != kind || !is_peeled_of(entry.object, kind) {
             return false;
         }
     }

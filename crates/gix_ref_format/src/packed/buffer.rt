@@ -1,8 +1,9 @@
 //! The whole of `packed-refs`: what a buffer keeps, and why a file isn't opened.
 
-ghost use Rattle.std.specs.Prelude.{◌≡◌};
+ghost use Rattle.std.specs.Prelude.{◌≡◌, IsTrue};
 ghost use Rattle.gix_ref_format.specs.declared.packed.buffer.Error.TheVariants.{Memory};
-ghost use Rattle.gix_ref_format.specs.PackedBuffer.{IsInOrder};
+ghost use Rattle.gix_ref_format.specs.PackedBuffer.{IsInOrder, entry_records};
+ghost use Rattle.gix_ref_format.specs.PackedText.{IsWritten};
 
 use gix_hash::ObjectId;
 use gix_ref_name::FullName;
@@ -59,7 +60,10 @@ pub(crate) struct Entry {
 pub struct Buffer {
     pub(crate) bytes: Vec<u8>,
     pub(crate) entries: Vec<Entry>,
+    // The bytes are what is written of these records.
+    pub(crate) is_written: bool,
     ghost in_order: { IsInOrder entries.items },
+    ghost written: { IsTrue is_written → IsWritten (entry_records entries.items) bytes.items },
 }
 
 // The bytes of its name.

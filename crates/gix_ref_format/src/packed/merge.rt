@@ -55,7 +55,7 @@ fn add_records<'a>(records: Records<'a>, lines: &mut Vec<Edit<'a>>) -> Result<()
 }
 
 // The lines in the order of their names.
-fn arranged(mut lines: Vec<Edit<'_>>) -> Result<Vec<Edit<'_>>, AllocError>
+pub(crate) fn arranged(mut lines: Vec<Edit<'_>>) -> Result<Vec<Edit<'_>>, AllocError>
     ensures { IfOk result (λ found.
         spec.Arranges (spec.lines_of lines.entry.items) (spec.lines_of found.items)) }
 {
@@ -88,7 +88,7 @@ fn standing<'a>(alloc: Global, lines: &[Edit<'a>]) -> Result<Vec<Reference<'a>>,
 }
 
 // Returns whether the last name is this one.
-fn is_same(last: Option<FullNameRef<'_>>, name: FullNameRef<'_>) -> bool
+pub(crate) fn is_same(last: Option<FullNameRef<'_>>, name: FullNameRef<'_>) -> bool
     ensures { result ≡ spec.is_same (option_map name_of last.entry) (name_of name.entry) }
 {
     match last {

@@ -1,31 +1,39 @@
 //! Opening `packed-refs`.
 
-ghost use Rattle.std.specs.Prelude.{◌≡◌, Some, IfOk, IsErrOf, MatchResult, option_map};
+ghost use Rattle.std.specs.Prelude.{◌≡◌, Some, IfOk, IsErrOf, IsTrue, MatchResult, map, option_map};
 ghost use Rattle.gix_ref_file.specs.Tree.{node_at, bytes_of};
-ghost use Rattle.gix_ref_format.specs.Packed.{Good, item_view, packed_records, all_good};
+ghost use Rattle.gix_ref_format.specs.Packed.{Good, item_view, packed_records, all_good, record_of};
 ghost use Rattle.gix_ref_format.specs.PackedBuffer.{entry_record, entry_records, IsInOrder, Holds, Keeps, KeepsFile, OpenFault, FileFault, GatherFault, ItemFault};
 ghost use Rattle.gix_ref_format.specs.PackedIter.{items_left};
 ghost use Rattle.gix_ref_format.specs.PackedKept.{kept, text_of};
+ghost use Rattle.gix_ref_format.specs.PackedText.{IsWritten, ascends, is_before};
 ghost use Rattle.gix_ref_format.specs.declared.packed.buffer.Error.TheVariants.{Io};
 
-use crate::packed::Reference;
 use crate::packed::buffer::{Buffer, Entry, Error, name_of};
 use crate::packed::iter::{self, Iter};
+use crate::packed::{Reference, packed_text};
 use gix_hash::Kind;
 use gix_ref_file::Files;
 use std::alloc::{AllocError, Global};
+use std::cmp::Ordering;
 
 impl Buffer {
     /// The buffer of these bytes, which are taken over, with ids of this kind. It reads each line
-    /// once. Returns `Iter` with the number of the first bad line, and `HeaderParsing` if the first
-    /// line begins with `#` and is no header; and `Memory` if no memory is left.
+    /// once, and compares the bytes with the text of the records. Returns `Iter` with the number of
+    /// the first bad line, and `HeaderParsing` if the first line begins with `#` and is no header;
+    /// and `Memory` if no memory is left.
     pub fn from_bytes(alloc: Global, bytes: Vec<u8>, kind: Kind) -> Result<Buffer, Error>
         ensures kept { MatchResult result (λ buffer. Keeps kind bytes.items (kept buffer))
             (OpenFault kind bytes.items) }
         ensures bytes { IfOk result (λ buffer. buffer.bytes ≡ bytes) }
     {
         let entries = sorted(collect(alloc, &bytes, kind)?)?;
-        Ok(Buffer { bytes, entries })
+        let is_written = are_written(alloc, &entries, &bytes)?;
+        Ok(Buffer {
+            bytes,
+            entries,
+            is_written,
+        })
     }
 
     /// The buffer of the file at this path, with ids of this kind; `None` if there is no file.
@@ -99,4 +107,52 @@ fn sorted(mut entries: Vec<Entry>) -> Result<Vec<Entry>, AllocError>
 {
     entries.sort_by(|one, other| name_of(one).cmp(name_of(other)))?;
     Ok(entries)
+}
+
+// Returns whether the bytes are what is written of these entries.
+fn are_written(alloc: Global, entries: &[Entry], bytes: &[u8]) -> Result<bool, AllocError>
+    ensures { IfOk result
+        (λ are. IsTrue are → IsWritten (entry_records entries.now) bytes.now) }
+{
+    if !ascend(entries) {
+        return Ok(false);
+    }
+    let records = lent(alloc, entries)?;
+    let text = packed_text(alloc, &records)?;
+    Ok(text.as_slice() == bytes)
+}
+
+// Returns whether each name comes before the next.
+fn ascend(entries: &[Entry]) -> bool
+    ensures { result ≡ ascends (entry_records entries.now) }
+{
+    let mut rest = entries;
+    'entries: while let Some((first, others)) = rest.split_first() {
+        if !comes_before(first, others) {
+            return false;
+        }
+        rest = others;
+    }
+    true
+}
+
+// Returns whether the name comes before that of the first of the others.
+fn comes_before(entry: &Entry, others: &[Entry]) -> bool
+    ensures { result ≡ is_before entry.now.name (entry_records others.now) }
+{
+    match others.first() {
+        Some(next) => name_of(entry).cmp(name_of(next)) == Ordering::Less,
+        None => true,
+    }
+}
+
+// The records of the entries.
+fn lent<'a>(alloc: Global, entries: &'a [Entry]) -> Result<Vec<Reference<'a>>, AllocError>
+    ensures { IfOk result (λ records. map record_of records.items ≡ entry_records entries.now) }
+{
+    let mut records = Vec::new(alloc);
+    for entry in entries {
+        records.push(entry.as_reference())?;
+    }
+    Ok(records)
 }

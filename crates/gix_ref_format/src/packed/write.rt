@@ -10,6 +10,9 @@ use crate::packed::Reference;
 use gix_hash::{Kind, ObjectId};
 use std::alloc::{AllocError, Global};
 
+// The first line, which says that the records ascend and have all peeled ids.
+pub(crate) const HEADER: &[u8] = b"# pack-refs with: peeled fully-peeled sorted \n";
+
 /// The text of a file of these records in their order, which is to ascend by name: the header and
 /// each record's lines.
 pub fn packed_text(alloc: Global, records: &[Reference<'_>]) -> Result<Vec<u8>, AllocError>
@@ -23,11 +26,11 @@ pub fn packed_text(alloc: Global, records: &[Reference<'_>]) -> Result<Vec<u8>, 
     Ok(text)
 }
 
-/// Appends the first line, which says that the records ascend and have all peeled ids.
+/// Appends the first line.
 pub fn write_header(out: &mut Vec<u8>) -> Result<(), AllocError>
     ensures { OnOk result (out.new.items ≡ out.old.items ++ spec.header_text) }
 {
-    out.extend_from_slice(b"# pack-refs with: peeled fully-peeled sorted \n")
+    out.extend_from_slice(HEADER)
 }
 
 /// Appends the line of a record, and after it that of its peeled id, if it has one. Digits are of

@@ -6,7 +6,7 @@ use Rattle.gix_hash.proofs.KindLemmas.{hex_len-byte_len}
 use Rattle.gix_ref_format.proofs.laws.written.id_can_stand.Goals as goal
 
 pub returns : goal.returns
-returns c = λ same.
+returns c = λ kind same.
     let id = id_of c.args.id.now in
     record {
       of_kind = same;

@@ -1,9 +1,8 @@
-use Rattle.std.proofs.Common.{map, drop}
-use Rattle.gix_ref_format.specs.Packed.{record_of}
+use Rattle.std.proofs.Common.{drop}
+use Rattle.gix_ref_format.specs.PackedBuffer.{entry_records}
 use Rattle.gix_ref_format.specs.Written.{AllHaveKind}
 use Rattle.gix_ref_format.proofs.packed.again.have_kind.Given as goal
 
--- what holds of the records that are left holds of all
-abbrev pub invariant-loop-record : goal.invariant-loop-record
-invariant-loop-record l =
-    AllHaveKind l.kind (map record_of (drop l.record-index l.records)) → AllHaveKind l.kind (map record_of l.records)
+-- what holds of the entries that are left holds of all
+abbrev pub invariant-loop-entry : goal.invariant-loop-entry
+invariant-loop-entry l = AllHaveKind l.kind (entry_records (drop l.entry-index l.entries)) → AllHaveKind l.kind (entry_records l.entries)

@@ -1,4 +1,4 @@
-use Rattle.std.proofs.Common.{◌≡◌, ◌∙◌, sym, ap, false, option_map}
+use Rattle.std.proofs.Common.{◌∙◌, sym, ap, false, option_map}
 use Rattle.gix_hash.specs.Id.{id_of}
 use Rattle.gix_ref_name.specs.Names.{name_of}
 use Rattle.gix_ref_format.specs.Lines.{lines}

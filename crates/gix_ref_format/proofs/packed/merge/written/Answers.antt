@@ -1,4 +1,4 @@
-use Rattle.std.proofs.Common.{◌≡◌, ◌∙◌, ◌++◌, [], ap, sym, None}
+use Rattle.std.proofs.Common.{◌∙◌, ◌++◌, [], ap, sym, None}
 use Rattle.std.proofs.lemmas.Result.{IfOk-weaker}
 use Rattle.std.proofs.lemmas.List.{append-nil}
 use Rattle.gix_ref_format.specs.Packed.{record_of}
