@@ -1,6 +1,6 @@
 -- Counting the trees that an edit looks up.
 use Rattle.std.proofs.Common.{ℕ, zero, suc, ◌≡◌, ◌≢◌, ◌<◌, ◌+◌, ◌&&◌, ◌⊎◌, inl, inr, Bool, true, false, List, [], ◌∷◌, ◌++◌, Option, Some, None, refl, sym, ap, subst, ◌∙◌, arith, length, drop, get_or, add-one, if◌then◌else◌}
-use Rattle.std.specs.Prelude.{not, Result, Ok, Err, IfOk, IfErr, OnOk, ⊤}
+use Rattle.std.specs.Prelude.{not, Result, Ok, Err, ⊤}
 use Rattle.std.specs.List.{All, Contains}
 use Rattle.std.specs.Borrow.{Bor}
 use Rattle.std.proofs.lemmas.List.{append_assoc, append-nil, length-append, get_or-map}
@@ -15,10 +15,9 @@ use Rattle.gix_object_editor.specs.declared.tree.editor.error.Error.TheVariants.
 use Rattle.gix_object_nodes.specs.declared.node.NodeId.{NodeId}
 use Rattle.gix_object_nodes.specs.declared.node.Slot.{Slot}
 use Rattle.gix_object_nodes.specs.Files.{Bytes, Path, Leaf, Trees, is_null, leads_on, leaf_of, named, through}
-use Rattle.gix_object_editor.specs.Stored.{HasStored}
 use Rattle.gix_object_nodes.specs.Nodes.{Slots, leaf_in, child_or, child_of, StandsFor, Way, onto, LeadsTo}
 use Rattle.gix_object_editor.specs.Refusals.{OpeningFault, FolderFault}
-use Rattle.gix_object_editor.specs.Asked.{front_of, ids_from, trees_into, slot_into, unopened_into, found_into, IsStoredTree, CountsUp, AsksUpTo, AsksAll, AsksFor, AsksSome, StopsAt}
+use Rattle.gix_object_editor.specs.Asked.{front_of, ids_from, trees_into, slot_into, unopened_into, found_into, IsStoredTree, CountsUp, Asks, AsksTo, AsksUpTo, AsksAll, AsksFor, AsksSome, StopsAt}
 use Rattle.gix_object_editor.proofs.Walked.{names, names_length, last_name}
 use Rattle.gix_object_editor.proofs.Edits.{last_split}
 use Rattle.gix_object_editor.proofs.Folders.{below_base}
@@ -295,12 +294,6 @@ module _ (table : Table) (trees : Trees) (old new : Slots) (at : ℕ) (path : Li
       asks_then table ids (unopened_into trees old at ((get_or path i d).now ∷ rest)) (unopened_into trees new c.0 rest) was mid now stepped
       (subst (λ (x : Option NodeId). AsksUpTo table (unopened_into trees old at ((get_or path i d).now ∷ rest)) (found_into trees new x rest) mid now) is (asked rest))
 
-  pub walk_ends : (o : Option NodeId) → o ≡ None → ((rest : Path) → AsksUpTo table (unopened_into trees old at ((get_or path i d).now ∷ rest)) (found_into trees new o rest) mid now) → AsksAll table ids was now
-  walk_ends o is asked =
-      let rest = front_of (names (drop (i + 1) path)) ++ more in
-      asks_done table ids was now (asks_then table ids (unopened_into trees old at ((get_or path i d).now ∷ rest)) [] was mid now stepped
-      (subst (λ (x : Option NodeId). AsksUpTo table (unopened_into trees old at ((get_or path i d).now ∷ rest)) (found_into trees new x rest) mid now) is (asked rest)))
-
   pub walk_stops : (honest may_fail : Type 0) (id : Id) (e : Error) → OpeningFault honest may_fail table id e
       → ((rest : Path) → StopsAt honest may_fail table (unopened_into trees old at ((get_or path i d).now ∷ rest)) mid now e) → StopsAt honest may_fail table ids was now e
   walk_stops honest may_fail id e fault stops =
@@ -319,23 +312,14 @@ asked_whole table trees slots o ids was now a = asks_done table ids was now (sub
 pub some_all : (table : Table) (ids : List Id) (was now : ℕ) → AsksAll table ids was now → AsksSome ids was now
 some_all table ids was now h = record { front = ids; rest = []; split = append-nil ids; counted = h.1 }
 
-pub ok_weaker : {X E : Type 0} (r : Result X E) (P : X → Type 0) (Q : Type 0) → ((x : X) → P x → Q) → IfOk r P → OnOk r Q
-ok_weaker (Ok x) P Q h p = h x p
-ok_weaker (Err e) P Q h p = tt
-
-pub below_asked : (table : Table) (old new : Slots) (at : ℕ) (n m : Bytes) (r : Result (Option NodeId) Error) (was now : ℕ) (one : Type 0) → n ≡ m
-    → IfOk r (λ found. (trees : Trees) → HasStored table trees → (rest : Path) → AsksUpTo table (unopened_into trees old at (n ∷ rest)) (found_into trees new found rest) was now)
-    → OnOk r ((trees : Trees) → HasStored table trees → one → AsksAll table (unopened_into trees old at (m ∷ [])) was now)
-below_asked table old new at n m (Ok found) was now one e h = λ trees has o.
-    asked_whole table trees new found (unopened_into trees old at (m ∷ [])) was now (subst (λ (x : Bytes). AsksUpTo table (unopened_into trees old at (x ∷ [])) (found_into trees new found []) was now) e (h trees has []))
-below_asked table old new at n m (Err x) was now one e h = tt
-
-pub below_stops : (honest may_fail : Type 0) (table : Table) (old : Slots) (at : ℕ) (n m : Bytes) (r : Result (Option NodeId) Error) (was now : ℕ) → n ≡ m
-    → IfErr r (λ error. (trees : Trees) → HasStored table trees → (rest : Path) → StopsAt honest may_fail table (unopened_into trees old at (n ∷ rest)) was now error)
-    → IfErr r (λ error. (trees : Trees) → HasStored table trees → StopsAt honest may_fail table (unopened_into trees old at (m ∷ [])) was now error)
-below_stops honest may_fail table old at n m (Ok found) was now e h = tt
-below_stops honest may_fail table old at n m (Err x) was now e h = λ trees has.
-    subst (λ (y : Bytes). StopsAt honest may_fail table (unopened_into trees old at (y ∷ [])) was now x) e (h trees has [])
+-- of one name, whatever follows it
+pub asks_below : (honest may_fail : Type 0) (table : Table) (old new : Slots) (at : ℕ) (n m : Bytes) (r : Result (Option NodeId) Error) (was now : ℕ) → n ≡ m
+    → AsksTo honest may_fail table (λ trees rest. unopened_into trees old at (n ∷ rest)) (λ found trees. found_into trees new found) was now r
+    → Asks honest may_fail table (λ trees. unopened_into trees old at (m ∷ [])) was now r
+asks_below honest may_fail table old new at n m (Ok found) was now e h = λ honest_now trees has.
+    asked_whole table trees new found (unopened_into trees old at (m ∷ [])) was now (subst (λ (x : Bytes). AsksUpTo table (unopened_into trees old at (x ∷ [])) (found_into trees new found []) was now) e (h honest_now trees has []))
+asks_below honest may_fail table old new at n m (Err x) was now e h = λ honest_now trees has.
+    subst (λ (y : Bytes). StopsAt honest may_fail table (unopened_into trees old at (y ∷ [])) was now x) e (h honest_now trees has [])
 
 -- ---- whole paths
 
@@ -349,34 +333,66 @@ last_whole path i e =
     by_name (p ∷ path) i lt e =
         ap (λ n. front_of (names (p ∷ path)) ++ n ∷ []) (get_or-map (λ (x : Bor (List ℕ)). x.now) (p ∷ path) i p [] lt) ∙ front_whole (p ∷ path) i p e
 
+-- the names but the last that a walk left lead on to nothing
+front_left : (trees : Trees) (mid : Slots) (at : ℕ) (path : List (Bor (List ℕ))) (i : ℕ) → i < length path → (i + 1 < length path → (rest : Path) → unopened_into trees mid at (get_or (names path) i [] ∷ rest) ≡ [])
+    → unopened_into trees mid at (front_of (names (drop i path)) ++ []) ≡ []
+front_left trees mid at path i within none = elim (cases_eq (i + 1) (length path)) [
+  | inl e ↦ ap (unopened_into trees mid at) (front_ends path i [] e)
+  | inr ne ↦
+      let lt : i + 1 < length path = omega (arith, within, ne) in
+      let d : Bor (List ℕ) = record { ref_ptr = (0, 0); now = [] } in
+      ap (unopened_into trees mid at) (front_step path i d [] lt ∙ ap (λ n. n ∷ (front_of (names (drop (i + 1) path)) ++ [])) (sym (get_or-map (λ (x : Bor (List ℕ)). x.now) path i d [] within)))
+      ∙ none lt (front_of (names (drop (i + 1) path)) ++ [])
+]
+
+-- with the last, they lead on as the first alone does
+last_left : (trees : Trees) (mid : Slots) (at : ℕ) (path : List (Bor (List ℕ))) (i : ℕ) (n : Bytes) → i < length path → (i + 1 < length path → (rest : Path) → unopened_into trees mid at (get_or (names path) i [] ∷ rest) ≡ [])
+    → (i + 1 ≡ length path → n ≡ get_or (names path) i []) → unopened_into trees mid at (front_of (names (drop i path)) ++ n ∷ []) ≡ unopened_into trees mid at (get_or (names path) i [] ∷ [])
+last_left trees mid at path i n within none last = elim (cases_eq (i + 1) (length path)) [
+  | inl e ↦ ap (unopened_into trees mid at) (front_ends path i (n ∷ []) e ∙ ap (λ m. m ∷ []) (last e))
+  | inr ne ↦
+      let lt : i + 1 < length path = omega (arith, within, ne) in
+      let d : Bor (List ℕ) = record { ref_ptr = (0, 0); now = [] } in
+      ap (unopened_into trees mid at) (front_step path i d (n ∷ []) lt ∙ ap (λ m. m ∷ (front_of (names (drop (i + 1) path)) ++ n ∷ [])) (sym (get_or-map (λ (x : Bor (List ℕ)). x.now) path i d [] within)))
+      ∙ none lt (front_of (names (drop (i + 1) path)) ++ n ∷ []) ∙ sym (none lt [])
+]
+
 module _ (table : Table) (trees : Trees) (old mid : Slots) (from at : ℕ) (path : List (Bor (List ℕ))) (i : ℕ) (was between now : ℕ) (within : i < length path)
-    (asked : (more : Path) → i + 1 ≡ length path → AsksUpTo table (unopened_into trees old from (front_of (names path) ++ more)) (unopened_into trees mid at more) was between)
-    (all : (more : Path) → i + 1 < length path → AsksAll table (unopened_into trees old from (front_of (names path) ++ more)) was between) where
+    (none : i + 1 < length path → (rest : Path) → unopened_into trees mid at (get_or (names path) i [] ∷ rest) ≡ [])
+    (asked : (more : Path) → AsksUpTo table (unopened_into trees old from (front_of (names path) ++ more)) (unopened_into trees mid at (front_of (names (drop i path)) ++ more)) was between) where
   -- through a path
   pub through_asked : AsksAll table (unopened_into trees old from (front_of (names path))) was between
-  through_asked = subst (λ (p : Path). AsksAll table (unopened_into trees old from p) was between) (append-nil (front_of (names path))) (elim (cases_eq (i + 1) (length path)) [
-    | inl e ↦ asks_done table (unopened_into trees old from (front_of (names path) ++ [])) was between (asked [] e)
-    | inr ne ↦ all [] (omega (arith, within, ne))
-  ])
+  through_asked =
+      subst (λ (p : Path). AsksAll table (unopened_into trees old from p) was between) (append-nil (front_of (names path)))
+      (asks_done table (unopened_into trees old from (front_of (names path) ++ [])) was between
+      (subst (λ l. AsksUpTo table (unopened_into trees old from (front_of (names path) ++ [])) l was between) (front_left trees mid at path i within none) (asked [])))
 
-  -- into the tree at its end
-  pub into_asked : (n : Bytes) → (i + 1 ≡ length path → (front_of (names path) ++ n ∷ [] ≡ names path) × AsksAll table (unopened_into trees mid at (n ∷ [])) between now)
-      → (i + 1 < length path → now ≡ between) → AsksAll table (unopened_into trees old from (names path)) was now
-  into_asked n last same = elim (cases_eq (i + 1) (length path)) [
-    | inl e ↦ subst (λ (p : Path). AsksAll table (unopened_into trees old from p) was now) (last e).0
-        (all_then table (unopened_into trees old from (front_of (names path) ++ n ∷ [])) (unopened_into trees mid at (n ∷ [])) was between now (asked (n ∷ []) e) (last e).1)
-    | inr ne ↦
-        let lt : i + 1 < length path = omega (arith, within, ne) in
-        let end = last_of (names path) (omega (arith, names_length path, within)) in
-        subst (λ (p : Path). AsksAll table (unopened_into trees old from p) was now) end.1
-        (subst (λ (k : ℕ). AsksAll table (unopened_into trees old from (front_of (names path) ++ end.0 ∷ [])) was k) (sym (same lt)) (all (end.0 ∷ []) lt))
-  ]
+  -- up to the tree at its end
+  asked_last : AsksUpTo table (unopened_into trees old from (names path)) (unopened_into trees mid at (get_or (names path) i [] ∷ [])) was between
+  asked_last =
+      let end = last_of (names path) (omega (arith, names_length path, within)) in
+      let name_is : i + 1 ≡ length path → end.0 ≡ get_or (names path) i [] = λ last. same_last (front_of (names path)) end.0 (get_or (names path) i []) (end.1 ∙ sym (last_whole path i last)) in
+      subst (λ (p : Path). AsksUpTo table (unopened_into trees old from p) (unopened_into trees mid at (get_or (names path) i [] ∷ [])) was between) end.1
+      (subst (λ l. AsksUpTo table (unopened_into trees old from (front_of (names path) ++ end.0 ∷ [])) l was between) (last_left trees mid at path i end.0 within none name_is) (asked (end.0 ∷ [])))
+    where
+      same_last : (p : Path) (m n : Bytes) → p ++ m ∷ [] ≡ p ++ n ∷ [] → m ≡ n
+      same_last [] m n e = cc e
+      same_last (k ∷ p) m n e = same_last p m n (tail_of k (p ++ m ∷ []) (p ++ n ∷ []) e)
+        where
+          tail_of : (k : Bytes) (x y : Path) → k ∷ x ≡ k ∷ y → x ≡ y
+          tail_of k x y h = cc h
 
-  pub into_stops : (honest may_fail : Type 0) (e : Error) → IsLate e → (n : Bytes) → i + 1 ≡ length path → front_of (names path) ++ n ∷ [] ≡ names path
+  -- and into it
+  pub into_asked : (n : Bytes) → n ≡ get_or (names path) i [] → AsksAll table (unopened_into trees mid at (n ∷ [])) between now → AsksAll table (unopened_into trees old from (names path)) was now
+  into_asked n is all =
+      all_then table (unopened_into trees old from (names path)) (unopened_into trees mid at (get_or (names path) i [] ∷ [])) was between now asked_last
+      (subst (λ (m : Bytes). AsksAll table (unopened_into trees mid at (m ∷ [])) between now) is all)
+
+  pub into_stops : (honest may_fail : Type 0) (e : Error) → IsLate e → (n : Bytes) → n ≡ get_or (names path) i []
       → StopsAt honest may_fail table (unopened_into trees mid at (n ∷ [])) between now e → StopsAt honest may_fail table (unopened_into trees old from (names path)) was now e
-  into_stops honest may_fail e late n last whole stops =
-      subst (λ (p : Path). StopsAt honest may_fail table (unopened_into trees old from p) was now e) whole
-      (stops_then honest may_fail table (unopened_into trees old from (front_of (names path) ++ n ∷ [])) (unopened_into trees mid at (n ∷ [])) was between now e late (asked (n ∷ []) last) stops)
+  into_stops honest may_fail e late n is stops =
+      stops_then honest may_fail table (unopened_into trees old from (names path)) (unopened_into trees mid at (get_or (names path) i [] ∷ [])) was between now e late asked_last
+      (subst (λ (m : Bytes). StopsAt honest may_fail table (unopened_into trees mid at (m ∷ [])) between now e) is stops)
 
 module _ (honest may_fail : Type 0) (table : Table) (trees : Trees) (old : Slots) (from : ℕ) (path : List (Bor (List ℕ))) (was now : ℕ) (e : Error)
     (stops : (more : Path) → StopsAt honest may_fail table (unopened_into trees old from (front_of (names path) ++ more)) was now e) where

@@ -1,8 +1,6 @@
 -- Which trees an edit changes.
-use Rattle.std.proofs.Common.{ℕ, ◌≡◌, ◌≢◌, ◌<◌, ◌⊎◌, Bool, true, false, List, [], ◌∷◌, ◌++◌, Option, Some, None, refl, sym, ap, subst, ◌∙◌, inl, inr, arith, length}
-use Rattle.std.specs.Borrow.{Bor}
+use Rattle.std.proofs.Common.{ℕ, ◌≡◌, ◌≢◌, ◌<◌, ◌⊎◌, true, false, [], ◌∷◌, ◌++◌, Option, Some, None, refl, sym, ap, subst, ◌∙◌, inl, inr, arith}
 use Rattle.std.proofs.lemmas.Bool.{cases_lt, cases_eq}
-use Rattle.gix_object_editor.proofs.Walked.{names}
 use Rattle.gix_object_nodes.specs.declared.node.Slot.{Slot}
 use Rattle.gix_object_nodes.specs.Files.{Bytes, Path, Trees}
 use Rattle.gix_object_nodes.specs.Nodes.{Slots, child_of, IsForest, Way, onto, LeadsTo}
@@ -92,12 +90,6 @@ cut_changed_on old mid was now a b ok opened new fin at name here others marks p
     edit_changed old mid was now a b ok opened new now fin b forest (cut_kept mid new now b at name ok here others) at path (none_on_path new path b) marks.only leads.0 (name ∷ more)
     (way_above mid new b at ok same leads.0 at (omega arith) leads.1) (λ e. cc e) (ap (onto leads.0) (sym is) ∙ leads.2) tree j to t
 
-pub cut_changed : (old mid : Slots) (was now : Marks) (a b : ℕ) → IsForest mid b → AreMarksKept false old mid was now a b → (new : Slots) (fin : Marks) (at : ℕ) (name : Bytes) → new at name ≡ None
-    → ((i : ℕ) (m : Bytes) → ((i ≡ at) → (m ≡ name) → ⊥) → new i m ≡ mid i m) → IsMarkedFor mid new now fin at b b → (path left : Path) → LeadsTo mid path at left → left ≡ name ∷ []
-    → (tree : Path) (j : ℕ) → LeadsTo new tree j [] → (fin j).changed ≡ true → ((k : ℕ) × LeadsTo old tree k [] × ((was k).changed ≡ true)) ⊎ ((more : Path) × (more ≢ []) × (tree ++ more ≡ path))
-cut_changed old mid was now a b ok opened new fin at name here others marks path left leads is =
-    cut_changed_on old mid was now a b ok opened new fin at name here others marks path left [] leads is
-
 -- ---- where no tree is changed
 
 abbrev pub Changed : Slots → Marks → Path → Type 0
@@ -169,18 +161,6 @@ module _ (old mid new end : Slots) (was now put fin : Marks) (a b c : ℕ) (mid_
       → ((k : ℕ) × LeadsTo old tree k [] × ((was k).changed ≡ true)) ⊎ ((more : Path) × (more ≢ []) × (tree ++ more ≡ path))
   laid_changed path on_path way rest down some ends tree j to t =
       edit_changed old mid was now a b mid_ok opened new put fin c new_ok made at path on_path up.only way rest down some ends tree j (subst (λ f. LeadsTo f tree j []) same to) t
-
--- an edit that failed after opened trees
-pub failed_changed : {state : Bool} → (old mid new : Slots) (was now put : Marks) (a b c : ℕ) → IsForest mid b → AreMarksKept false old mid was now a b → AreMarksKept state mid new now put b c → new ≡ mid
-    → (tree : Path) (j : ℕ) → LeadsTo new tree j [] → (put j).changed ≡ true → (k : ℕ) × LeadsTo old tree k [] × ((was k).changed ≡ true)
-failed_changed old mid new was now put a b c ok opened made same tree j to t =
-    let back : LeadsTo mid tree j [] = subst (λ f. LeadsTo f tree j []) same to in
-    let lt : j < b = way_within mid b ok back.0 j back.1 in
-    opened_changed old mid was now a b ok opened tree j back (ap (λ (m : Mark). m.changed) (sym (made.same j lt)) ∙ t)
-
-pub some_left : (path : List (Bor (List ℕ))) → 0 < length path → names path ≢ []
-some_left [] some = absurd (omega (arith, some))
-some_left (p ∷ path) some = λ e. cc e
 
 pub one_more_left : (p : Path) (x : Bytes) → p ++ x ∷ [] ≢ []
 one_more_left [] x = λ e. cc e

@@ -156,13 +156,6 @@ made_hollow trees mid new at name way left before down_to nothing clears rest =
     by_none true e = refl
     by_none false e = e
 
--- the same marks
-pub same_marks : (f g : Marks) → ((i : ℕ) → f i ≡ g i) → f ≡ g
-same_marks f g h = λ i. λ n. h n i
-
-pub both_longer : (a b c : ℕ) → a ≤ b → b ≤ c → a ≤ c
-both_longer a b c f s = omega (arith, f, s)
-
 pub none_of : (o : Option Slot) → is_some o ≡ false → o ≡ None
 none_of None e = refl
 none_of (Some s) e = absurd (cc e)

@@ -20,7 +20,7 @@ use Rattle.gix_object_nodes.proofs.Ways.{down, fewer}
 use Rattle.gix_object_editor.proofs.SlotChange.{removes, removes_nothing}
 use Rattle.gix_object_editor.proofs.Opening.{at_or_off}
 use Rattle.gix_object_nodes.proofs.Paths.{onto-append}
-use Rattle.gix_object_editor.proofs.Walked.{names, names_length}
+use Rattle.gix_object_editor.proofs.Walked.{names, names_length, names_step}
 
 -- ---- names
 
@@ -38,10 +38,13 @@ two_names (p ∷ path) (suc i) e = let less : i + 1 < length path = omega arith 
 pub rest_is : (path : List (Bor (List ℕ))) (i : ℕ) → take (length path - i) (drop i path) ≡ drop i path
 rest_is path i = let less : length (drop i path) ≤ length path - i = omega (arith, length-drop i path) in take_all (length path - i) (drop i path) less
 
-pub first_left : (path : List (Bor (List ℕ))) (i : ℕ) → i < length path → get_or (names (drop i path)) 0 [] ≡ get_or (names path) i []
-first_left [] i lt = absurd (omega arith)
-first_left (p ∷ path) zero lt = refl
-first_left (p ∷ path) (suc i) lt = let less : i < length path = omega arith in first_left path i less
+-- as many as are left
+pub left_names : (path : List (Bor (List ℕ))) (i : ℕ) → i < length path
+    → (length (take (length path - i) (drop i path)) ≡ length path - i) × (names (take (length path - i) (drop i path)) ≡ get_or (names path) i [] ∷ names (drop (i + 1) path)) × (take (length path - i) (drop i path) ≡ drop i path)
+left_names path i lt =
+    let same = rest_is path i in
+    let none : Bor (List ℕ) = record { ref_ptr = (0, 0); now = [] } in
+    (ap length same ∙ length-drop i path, ap names same ∙ names_step path i none lt ∙ ap (λ n. n ∷ names (drop (i + 1) path)) (sym (get_or-map (λ (x : Bor (List ℕ)). x.now) path i none [] lt)), same)
 
 pub empty_name : (path : List (Bor (List ℕ))) (i : ℕ) (d : Bor (List ℕ)) → i < length path → (get_or path i d).now ≡ [] → NamesAreFull (names path) → ⊥
 empty_name path i d lt none full =

@@ -1,5 +1,5 @@
 -- The entries after an edit.
-use Rattle.std.proofs.Common.{ℕ, zero, suc, ◌≡◌, ◌≢◌, ◌<◌, ◌+◌, ◌⊎◌, ◌++◌, inl, inr, true, false, List, [], ◌∷◌, Option, Some, None, refl, sym, ap, subst, ◌∙◌, arith, length, get_or, drop, add-one, if◌then◌else◌}
+use Rattle.std.proofs.Common.{ℕ, ◌≡◌, ◌≢◌, ◌<◌, ◌+◌, ◌⊎◌, ◌++◌, inl, inr, true, false, List, [], ◌∷◌, Option, Some, None, refl, sym, ap, subst, ◌∙◌, arith, length, get_or, drop, if◌then◌else◌}
 use Rattle.std.specs.Prelude.{bytes_eq, is_some}
 use Rattle.gix_hash.specs.declared.kind.Kind.{Kind}
 use Rattle.gix_object_tree.specs.Entry.{Item}
@@ -135,15 +135,6 @@ made_entries trees leaf way first x more old q = by_case (behind (onto way (firs
 pub names_drop : (path : List (Bor (List ℕ))) → names (drop 1 path) ≡ drop 1 (names path)
 names_drop [] = refl
 names_drop (p ∷ path) = refl
-
-drop_next : (path : List (Bor (List ℕ))) (i : ℕ) → names (drop 1 (drop i path)) ≡ names (drop (suc i) path)
-drop_next [] zero = refl
-drop_next [] (suc i) = refl
-drop_next (p ∷ path) zero = refl
-drop_next (p ∷ path) (suc i) = drop_next path i
-
-pub rest_dropped : (path : List (Bor (List ℕ))) (i : ℕ) → names (drop 1 (drop i path)) ≡ names (drop (i + 1) path)
-rest_dropped path i = drop_next path i ∙ ap (λ k. names (drop k path)) (sym (add-one i))
 
 pub made_then : (trees : Trees) (leaf : Leaf) (way p s : Path) → s ≡ p ++ [] ∷ [] → 0 < length p → (old : Path → Option Leaf) (q : Path) (x : Option Leaf)
     → x ≡ laid_at trees leaf (drop 1 s) (behind (onto way (get_or s 0 [] ∷ [])) q) (old q)

@@ -158,16 +158,6 @@ names_push (y ∷ xs) x = ap (λ p. y.now ∷ p) (names_push xs x)
 pub names_pushed : (ok : Bool) (xs ys : List (Bor (List ℕ))) (x : Bor (List ℕ)) → ok ≡ true → ys ≡ (if ok then xs ++ x ∷ [] else xs) → names ys ≡ names xs ++ x.now ∷ []
 names_pushed ok xs ys x was e = ap names e ∙ ap (λ b. names (if b then xs ++ x ∷ [] else xs)) was ∙ names_push xs x
 
--- ---- a folder at a path's end
-
-pub lone_rest : (p : Path) → length p ≡ 1 → p ≡ get_or p 0 [] ∷ []
-lone_rest [] e = absurd (omega arith)
-lone_rest (n ∷ []) e = refl
-lone_rest (n ∷ k ∷ p) e = absurd (omega arith)
-
-pub folder_leads : (slots : Slots) (path : Path) (at : ℕ) (name : Bytes) (c : ℕ) → LeadsTo slots path at (name ∷ []) → child_of (slots at name) ≡ Some c → LeadsTo slots path c []
-folder_leads slots path at name c leads found = (name ∷ leads.0, (at, leads.1, found), leads.2)
-
 -- ---- ways
 
 -- an edit at an opened tree, or after it, leaves the way to a tree above

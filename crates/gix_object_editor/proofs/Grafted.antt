@@ -1,16 +1,20 @@
 -- What is where a stored entry was put.
-use Rattle.std.proofs.Common.{◌≡◌, ◌⊎◌, inr, true, false, List, [], ◌∷◌, ◌++◌, Some, None, is_some, sym, ap, subst, ◌∙◌, if◌then◌else◌}
+use Rattle.std.proofs.Common.{ℕ, ◌≡◌, ◌⊎◌, inr, true, false, List, [], ◌∷◌, ◌++◌, Some, None, is_some, sym, ap, subst, ◌∙◌, if◌then◌else◌}
 use Rattle.std.specs.Prelude.{Result, Ok, Err, OnOk, IfErr}
 use Rattle.std.proofs.lemmas.List.{append-nil}
 use Rattle.gix_object_tree.specs.Entry.{Item}
 use Rattle.gix_object_tree.specs.Mode.{is_tree_value}
 use Rattle.gix_object_lookup.specs.Table.{Table}
-use Rattle.gix_object_nodes.specs.Files.{Path, Leaf, FileMap, Trees, is_null, through, leaf_of, tree_under, unless_tree, named, files_of_entry, files_of_tree, behind, put, put_at}
+use Rattle.gix_object_nodes.specs.Files.{IsEmptyTree, Path, Leaf, FileMap, Trees, is_null, through, leaf_of, tree_under, unless_tree, named, files_of_entry, files_of_tree, behind, put, put_at}
 use Rattle.gix_hash.specs.declared.object_id.ObjectId.{ObjectId}
 use Rattle.gix_object_tree.specs.declared.tree.mode.EntryKind.{EntryKind}
 use Rattle.gix_object_editor.specs.declared.tree.editor.state.Editor.{Editor}
-use Rattle.gix_object_editor.specs.Editor.{files_of, leaf_of_kind}
-use Rattle.gix_object_editor.specs.Outcomes.{Puts, Grafts}
+use Rattle.gix_object_editor.specs.Editor.{files_of, leaf_of_kind, names_of}
+use Rattle.gix_object_editor.specs.Entries.{MayStand}
+use Rattle.gix_object_editor.specs.Outcomes.{Puts, Grafts, IsKept, MayGraft}
+use Rattle.gix_object_editor.specs.declared.tree.editor.error.Error.{Error}
+use Rattle.gix_hash.specs.Id.{id_of}
+use Rattle.std.specs.Borrow.{Bor}
 use Rattle.gix_object_editor.proofs.Raised.{begins_behind}
 
 put_below : (trees : Trees) (p rest : Path) (leaf : Leaf) (files : FileMap) → put trees p leaf files (p ++ rest) ≡ files_of_entry trees rest leaf
@@ -42,10 +46,26 @@ grafts_put is_honest table p kind id old new (Ok x) h =
     let leaf : Leaf = leaf_of_kind kind id in
     let puts : Puts is_honest table p leaf old new = h in
     record {
+      put = puts;
       folder = λ honest trees has tree some items stored rest. puts.files honest trees has (p ++ rest) ∙ put_below trees p rest leaf (files_of trees old) ∙ folder_files trees leaf items rest tree some stored;
       file = λ honest trees has file some.
           puts.files honest trees has p ∙ ap (λ q. put trees p leaf (files_of trees old) q) (sym (append-nil p)) ∙ put_below trees p [] leaf (files_of trees old) ∙ file_alone trees leaf file some;
     }
+
+-- what an upsert keeps, a graft does
+pub kept_graft : {S X : Type 0} (is_honest : S → Type 0) (table : S → Table) (path : List (Bor (List ℕ))) (kind : EntryKind) (id : ObjectId) (old new : Editor S) (r : Result X Error) → (IsEmptyTree (id_of id) → ⊥)
+    → IsKept is_honest table path (λ has. MayStand has (names_of path) (leaf_of_kind kind id)) old new r → IsKept is_honest table path (MayGraft (names_of path) kind id) old new r
+kept_graft is_honest table path kind id old new r some kept = record {
+  each = λ h has down fits each. kept.each h has down (fits some) each;
+  store = kept.store;
+  counted = kept.counted;
+  as_read = kept.as_read;
+  named = kept.named;
+  full = kept.full;
+  unchanged = kept.unchanged;
+  same_entries = kept.same_entries;
+  still = kept.still;
+}
 
 -- a refusal that is one of two
 pub or_other : {X E : Type 0} (r : Result X E) (P Q : E → Type 0) → IfErr r P → IfErr r (λ e. Q e ⊎ P e)

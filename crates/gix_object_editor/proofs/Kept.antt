@@ -148,9 +148,6 @@ hung_names slots bound tail last rungs past i m s le is = elim (cases_lt i (boun
 abbrev pub unless_empty : Property → Property
 unless_empty has name leaf = if bytes_eq name [] then true else has name leaf
 
-pub empty_fits : (has : Property) (leaf : Leaf) → unless_empty has [] leaf ≡ true
-empty_fits has leaf = refl
-
 pub fits_more : (has : Property) (name : Bytes) (leaf : Leaf) → has name leaf ≡ true → unless_empty has name leaf ≡ true
 fits_more has name leaf h = elim (by_test (bytes_eq name [])) [
   | inl t ↦ ap (λ b. if b then true else has name leaf) t

@@ -1,5 +1,5 @@
 -- Trees with one slot each, put after the others and then linked.
-use Rattle.std.proofs.Common.{ℕ, zero, suc, ◌≡◌, ◌≢◌, ◌<◌, ◌≤◌, ◌+◌, ◌-◌, ◌++◌, Bool, true, List, [], ◌∷◌, Some, None, refl, sym, ap, subst, ◌∙◌, inl, inr, arith, length, get_or, drop, if◌then◌else◌}
+use Rattle.std.proofs.Common.{ℕ, zero, suc, ◌≡◌, ◌≢◌, ◌<◌, ◌≤◌, ◌+◌, ◌-◌, ◌++◌, ◌⊎◌, Bool, true, List, [], ◌∷◌, Some, None, refl, sym, ap, subst, ◌∙◌, inl, inr, arith, length, get_or, drop, if◌then◌else◌}
 use Rattle.std.specs.Prelude.{bytes_eq, is_some}
 use Rattle.std.specs.Borrow.{Bor}
 use Rattle.std.proofs.lemmas.List.{length-drop}
@@ -8,9 +8,15 @@ use Rattle.gix_object_nodes.specs.declared.node.Node.{Node}
 use Rattle.gix_object_nodes.specs.declared.node.Slot.{Slot}
 use Rattle.gix_object_nodes.specs.Files.{Bytes, Path, Trees, behind, through, files_of_entry, put, put_at}
 use Rattle.gix_object_nodes.specs.Nodes.{Slots, slots_of, child_or, child_of, leaf_in, files_of_slot, files_of_node, slot_entry, entry_from, IsForest, IsFolderAt, Way, onto, LeadsTo, IsPutIn}
-use Rattle.gix_object_editor.specs.Laid.{IsOnly, IsRung, laid, laid_at}
+use Rattle.gix_object_editor.specs.Laid.{IsOnly, IsRung, IsLadder, IsLaid, laid, laid_at}
+use Rattle.gix_object_editor.specs.Grown.{IsForestOf, KeepsFront, KeepsMarks}
+use Rattle.gix_object_editor.specs.Asked.{front_of}
+use Rattle.gix_object_editor.proofs.Asking.{front_has}
+use Rattle.gix_object_editor.proofs.Cuts.{hung_null}
+use Rattle.gix_object_editor.proofs.Kept.{hung_each, hung_names, in_front, in_tail}
+use Rattle.std.specs.List.{Contains}
 use Rattle.gix_object_editor.specs.Entries.{made_leaf}
-use Rattle.gix_object_nodes.specs.Marks.{Mark, Marks, mark_below, rung_parent, AreMarksKept, AreOnPath}
+use Rattle.gix_object_nodes.specs.Marks.{Mark, Marks, marks_of, mark_below, rung_parent, AreMarksKept, AreOnPath, KeepsRest}
 use Rattle.gix_object_editor.proofs.Opening.{same_through, linked_more, at_or_off}
 use Rattle.gix_object_nodes.proofs.Paths.{same_name, name_itself, by_test, onto-append}
 use Rattle.gix_object_nodes.proofs.Slots.{none_past}
@@ -403,78 +409,109 @@ rest_names (p ∷ []) lt = absurd (omega arith)
 rest_names (p ∷ q ∷ path) lt = (q.now, names path, refl, refl)
 
 -- trees that were pushed, each in the one before it, of which the first was put into the slot of a name
-pub record Hung (old mid new : List Node) (path tail : List (Bor (List ℕ))) (s top : Slot) (at : ℕ) (name : Bytes) : Type 0 where
-  pub ok : IsForest (slots_of old) (length old)
+pub record Hung (old mid new : List Node) (path tail : List (Bor (List ℕ))) (s top : Slot) (state : Bool) (at : ℕ) (name : Bytes) : Type 0 where
+  pub ok : IsForestOf old
   pub two : 1 < length path
   pub tail_is : tail ≡ drop 1 path
   pub closed : s.child ≡ None
-  pub front : (i : ℕ) (m : Bytes) → i < length old → slots_of mid i m ≡ slots_of old i m
-  pub rungs : (k : ℕ) → k < length tail → IsRung (slots_of mid) (length old) (names tail) s k
-  pub len : length mid ≡ length old + length tail
-  pub same_len : length new ≡ length mid
+  pub front : KeepsFront old mid
+  pub ladder : IsLadder old at tail s state mid
   pub name_is : get_or (names path) 0 [] ≡ name
   pub below : at < length old
   pub stands : slots_of new at name ≡ Some top
   pub linked : child_of (Some top) ≡ Some (length old)
-  pub others : (i : ℕ) (m : Bytes) → ((i ≡ at) → (m ≡ name) → ⊥) → slots_of new i m ≡ slots_of mid i m
+  pub leaf : leaf_in top ≡ made_leaf (id_of s.oid).kind
+  pub rest : KeepsRest mid at name new
 
-module _ {old mid new : List Node} {path tail : List (Bor (List ℕ))} {s top : Slot} {at : ℕ} {name : Bytes} (h : Hung old mid new path tail s top at name) where
+module _ {old mid new : List Node} {path tail : List (Bor (List ℕ))} {s top : Slot} {state : Bool} {at : ℕ} {name : Bytes} (h : Hung old mid new path tail s top state at name) where
   tail_long : length (names tail) ≡ length tail
   tail_long = names_length tail
 
   some : 0 < length (names tail)
   some = omega (arith, h.two, tail_long, ap length h.tail_is, length-drop 1 path)
 
-  rungs_named : (k : ℕ) → k < length (names tail) → IsRung (slots_of mid) (length old) (names tail) s k
-  rungs_named k lt = let less : k < length tail = omega (arith, tail_long) in h.rungs k less
-
   long : length mid ≡ length old + length (names tail)
-  long = omega (arith, h.len, tail_long)
+  long = omega (arith, h.ladder.len, tail_long)
+
+  rungs_named : (k : ℕ) → k < length (names tail) → IsRung (slots_of mid) (length old) (names tail) s k
+  rungs_named k lt = let less : k < length tail = omega (arith, tail_long) in h.ladder.rungs k less
 
   past : (i : ℕ) (m : Bytes) → length mid ≤ i → slots_of mid i m ≡ None
   past i m le = none_past mid i m le
 
-  pub hung_forest : IsForest (slots_of new) (length new)
-  hung_forest =
-      subst (IsForest (slots_of new)) (sym h.same_len)
-      (linked_forest (slots_of old) (slots_of mid) (length old) (length mid) h.ok (names tail) s h.closed h.front rungs_named long past (slots_of new) at name top h.below some h.stands h.linked h.others)
+  path_is : name ∷ names tail ≡ names path
+  path_is =
+      let parts = rest_names path h.two in
+      ap (λ p. name ∷ p) (ap names h.tail_is ∙ parts.3) ∙ ap (λ n. n ∷ parts.0 ∷ parts.1) (sym h.name_is) ∙ sym parts.2
 
-  pub hung_files : IsFolderAt (slots_of old) at (get_or (names path) 0 []) None → (trees : Trees) (way : Path) → Way (slots_of old) way at
+  hung_files : IsFolderAt (slots_of old) at (get_or (names path) 0 []) None → (trees : Trees) (way : Path) → Way (slots_of old) way at
       → (q : Path) → files_of_node trees (slots_of new) 0 q ≡ put trees (onto way (names path)) (leaf_in s) (files_of_node trees (slots_of old) 0) q
   hung_files plain trees way reached q =
       let parts = rest_names path h.two in
       let is : names path ≡ name ∷ parts.0 ∷ parts.1 = parts.2 ∙ ap (λ n. n ∷ parts.0 ∷ parts.1) h.name_is in
       let plain_here : IsFolderAt (slots_of old) at name None = subst (λ n. IsFolderAt (slots_of old) at n None) h.name_is plain in
-      linked_files (slots_of old) (slots_of mid) (length old) (length mid) h.ok (names tail) s h.closed h.front rungs_named long past (slots_of new) at name top h.below some h.stands h.linked h.others
+      linked_files (slots_of old) (slots_of mid) (length old) (length mid) h.ok (names tail) s h.closed h.front.slots rungs_named long past (slots_of new) at name top h.below some h.stands h.linked h.rest.others
       parts.0 parts.1 (ap names h.tail_is ∙ parts.3) plain_here trees way reached q
       ∙ ap (λ p. put trees (onto way p) (leaf_in s) (files_of_node trees (slots_of old) 0) q) (sym is)
 
-  pub hung_entries : leaf_in top ≡ made_leaf (id_of s.oid).kind → (trees : Trees) (way : Path) → Way (slots_of old) way at
-      → (q : Path) → entry_from none_met trees (slots_of new) 0 q ≡ laid_at trees (leaf_in s) (names tail) (behind (onto way (name ∷ [])) q) (entry_from none_met trees (slots_of old) 0 q)
-  hung_entries made trees way reached q =
-      linked_entries (slots_of old) (slots_of mid) (length old) (length mid) h.ok (names tail) s h.closed h.front rungs_named long past (slots_of new) at name top h.below some h.stands h.linked h.others
-      made trees way reached q
+  hung_entries : (trees : Trees) (way : Path) → Way (slots_of old) way at → (q : Path)
+      → entry_from none_met trees (slots_of new) 0 q ≡ laid_at trees (leaf_in s) (names (drop 1 path)) (behind (onto way (get_or (names path) 0 [] ∷ [])) q) (entry_from none_met trees (slots_of old) 0 q)
+  hung_entries trees way reached q =
+      let stood = entry_from none_met trees (slots_of old) 0 q in
+      linked_entries (slots_of old) (slots_of mid) (length old) (length mid) h.ok (names tail) s h.closed h.front.slots rungs_named long past (slots_of new) at name top h.below some h.stands h.linked h.rest.others
+      h.leaf trees way reached q
+      ∙ ap (λ (xs : List (Bor (List ℕ))). laid_at trees (leaf_in s) (names xs) (behind (onto way (name ∷ [])) q) stood) h.tail_is
+      ∙ ap (λ m. laid_at trees (leaf_in s) (names (drop 1 path)) (behind (onto way (m ∷ [])) q) stood) (sym h.name_is)
 
-  pub hung_end : (k : ℕ) → suc k ≡ length mid → (way : Path) → Way (slots_of old) way at → IsPutIn (slots_of new) (onto way (names path)) k
+  hung_end : (k : ℕ) → suc k ≡ length mid → (way : Path) → Way (slots_of old) way at → IsPutIn (slots_of new) (onto way (names path)) k
   hung_end k end way reached =
-      let parts = rest_names path h.two in
-      let is : name ∷ names tail ≡ names path = ap (λ p. name ∷ p) (ap names h.tail_is ∙ parts.3) ∙ ap (λ n. n ∷ parts.0 ∷ parts.1) (sym h.name_is) ∙ sym parts.2 in
       let last : length old + (length (names tail) - 1) ≡ k = omega (arith, long, some, end) in
       subst (IsPutIn (slots_of new) (onto way (names path))) last
-      (subst (λ p. IsPutIn (slots_of new) (onto way p) (length old + (length (names tail) - 1))) is
-      (linked_end (slots_of old) (slots_of mid) (length old) (length mid) h.ok (names tail) s h.closed h.front rungs_named long past (slots_of new) at name top h.below some h.stands h.linked h.others way reached))
+      (subst (λ p. IsPutIn (slots_of new) (onto way p) (length old + (length (names tail) - 1))) path_is
+      (linked_end (slots_of old) (slots_of mid) (length old) (length mid) h.ok (names tail) s h.closed h.front.slots rungs_named long past (slots_of new) at name top h.below some h.stands h.linked h.rest.others way reached))
 
-  pub hung_marks : (state : Bool) (was now : Marks) → ((i : ℕ) → i < length old → now i ≡ was i) → ((k : ℕ) → k < length tail → now (length old + k) ≡ mark_below (rung_parent at (length old) k) state)
-      → AreMarksKept state (slots_of old) (slots_of new) was now (length old) (length new)
-  hung_marks state was now same made =
-      subst (AreMarksKept state (slots_of old) (slots_of new) was now (length old)) (sym h.same_len)
-      (linked_marks (slots_of old) (slots_of mid) (length old) (length mid) h.ok (names tail) s h.closed h.front rungs_named long past (slots_of new) at name top h.below some h.stands h.linked h.others
-      state was now same (λ k lt. let less : k < length tail = omega (arith, tail_long, lt) in made k less))
+  hung_marks : KeepsMarks state old new
+  hung_marks =
+      subst (AreMarksKept state (slots_of old) (slots_of new) (marks_of old) (marks_of new) (length old)) (sym h.rest.len)
+      (linked_marks (slots_of old) (slots_of mid) (length old) (length mid) h.ok (names tail) s h.closed h.front.slots rungs_named long past (slots_of new) at name top h.below some h.stands h.linked h.rest.others
+      state (marks_of old) (marks_of new) (λ i lt. h.rest.marks i ∙ h.front.marks i lt) (λ k lt. let less : k < length tail = omega (arith, tail_long, lt) in h.rest.marks (length old + k) ∙ h.ladder.marked k less))
 
-  pub hung_ways : (way : Path) → Way (slots_of old) way at → AreOnPath (slots_of new) (onto way (names path)) (length old) (length new)
+  hung_ways : (way : Path) → Way (slots_of old) way at → AreOnPath (slots_of new) (onto way (names path)) (length old) (length new)
   hung_ways way reached =
-      let parts = rest_names path h.two in
-      let is : name ∷ names tail ≡ names path = ap (λ p. name ∷ p) (ap names h.tail_is ∙ parts.3) ∙ ap (λ n. n ∷ parts.0 ∷ parts.1) (sym h.name_is) ∙ sym parts.2 in
-      subst (AreOnPath (slots_of new) (onto way (names path)) (length old)) (sym h.same_len)
-      (subst (λ p. AreOnPath (slots_of new) (onto way p) (length old) (length mid)) is
-      (linked_ways (slots_of old) (slots_of mid) (length old) (length mid) h.ok (names tail) s h.closed h.front rungs_named long past (slots_of new) at name top h.below some h.stands h.linked h.others way reached))
+      subst (AreOnPath (slots_of new) (onto way (names path)) (length old)) (sym h.rest.len)
+      (subst (λ p. AreOnPath (slots_of new) (onto way p) (length old) (length mid)) path_is
+      (linked_ways (slots_of old) (slots_of mid) (length old) (length mid) h.ok (names tail) s h.closed h.front.slots rungs_named long past (slots_of new) at name top h.below some h.stands h.linked h.rest.others way reached))
+
+  hung_rungs : (end : ℕ) → suc end ≡ length mid → (i : ℕ) (m : Bytes) (u : Slot) → length old ≤ i → slots_of new i m ≡ Some u → (i ≡ end) ⊎ Contains (front_of (names path)) m
+  hung_rungs end last i m u le is =
+      let stood : slots_of mid i m ≡ Some u = sym (h.rest.others i m (λ e _. absurd (omega (arith, e, le, h.below)))) ∙ is in
+      elim (hung_names (slots_of mid) (length old) (names tail) s rungs_named (λ j n gone. none_past mid j n (omega (arith, gone, long))) i m u le stood) [
+        | inl e ↦ inl (omega (arith, e, last, long))
+        | inr found ↦ inr (subst (Contains (front_of (names path))) (in_front path found.0 (subst (λ (xs : List (Bor (List ℕ))). suc found.0 < length (names xs)) h.tail_is found.1)
+            ∙ ap (λ (xs : List (Bor (List ℕ))). get_or (names xs) found.0 []) (sym h.tail_is) ∙ sym found.2)
+            (front_has (names path) (suc found.0) (omega (arith, found.1, tail_long, ap length h.tail_is, length-drop 1 path, names_length path))))
+      ]
+
+  -- the slot is laid
+  pub hung_laid : (end : ℕ) → suc end ≡ length mid → IsFolderAt (slots_of old) at (get_or (names path) 0 []) None → IsLaid old at path s state new end
+  hung_laid end ends plain = record {
+    appends = record {
+      forest = subst (IsForest (slots_of new)) (sym h.rest.len)
+          (linked_forest (slots_of old) (slots_of mid) (length old) (length mid) h.ok (names tail) s h.closed h.front.slots rungs_named long past (slots_of new) at name top h.below some h.stands h.linked h.rest.others);
+      longer = omega (arith, h.front.longer, h.rest.len);
+      others = λ i m lt off. h.rest.others i m (λ e same. off e (same ∙ sym h.name_is)) ∙ h.front.slots i m lt;
+      marks = hung_marks;
+    };
+    within = omega (arith, ends, h.rest.len);
+    files = hung_files plain;
+    entries = hung_entries;
+    put_in = hung_end end ends;
+    each = λ has fit each.
+        let some_names : 0 < length (names path) = omega (arith, names_length path, h.two) in
+        hung_each (slots_of old) (slots_of mid) (slots_of new) (length old) at name top (names path) (names tail) (leaf_in s) has h.front.slots h.ladder.leaves
+        (λ m in_it. in_tail path m (subst (λ (xs : List (Bor (List ℕ))). Contains (names xs) m) h.tail_is in_it)) h.stands h.leaf h.rest.others fit some_names h.name_is each;
+    null = λ more none. hung_null (slots_of old) (slots_of mid) (slots_of new) (length old) at name top (names tail) (leaf_in s) h.ok h.front.slots h.ladder.leaves none h.stands h.leaf h.rest.others;
+    last = λ more. (omega (arith, ends, h.rest.len), omega (arith, ends, long, some));
+    rungs = hung_rungs end ends;
+    made = hung_ways;
+  }

@@ -20,3 +20,8 @@ pub mod Raised
 pub mod Refused
 pub mod Grafted
 pub mod WrittenEditor
+pub mod Growth
+pub mod Made
+pub mod Edited
+pub mod Upserted
+pub mod FolderMade

@@ -42,10 +42,6 @@ none_for_none : (p : Option Item) → StandsFor None p → p ≡ None
 none_for_none None h = refl
 none_for_none (Some x) h = absurd h
 
-pub none_by_test : (o : Option Slot) → is_some o ≡ false → o ≡ None
-none_by_test None e = refl
-none_by_test (Some s) e = absurd (cc e)
-
 module _ {E : Type 0} (item_of : E → Item) where
   -- the entries so far, and one more
   take_one : (entries : List E) (i : ℕ) (e : E) → i < length entries → e ≡ get_or entries i e → map item_of (take (i + 1) entries) ≡ map item_of (take i entries) ++ item_of e ∷ []

@@ -1,13 +1,11 @@
 -- Marks of opened trees, and what an edit leaves of those that it doesn't change.
-use Rattle.std.proofs.Common.{ℕ, zero, suc, ◌≡◌, ◌≢◌, ◌<◌, ◌≤◌, ◌⊎◌, Bool, true, false, List, [], ◌∷◌, ◌++◌, Option, Some, None, refl, sym, ap, subst, ◌∙◌, inl, inr, arith, length}
+use Rattle.std.proofs.Common.{ℕ, zero, suc, ◌≡◌, ◌≢◌, ◌<◌, ◌≤◌, ◌⊎◌, Bool, true, false, [], ◌∷◌, ◌++◌, Option, Some, None, refl, sym, ap, subst, ◌∙◌, inl, inr, arith, length}
 use Rattle.std.proofs.lemmas.Bool.{cases_eq, cases_lt}
 use Rattle.gix_object_nodes.specs.declared.node.Node.{Node}
 use Rattle.gix_object_nodes.specs.declared.node.Slot.{Slot}
 use Rattle.gix_object_nodes.specs.Files.{Bytes, Path, Trees, through, files_of_entry}
 use Rattle.gix_object_nodes.specs.Nodes.{Slots, slot_in, slots_of, child_of, leaf_in, files_of_slot, files_of_node, IsForest, Way, onto, LeadsTo}
 use Rattle.gix_object_nodes.specs.Marks.{Mark, Marks, mark_below, mark_of, marks_of, AreMarkedBut, AreMarked, AreMarksKept, AreMarkedUp, IsMarkedFor, IsIdle, IsOnWay, AreAsRead}
-use Rattle.gix_object_lookup.specs.Table.{Table}
-use Rattle.gix_object_editor.specs.Grown.{KeepsTrees}
 use Rattle.gix_object_nodes.proofs.Paths.{by_test, onto-append}
 use Rattle.gix_object_editor.proofs.Opening.{at_or_off, same_through}
 use Rattle.gix_object_editor.proofs.Filled.{null_none}
@@ -112,14 +110,6 @@ module _ (old new : Slots) (was now : Marks) (bound more : ℕ) (old_ok : IsFore
             ]
           ]
     ];
-  }
-
-  -- an edit that failed
-  pub failed_marked : ((i : ℕ) (m : Bytes) → new i m ≡ old i m) → AreMarked new now more
-  failed_marked same = record {
-    before = still_before;
-    up = still_up;
-    closed = λ i n c e t. let w : c < bound = old_ok.within i n c (ap child_of (sym (same i n)) ∙ e) in still_closed i n c e w t;
   }
 
 -- fewer links
@@ -428,19 +418,3 @@ on_way_above slots bound ok way j tree rest path on leads some e =
     longer : (w rest : Path) → rest ≢ [] → onto w rest ≢ []
     longer [] rest some = some
     longer (n ∷ w) rest some = longer w (n ∷ rest) (λ e. cc e)
-
--- ---- what more opened trees keep
-
-pub keeps_none : (honest : Type 0) (table : Table) (nodes : List Node) → IsForest (slots_of nodes) (length nodes) → KeepsTrees honest table nodes nodes
-keeps_none honest table nodes ok = record {
-  marks = marks_none false (slots_of nodes) (marks_of nodes) (length nodes) ok;
-  as_read = λ h trees has read. read;
-  each = λ h has down was. was;
-}
-
-pub keeps_then : (honest : Type 0) (table : Table) (a b c : List Node) → length a ≤ length b → length b ≤ length c → KeepsTrees honest table a b → KeepsTrees honest table b c → KeepsTrees honest table a c
-keeps_then honest table a b c ab bc first second = record {
-  marks = marks_then false (slots_of a) (slots_of b) (slots_of c) (marks_of a) (marks_of b) (marks_of c) (length a) (length b) (length c) ab bc first.marks second.marks;
-  as_read = λ h trees has read. second.as_read h trees has (first.as_read h trees has read);
-  each = λ h has down was. second.each h has down (first.each h has down was);
-}

@@ -1,10 +1,9 @@
 -- Opening a stored tree changes no file, and links make a forest.
-use Rattle.std.proofs.Common.{ℕ, suc, ◌≡◌, ◌<◌, ◌≤◌, ◌⊎◌, ◌&&◌, Bool, true, false, List, [], ◌∷◌, Option, Some, None, refl, sym, ap, subst, ◌∙◌, inl, inr, arith, if◌then◌else◌}
+use Rattle.std.proofs.Common.{ℕ, suc, ◌≡◌, ◌<◌, ◌≤◌, ◌⊎◌, ◌&&◌, true, List, [], ◌∷◌, Option, Some, None, refl, sym, ap, subst, ◌∙◌, inl, inr, arith, if◌then◌else◌}
 use Rattle.std.specs.Prelude.{bytes_eq, not}
 use Rattle.std.proofs.lemmas.Bool.{cases_eq, cases_lt, cases_order}
 use Rattle.gix_object_lookup.specs.Table.{Table}
 use Rattle.gix_object_tree.specs.Entry.{Item}
-use Rattle.gix_object_tree.specs.Mode.{is_tree_value}
 use Rattle.gix_object_nodes.specs.declared.node.NodeId.{NodeId}
 use Rattle.gix_object_nodes.specs.declared.node.Slot.{Slot}
 use Rattle.gix_object_nodes.specs.Files.{Bytes, Path, Leaf, Trees, through, named, leaf_of, is_null, leads_on, tree_under, unless_tree, files_of_entry, entry_into}
@@ -22,18 +21,6 @@ at_or_off i j n m = elim (cases_eq i j) [
   ]
   | inr ne ↦ inr (λ e _. ne e)
 ]
-
--- an entry that is no folder has no file below it
-pub plain_below : (trees : Trees) (leaf : Leaf) (m : Bytes) (rest : Path) → (is_tree_value leaf.mode.value ≡ false) ⊎ (is_null leaf.id ≡ true) → files_of_entry trees (m ∷ rest) leaf ≡ None
-plain_below trees leaf m rest (inl file) =
-    ap (λ b. if is_null leaf.id then None else through (if b then trees leaf.id else None) (λ items. through (named m items) (λ item. files_of_entry trees rest (leaf_of item)))) file
-    ∙ same (is_null leaf.id)
-  where
-    same : (b : Bool) → ◌≡◌ {A = Option Leaf} (if b then None else None) None
-    same true = refl
-    same false = refl
-plain_below trees leaf m rest (inr null) =
-    ap (λ b. if b then None else through (tree_under trees leaf) (λ items. through (named m items) (λ item. files_of_entry trees rest (leaf_of item)))) null
 
 -- an entry's slot has the same files where its opened tree has
 same_child : (trees : Trees) (slots new : Slots) (child : Option NodeId) (m : Bytes) (more : Path) (x : Option Leaf)

@@ -1,5 +1,5 @@
 -- The entry that is put, and the folders that are made for it.
-use Rattle.std.proofs.Common.{ℕ, ◌≡◌, ◌⊎◌, ◌++◌, inl, inr, false, List, [], ◌∷◌, Option, Some, None, refl, sym, ap, subst, ◌∙◌, ◌+◌, arith, length, drop, if◌then◌else◌}
+use Rattle.std.proofs.Common.{ℕ, ◌≡◌, ◌≢◌, ◌<◌, ◌⊎◌, ◌++◌, inl, inr, false, List, [], ◌∷◌, Option, Some, None, refl, sym, ap, subst, ◌∙◌, ◌+◌, arith, length, drop, if◌then◌else◌}
 use Rattle.std.specs.Prelude.{bytes_eq, is_some}
 use Rattle.std.specs.Borrow.{Bor}
 use Rattle.gix_hash.specs.declared.kind.Kind.{Kind}
@@ -17,7 +17,7 @@ use Rattle.gix_object_editor.proofs.Cuts.{more_names}
 use Rattle.gix_object_editor.proofs.Walked.{names}
 use Rattle.gix_object_editor.proofs.Marked.{way_before}
 use Rattle.gix_object_nodes.proofs.Paths.{name_itself, by_test, onto-append, behind-onto, behind_one}
-use Rattle.gix_object_editor.proofs.Standing.{entry_below}
+use Rattle.gix_object_editor.proofs.Standing.{entry_below, last_left}
 use Rattle.gix_object_editor.proofs.SlotChange.{same_first, after_first}
 
 -- ---- paths
@@ -172,3 +172,6 @@ none_after path i e = by_case (names (drop (i + 1) path)) refl
     by_case : (p : Path) → names (drop (i + 1) path) ≡ p → names (drop (i + 1) path) ≡ []
     by_case [] is = is
     by_case (n ∷ p) is = let more = more_names path (i + 1) (λ none. cc (sym is ∙ none)) in absurd (omega (arith, more, e))
+
+pub some_after : (path : List (Bor (List ℕ))) (i : ℕ) → i < length path → i + 1 ≢ length path → names (drop (i + 1) path) ≢ []
+some_after path i lt ne none = ne (last_left path i lt none)

@@ -110,3 +110,12 @@ Asks honest may_fail table ids was now (Ok x) = honest → (trees : Trees) → H
     → AsksAll table (ids trees) was now
 Asks honest may_fail table ids was now (Err error) = honest → (trees : Trees)
     → HasStored table trees → StopsAt honest may_fail table (ids trees) was now error
+
+-- the same of those before the ones that are left
+abbrev pub AsksTo : {X : Type 0} → Type 0 → Type 0 → Table → (Trees → Path → List Id)
+    → (X → Trees → Path → List Id) → ℕ → ℕ → Result X Error → Type 0
+AsksTo honest may_fail table ids left was now (Ok x) = honest → (trees : Trees)
+    → HasStored table trees → (more : Path) → AsksUpTo table (ids trees more) (left x trees more) was now
+AsksTo honest may_fail table ids left was now (Err error) = honest → (trees : Trees)
+    → HasStored table trees → (more : Path)
+    → StopsAt honest may_fail table (ids trees more) was now error

@@ -1,11 +1,12 @@
 -- The marks of nodes after a change.
 use Rattle.std.proofs.Common.{ℕ, zero, suc, ◌≡◌, ◌≢◌, ◌<◌, List, [], ◌∷◌, ◌++◌, refl, sym, ap, ◌∙◌, inl, inr, arith, length, get_or, slice_set, take}
 use Rattle.std.proofs.lemmas.Bool.{cases_eq}
+use Rattle.std.proofs.lemmas.List.{length-set}
 use Rattle.gix_object_nodes.specs.declared.node.Node.{Node}
 use Rattle.gix_object_nodes.specs.Files.{Bytes}
 use Rattle.gix_object_nodes.specs.Nodes.{slot_in, slots_of}
-use Rattle.gix_object_nodes.specs.Marks.{mark_of, marks_of}
-use Rattle.gix_object_nodes.proofs.Slots.{set_here, set_other, node_at}
+use Rattle.gix_object_nodes.specs.Marks.{mark_of, marks_of, KeepsRest}
+use Rattle.gix_object_nodes.proofs.Slots.{set_here, set_other, set_others, node_at}
 
 pub mark_here : (nodes : List Node) (i : ℕ) (d : Node) → i < length nodes → marks_of nodes i ≡ mark_of (get_or nodes i d)
 mark_here [] i d lt = absurd (omega arith)
@@ -29,6 +30,14 @@ marks_set nodes j d new lt same i = elim (cases_eq i j) [
   | inl e ↦ ap (marks_of (slice_set nodes j new)) e ∙ mark_set_here nodes j new lt ∙ same ∙ sym (mark_here nodes j d lt) ∙ ap (marks_of nodes) (sym e)
   | inr ne ↦ mark_set_other nodes j i new ne
 ]
+
+pub set_rest : (nodes : List Node) (j : ℕ) (was new : Node) (name : Bytes) → j < length nodes → was ≡ get_or nodes j was → ((other : Bytes) → other ≢ name → slot_in new other ≡ slot_in was other) → mark_of new ≡ mark_of was
+    → KeepsRest nodes j name (slice_set nodes j new)
+set_rest nodes j was new name lt is same mark = record {
+  len = length-set nodes j new;
+  others = set_others nodes j was new name lt (λ other ne. same other ne ∙ ap (λ n. slot_in n other) is);
+  marks = marks_set nodes j was new lt (mark ∙ ap mark_of is);
+}
 
 pub slots_set : (nodes : List Node) (j : ℕ) (d new : Node) → j < length nodes → ((m : Bytes) → slot_in new m ≡ slot_in (get_or nodes j d) m) → (i : ℕ) (m : Bytes) → slots_of (slice_set nodes j new) i m ≡ slots_of nodes i m
 slots_set nodes j d new lt same i m = elim (cases_eq i j) [

@@ -9,7 +9,6 @@ use Rattle.std.specs.declared.cmp.Ordering.{Ordering}
 use Rattle.std.proofs.lemmas.Map.Text.{is_eq-slice_cmp}
 use Rattle.std.proofs.lemmas.Bool.{cases_eq, cases_lt}
 use Rattle.std.proofs.lemmas.List.{length-take}
-use Rattle.std.proofs.Math.Seq.{take-append_seam}
 use Rattle.gix_object_nodes.specs.declared.node.Node.{Node}
 use Rattle.gix_object_nodes.specs.declared.node.Slot.{Slot}
 use Rattle.gix_object_nodes.specs.Files.{Bytes}
@@ -67,16 +66,31 @@ set_others nodes j d new name lt same i m off = elim (cases_eq i j) [
   | inr ne ↦ set_other nodes j i new m ne
 ]
 
+all_slots : (old new : List Node) (at : ℕ) (name : Bytes) → slots_of new at name ≡ slots_of old at name → ((i : ℕ) (m : Bytes) → ((i ≡ at) → (m ≡ name) → ⊥) → slots_of new i m ≡ slots_of old i m)
+    → (i : ℕ) (m : Bytes) → slots_of new i m ≡ slots_of old i m
+all_slots old new at name here others i m = elim (cases_eq i at) [
+  | inl e ↦ elim (by_test (bytes_eq m name)) [
+    | inl t ↦
+        let same : m ≡ name = same_name m name t in
+        ap (λ k. slots_of new k m) e ∙ ap (slots_of new at) same ∙ here ∙ ap (slots_of old at) (sym same) ∙ ap (λ k. slots_of old k m) (sym e)
+    | inr f ↦ others i m (λ _ same. let yes : bytes_eq m name ≡ true = ap (bytes_eq m) (sym same) ∙ name_itself m in not_both (bytes_eq m name) yes f)
+  ]
+  | inr ne ↦ others i m (λ e _. ne e)
+]
+
+-- a change that failed left each slot
+pub set_same : (nodes : List Node) (j : ℕ) (was new : Node) (name : Bytes) → j < length nodes → was ≡ get_or nodes j was → ((other : Bytes) → other ≢ name → slot_in new other ≡ slot_in was other)
+    → slot_in new name ≡ slot_in was name → (i : ℕ) (m : Bytes) → slots_of (slice_set nodes j new) i m ≡ slots_of nodes i m
+set_same nodes j was new name lt is others here =
+    all_slots nodes (slice_set nodes j new) j name (set_here nodes j new name lt ∙ here ∙ ap (λ n. slot_in n name) is ∙ sym (node_at nodes j was name lt))
+    (set_others nodes j was new name lt (λ other ne. others other ne ∙ ap (λ n. slot_in n other) is))
+
 -- ---- nodes after the others
 
 pub front_kept : (nodes more : List Node) (i : ℕ) (m : Bytes) → i < length nodes → slots_of (nodes ++ more) i m ≡ slots_of nodes i m
 front_kept [] more i m lt = absurd (omega arith)
 front_kept (k ∷ nodes) more zero m lt = refl
 front_kept (k ∷ nodes) more (suc i) m lt = let less : i < length nodes = omega arith in front_kept nodes more i m less
-
-pub behind_front : (nodes more : List Node) (i : ℕ) (m : Bytes) → slots_of (nodes ++ more) (length nodes + i) m ≡ slots_of more i m
-behind_front [] more i m = let e : 0 + i ≡ i = omega arith in ap (λ k. slots_of more k m) e
-behind_front (k ∷ nodes) more i m = let e : suc (length nodes) + i ≡ suc (length nodes + i) = omega arith in ap (λ x. slots_of (k ∷ nodes ++ more) x m) e ∙ behind_front nodes more i m
 
 pub none_past : (nodes : List Node) (i : ℕ) (m : Bytes) → length nodes ≤ i → slots_of nodes i m ≡ None
 none_past [] i m le = refl
@@ -86,9 +100,6 @@ none_past (k ∷ nodes) (suc i) m le = let less : length nodes ≤ i = omega ari
 pub at_end : (nodes : List Node) (n : Node) (m : Bytes) → slots_of (nodes ++ n ∷ []) (length nodes) m ≡ slot_in n m
 at_end [] n m = refl
 at_end (k ∷ nodes) n m = at_end nodes n m
-
-pub back : (n : ℕ) (xs ys : List Node) → n ≡ length xs → take n (xs ++ ys) ≡ xs
-back n xs ys e = ap (λ k. take k (xs ++ ys)) e ∙ take-append_seam xs ys
 
 taken : (ns : List Node) (k i : ℕ) (m : Bytes) → i < k → slots_of (take k ns) i m ≡ slots_of ns i m
 taken [] zero i m lt = refl
@@ -111,19 +122,6 @@ cut_back old now k e same i m = elim (cases_lt i (length old)) [
 pub without_last : (old now : List Node) (n : Node) (k : ℕ) → k ≡ length old → length now ≡ suc (length old) → ((i : ℕ) (m : Bytes) → slots_of now i m ≡ slots_of (old ++ n ∷ []) i m)
     → (i : ℕ) (m : Bytes) → slots_of (take k now) i m ≡ slots_of old i m
 without_last old now n k e len same i m = cut_back old now k e (λ j name lt. same j name ∙ front_kept old (n ∷ []) j name lt) i m
-
--- a change that failed left each slot
-pub all_slots : (old new : List Node) (at : ℕ) (name : Bytes) → slots_of new at name ≡ slots_of old at name → ((i : ℕ) (m : Bytes) → ((i ≡ at) → (m ≡ name) → ⊥) → slots_of new i m ≡ slots_of old i m)
-    → (i : ℕ) (m : Bytes) → slots_of new i m ≡ slots_of old i m
-all_slots old new at name here others i m = elim (cases_eq i at) [
-  | inl e ↦ elim (by_test (bytes_eq m name)) [
-    | inl t ↦
-        let same : m ≡ name = same_name m name t in
-        ap (λ k. slots_of new k m) e ∙ ap (slots_of new at) same ∙ here ∙ ap (slots_of old at) (sym same) ∙ ap (λ k. slots_of old k m) (sym e)
-    | inr f ↦ others i m (λ _ same. let yes : bytes_eq m name ≡ true = ap (bytes_eq m) (sym same) ∙ name_itself m in not_both (bytes_eq m name) yes f)
-  ]
-  | inr ne ↦ others i m (λ e _. ne e)
-]
 
 pub length_push : (nodes : List Node) (n : Node) → length (nodes ++ n ∷ []) ≡ suc (length nodes)
 length_push [] n = refl

@@ -1,6 +1,6 @@
 -- Which opened trees edits changed, and what the others still are: the trees that their entries
 -- name.
-use Rattle.std.specs.Prelude.{ℕ, zero, suc, ◌≡◌, ◌≢◌, ◌<◌, ◌≤◌, ◌+◌, ◌⊎◌, ◌++◌, ◌||◌, nat_le, Bool, true, false, List, [], ◌∷◌, Option, Some, None, ⊤, if◌then◌else◌}
+use Rattle.std.specs.Prelude.{ℕ, zero, suc, ◌≡◌, ◌≢◌, ◌<◌, ◌≤◌, ◌+◌, ◌⊎◌, ◌++◌, ◌||◌, nat_le, Bool, true, false, List, [], ◌∷◌, length, Option, Some, None, ⊤, if◌then◌else◌}
 use Rattle.gix_hash.specs.Id.{id_of}
 use Rattle.gix_object_nodes.specs.declared.node.Node.{Node}
 use Rattle.gix_object_nodes.specs.declared.node.NodeId.{NodeId}
@@ -27,6 +27,12 @@ abbrev pub marks_of : List Node → Marks
 marks_of [] i = mark_below 0 false
 marks_of (node ∷ nodes) zero = mark_of node
 marks_of (node ∷ nodes) (suc i) = marks_of nodes i
+
+-- of the opened trees only the entry of this name in this tree may change, and no mark
+pub record KeepsRest (old : List Node) (at : ℕ) (name : Bytes) (new : List Node) : Type 0 where
+  pub len : length new ≡ length old
+  pub others : (i : ℕ) (m : Bytes) → (i ≡ at → m ≡ name → ⊥) → slots_of new i m ≡ slots_of old i m
+  pub marks : (i : ℕ) → marks_of new i ≡ marks_of old i
 
 -- the tree at the path was opened, and an edit changed it, or one that lies in it
 abbrev pub IsChangedIn : List Node → Path → Type 0

@@ -30,6 +30,10 @@ slots_of [] i name = None
 slots_of (node ∷ nodes) zero name = slot_in node name
 slots_of (node ∷ nodes) (suc i) name = slots_of nodes i name
 
+-- the trees' entries stay, all of them
+abbrev pub HasSlotsOf : List Node → List Node → Type 0
+HasSlotsOf old new = (i : ℕ) (name : Bytes) → slots_of new i name ≡ slots_of old i name
+
 abbrev pub leaf_in : Slot → Leaf
 leaf_in slot = record { mode = mode_of slot.mode; id = id_of slot.oid }
 

@@ -1,9 +1,9 @@
 //! Opened trees as numbered nodes.
 
-ghost use Rattle.std.specs.Prelude.{◌≡◌, ◌≢◌, ◌<◌, ℕ, length, IfOk, OnOk, OnErr, Some, None, false};
+ghost use Rattle.std.specs.Prelude.{◌≡◌, ◌≢◌, ◌<◌, length, IfOk, OnOk, OnErr, Some, None, false};
 ghost use Rattle.gix_object_nodes.specs.Files.{Bytes};
-ghost use Rattle.gix_object_nodes.specs.Nodes.{slot_in, slots_of};
-ghost use Rattle.gix_object_nodes.specs.Marks.{mark_of, marks_of, mark_below};
+ghost use Rattle.gix_object_nodes.specs.Nodes.{slot_in, slots_of, HasSlotsOf};
+ghost use Rattle.gix_object_nodes.specs.Marks.{mark_of, mark_below, KeepsRest};
 
 use gix_hash::ObjectId;
 use gix_object_tree::tree::EntryMode;
@@ -100,19 +100,16 @@ pub fn slot_at(nodes: &[Node], at: NodeId, name: &[u8]) -> Option<Slot>
 
 /// Puts an entry into an opened tree.
 pub fn put_at(
-    nodes: &mut [Node],
+    nodes: &mut Vec<Node>,
     alloc: Global,
     at: NodeId,
     name: &[u8],
     slot: Slot,
 ) -> Result<(), AllocError>
-    requires { at.0 < length nodes.old }
-    ensures here { OnOk result (slots_of nodes.new at.0 name.now ≡ Some slot) }
-    ensures others { (i : ℕ) (m : Bytes) → (i ≡ at.0 → m ≡ name.now → ⊥)
-        → slots_of nodes.new i m ≡ slots_of nodes.old i m }
-    ensures err { OnErr result
-        (slots_of nodes.new at.0 name.now ≡ slots_of nodes.old at.0 name.now) }
-    ensures marks { (i : ℕ) → marks_of nodes.new i ≡ marks_of nodes.old i }
+    requires { at.0 < length nodes.old.items }
+    ensures here { OnOk result (slots_of nodes.new.items at.0 name.now ≡ Some slot) }
+    ensures err { OnErr result (HasSlotsOf nodes.old.items nodes.new.items) }
+    ensures rest { KeepsRest nodes.old.items at.0 name.now nodes.new.items }
 {
     let node = &mut nodes[at.0];
     node.put(alloc, name, slot)?;
@@ -120,12 +117,10 @@ pub fn put_at(
 }
 
 /// Takes the entry of a name out of an opened tree.
-pub fn take_at(nodes: &mut [Node], at: NodeId, name: &[u8])
-    requires { at.0 < length nodes.old }
-    ensures here { slots_of nodes.new at.0 name.now ≡ None }
-    ensures others { (i : ℕ) (m : Bytes) → (i ≡ at.0 → m ≡ name.now → ⊥)
-        → slots_of nodes.new i m ≡ slots_of nodes.old i m }
-    ensures marks { (i : ℕ) → marks_of nodes.new i ≡ marks_of nodes.old i }
+pub fn take_at(nodes: &mut Vec<Node>, at: NodeId, name: &[u8])
+    requires { at.0 < length nodes.old.items }
+    ensures here { slots_of nodes.new.items at.0 name.now ≡ None }
+    ensures rest { KeepsRest nodes.old.items at.0 name.now nodes.new.items }
 {
     let node = &mut nodes[at.0];
     node.take(name);

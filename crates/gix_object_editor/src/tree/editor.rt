@@ -1,17 +1,16 @@
 //! Edits of a tree and the trees below it.
 
-ghost use Rattle.std.specs.Prelude.{◌≡◌, map, option_map, IfOk, IfErr, OnOk, OnErr, Err, ⊤};
+ghost use Rattle.std.specs.Prelude.{◌≡◌, map, option_map, IfOk, IfErr, OnOk, OnErr, ⊤};
 ghost use Rattle.std.specs.Borrow.{sem};
 ghost use Rattle.gix_hash.specs.Id.{id_of};
 ghost use Rattle.gix_object_tree.specs.Entry.{item_of, own_item};
-ghost use Rattle.gix_object_nodes.specs.Files.{IsEmptyTree, NamesAreFull, HasSomeBelow, no_trees};
+ghost use Rattle.gix_object_nodes.specs.Files.{HasSomeBelow, no_trees};
 ghost use Rattle.gix_object_nodes.specs.Nodes.{slots_of, entry_at};
 ghost use Rattle.gix_object_editor.specs.Editor.{files_of, names_of, leaf_of_kind, IsNonLeaf};
 ghost use Rattle.gix_object_editor.specs.Asked.{front_of};
-ghost use Rattle.gix_object_editor.specs.declared.tree.editor.error.Error.TheVariants.{EmptyTree};
 ghost use Rattle.gix_object_editor.specs.Entries.{MayStand};
 ghost use Rattle.gix_object_tree.specs.WellFormed.{IsWellFormed};
-ghost use Rattle.gix_object_editor.specs.Outcomes.{IsKept, Removes, HadNoneBelow, Puts, Grafts, HasRoot, KeepsEach, AsksInto, FaultOfEdit, FaultOfGraft, FaultOfLeaf, Finds};
+ghost use Rattle.gix_object_editor.specs.Outcomes.{IsKept, Removes, RemovesLeaf, Puts, Grafts, MayGraft, RefusesEmpty, HasRoot, AsksInto, FaultOfEdit, FaultOfGraft, FaultOfLeaf, Finds};
 
 mod cursor;
 mod edits;
@@ -110,8 +109,7 @@ impl<S: FindInto> Editor<S> {
             (names_of path.now) self.old self.new result }
         ensures asked { AsksInto S.is_honest S.may_fail S.table (front_of (names_of path.now))
             self.old self.new result }
-        ensures each { KeepsEach S.is_honest S.table (λ has. ⊤) self.old self.new }
-        ensures kept { IsKept S.is_honest S.table path.now self.old self.new result }
+        ensures kept { IsKept S.is_honest S.table path.now (λ has. ⊤) self.old self.new result }
     {
         self.remove_from(alloc, NodeId(0), path)
     }
@@ -121,17 +119,15 @@ impl<S: FindInto> Editor<S> {
     /// Refused as `remove` is, for the trees on the path and for a folder at its end. Returns
     /// `CannotRemoveNonLeaf` with the last name if a file is below the path.
     pub fn remove_leaf(&mut self, alloc: Global, path: &[&[u8]]) -> Result<(), Error>
-        ensures removed { OnOk result (Removes S.is_honest S.table (names_of path.now) self.old
+        ensures removed { OnOk result (RemovesLeaf S.is_honest S.table (names_of path.now) self.old
             self.new) }
-        ensures leaf { OnOk result (HadNoneBelow S.is_honest S.table (names_of path.now) self.old) }
         ensures refused { FaultOfLeaf S.is_honest S.may_fail S.table (names_of path.now)
             (names_of path.now) self.old self.new result }
         ensures folder { IfErr result (λ error. IsNonLeaf error
             → HasSomeBelow (names_of path.now) (files_of no_trees self.new)) }
         ensures asked { AsksInto S.is_honest S.may_fail S.table (names_of path.now) self.old
             self.new result }
-        ensures each { KeepsEach S.is_honest S.table (λ has. ⊤) self.old self.new }
-        ensures kept { IsKept S.is_honest S.table path.now self.old self.new result }
+        ensures kept { IsKept S.is_honest S.table path.now (λ has. ⊤) self.old self.new result }
     {
         self.remove_leaf_from(alloc, NodeId(0), path)
     }
@@ -154,9 +150,8 @@ impl<S: FindInto> Editor<S> {
             (names_of path.now) self.old self.new result }
         ensures asked { AsksInto S.is_honest S.may_fail S.table (front_of (names_of path.now))
             self.old self.new result }
-        ensures each { KeepsEach S.is_honest S.table (λ has. MayStand has (names_of path.now)
-            (leaf_of_kind kind id)) self.old self.new }
-        ensures kept { IsKept S.is_honest S.table path.now self.old self.new result }
+        ensures kept { IsKept S.is_honest S.table path.now (λ has. MayStand has (names_of path.now)
+            (leaf_of_kind kind id)) self.old self.new result }
     {
         self.upsert_from(alloc, NodeId(0), path, kind, id)
     }
@@ -176,20 +171,15 @@ impl<S: FindInto> Editor<S> {
         kind: EntryKind,
         id: ObjectId,
     ) -> Result<(), Error>
-        ensures put { OnOk result (Puts S.is_honest S.table (names_of path.now)
-            (leaf_of_kind kind id) self.old self.new) }
         ensures grafted { OnOk result (Grafts S.is_honest S.table (names_of path.now) kind id
             self.old self.new) }
         ensures refused { FaultOfGraft S.is_honest S.may_fail S.table (names_of path.now) (id_of id)
             (names_of path.now) self.old self.new result }
-        ensures empty { NamesAreFull (names_of path.now) → IsEmptyTree (id_of id)
-            → result ≡ Err EmptyTree }
-        ensures untouched { result ≡ Err EmptyTree → self.new ≡ self.old }
+        ensures empty { RefusesEmpty (names_of path.now) (id_of id) self.old self.new result }
         ensures asked { AsksInto S.is_honest S.may_fail S.table (front_of (names_of path.now))
             self.old self.new result }
-        ensures each { KeepsEach S.is_honest S.table (λ has. (IsEmptyTree (id_of id) → ⊥)
-            → MayStand has (names_of path.now) (leaf_of_kind kind id)) self.old self.new }
-        ensures kept { IsKept S.is_honest S.table path.now self.old self.new result }
+        ensures kept { IsKept S.is_honest S.table path.now (MayGraft (names_of path.now) kind id)
+            self.old self.new result }
     {
         check_graft(path, id)?;
         self.upsert(alloc, path, kind, id)

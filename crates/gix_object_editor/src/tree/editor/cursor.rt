@@ -13,7 +13,7 @@ ghost use Rattle.gix_object_editor.specs.declared.tree.editor.error.Error.TheVar
 ghost use Rattle.gix_object_editor.specs.Entries.{MayStand, MayStandMade};
 ghost use Rattle.gix_object_editor.specs.Written.{WriteFault, Writes};
 ghost use Rattle.gix_object_editor.specs.Cursor.{StandsAt, IsLeft, LendsOrLeaves, Stays};
-ghost use Rattle.gix_object_editor.specs.Outcomes.{IsKept, Removes, HadNoneBelow, Puts, Grafts, MakesFolder, KeepsEach, AsksInto, FaultOfEdit, FaultOfGraft, FaultOfLeaf, Finds};
+ghost use Rattle.gix_object_editor.specs.Outcomes.{IsKept, Removes, RemovesLeaf, Puts, Grafts, MayGraft, MakesFolder, AsksInto, FaultOfEdit, FaultOfGraft, FaultOfLeaf, Finds};
 
 use crate::tree::editor::edits::check_graft;
 use crate::tree::editor::entry::entry_from;
@@ -61,10 +61,8 @@ impl<S: FindInto> Editor<S> {
             → IfOk result (λ cursor. (trees : Trees) → HasStored (S.table self.old.store) trees
             → AsksAll (S.table self.old.store) (asked_by self.old
             (names_of path.now) trees) self.old.lookups cursor.editor.now.lookups) }
-        ensures each { IfOk result (λ cursor. KeepsEach S.is_honest S.table
-            (λ has. MayStandMade has hash (names_of path.now)) self.old cursor.editor.now) }
-        ensures kept { IfOk result (λ cursor. IsKept S.is_honest S.table path.now self.old
-            cursor.editor.now result) }
+        ensures kept { IfOk result (λ cursor. IsKept S.is_honest S.table path.now
+            (λ has. MayStandMade has hash (names_of path.now)) self.old cursor.editor.now result) }
         ensures lent { IfOk result (λ cursor. cursor.editor.ghost_name ≡ self.entry.ghost_name) }
     {
         let at = self.folder_at(alloc, path, hash)?;
@@ -96,10 +94,8 @@ impl<'c, S: FindInto> Cursor<'c, S> {
         ensures asked { (base : Path) → StandsAt self.old base
             → AsksInto S.is_honest S.may_fail S.table (base ++ front_of (names_of path.now))
             self.old.editor.now self.new.editor.now result }
-        ensures each { KeepsEach S.is_honest S.table (λ has. ⊤) self.old.editor.now
-            self.new.editor.now }
-        ensures kept { IsKept S.is_honest S.table path.now self.old.editor.now self.new.editor.now
-            result }
+        ensures kept { IsKept S.is_honest S.table path.now (λ has. ⊤) self.old.editor.now
+            self.new.editor.now result }
         ensures stays { Stays self.old self.new }
     {
         self.editor.remove_from(alloc, self.at, path)
@@ -108,11 +104,8 @@ impl<'c, S: FindInto> Cursor<'c, S> {
     /// Removes the file at the path, which begins at the cursor, as `Editor::remove_leaf` does.
     pub fn remove_leaf(&mut self, alloc: Global, path: &[&[u8]]) -> Result<(), Error>
         ensures removed { (base : Path) → StandsAt self.old base
-            → OnOk result (Removes S.is_honest S.table (base ++ names_of path.now)
+            → OnOk result (RemovesLeaf S.is_honest S.table (base ++ names_of path.now)
             self.old.editor.now self.new.editor.now) }
-        ensures leaf { (base : Path) → StandsAt self.old base
-            → OnOk result (HadNoneBelow S.is_honest S.table (base ++ names_of path.now)
-            self.old.editor.now) }
         ensures refused { (base : Path) → StandsAt self.old base
             → FaultOfLeaf S.is_honest S.may_fail S.table (names_of path.now)
             (base ++ names_of path.now) self.old.editor.now self.new.editor.now result }
@@ -122,10 +115,8 @@ impl<'c, S: FindInto> Cursor<'c, S> {
         ensures asked { (base : Path) → StandsAt self.old base
             → AsksInto S.is_honest S.may_fail S.table (base ++ names_of path.now)
             self.old.editor.now self.new.editor.now result }
-        ensures each { KeepsEach S.is_honest S.table (λ has. ⊤) self.old.editor.now
-            self.new.editor.now }
-        ensures kept { IsKept S.is_honest S.table path.now self.old.editor.now self.new.editor.now
-            result }
+        ensures kept { IsKept S.is_honest S.table path.now (λ has. ⊤) self.old.editor.now
+            self.new.editor.now result }
         ensures stays { Stays self.old self.new }
     {
         self.editor.remove_leaf_from(alloc, self.at, path)
@@ -149,10 +140,8 @@ impl<'c, S: FindInto> Cursor<'c, S> {
         ensures asked { (base : Path) → StandsAt self.old base
             → AsksInto S.is_honest S.may_fail S.table (base ++ front_of (names_of path.now))
             self.old.editor.now self.new.editor.now result }
-        ensures each { KeepsEach S.is_honest S.table (λ has. MayStand has (names_of path.now)
-            (leaf_of_kind kind id)) self.old.editor.now self.new.editor.now }
-        ensures kept { IsKept S.is_honest S.table path.now self.old.editor.now self.new.editor.now
-            result }
+        ensures kept { IsKept S.is_honest S.table path.now (λ has. MayStand has (names_of path.now)
+            (leaf_of_kind kind id)) self.old.editor.now self.new.editor.now result }
         ensures stays { Stays self.old self.new }
     {
         self.editor.upsert_from(alloc, self.at, path, kind, id)
@@ -167,9 +156,6 @@ impl<'c, S: FindInto> Cursor<'c, S> {
         kind: EntryKind,
         id: ObjectId,
     ) -> Result<(), Error>
-        ensures put { (base : Path) → StandsAt self.old base
-            → OnOk result (Puts S.is_honest S.table (base ++ names_of path.now)
-            (leaf_of_kind kind id) self.old.editor.now self.new.editor.now) }
         ensures grafted { (base : Path) → StandsAt self.old base
             → OnOk result (Grafts S.is_honest S.table (base ++ names_of path.now) kind id
             self.old.editor.now self.new.editor.now) }
@@ -184,11 +170,8 @@ impl<'c, S: FindInto> Cursor<'c, S> {
         ensures asked { (base : Path) → StandsAt self.old base
             → AsksInto S.is_honest S.may_fail S.table (base ++ front_of (names_of path.now))
             self.old.editor.now self.new.editor.now result }
-        ensures each { KeepsEach S.is_honest S.table (λ has. (IsEmptyTree (id_of id) → ⊥)
-            → MayStand has (names_of path.now) (leaf_of_kind kind id)) self.old.editor.now
-            self.new.editor.now }
-        ensures kept { IsKept S.is_honest S.table path.now self.old.editor.now self.new.editor.now
-            result }
+        ensures kept { IsKept S.is_honest S.table path.now (MayGraft (names_of path.now) kind id)
+            self.old.editor.now self.new.editor.now result }
         ensures stays { Stays self.old self.new }
     {
         check_graft(path, id)?;

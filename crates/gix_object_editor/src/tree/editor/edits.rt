@@ -1,6 +1,6 @@
 //! Edits below an opened tree.
 
-ghost use Rattle.std.specs.Prelude.{◌≡◌, ◌<◌, ◌+◌, ◌⊎◌, length, IfErr, OnOk, IfOk, Some, None, true, [], ⊤};
+ghost use Rattle.std.specs.Prelude.{◌≡◌, ◌<◌, ◌⊎◌, length, IfErr, OnOk, IfOk, [], ⊤};
 ghost use Rattle.gix_hash.specs.Id.{id_of};
 ghost use Rattle.gix_object_nodes.specs.Files.{Path, IsEmptyTree, NamesAreFull};
 ghost use Rattle.gix_object_nodes.specs.Nodes.{slots_of, Way, onto, LeadsTo};
@@ -8,13 +8,13 @@ ghost use Rattle.gix_object_editor.specs.Editor.{names_of, leaf_of_kind};
 ghost use Rattle.gix_object_editor.specs.Asked.{front_of, unopened_into, Asks};
 ghost use Rattle.gix_object_editor.specs.Entries.{MayStand, MayStandMade};
 ghost use Rattle.gix_object_editor.specs.declared.tree.editor.error.Error.TheVariants.{EmptyPathComponent, EmptyTree};
-ghost use Rattle.gix_object_editor.specs.Outcomes.{IsKept, Removes, HadNoneBelow, Puts, MakesFolder, KeepsEach, AsksInto, FaultOfEdit, FaultOfFolder, FaultOfLeaf};
+ghost use Rattle.gix_object_editor.specs.Outcomes.{IsKept, KeepsTree, Removes, RemovesLeaf, Puts, MakesFolder, AsksInto, FaultOfEdit, FaultOfFolder, FaultOfLeaf};
 
 use crate::tree::editor::entry::stands_already;
 use crate::tree::editor::filled::refuse_folder;
 use crate::tree::editor::forest::{folder_below, walk};
 use crate::tree::editor::lay::{lay_entry, make_folders};
-use crate::tree::editor::marks::{cut, mark_changed, mark_where};
+use crate::tree::editor::marks::{cut, mark_if};
 use crate::tree::editor::{Editor, Error};
 use gix_hash::{Kind, ObjectId};
 use gix_object_lookup::FindInto;
@@ -41,11 +41,8 @@ impl<S: FindInto> Editor<S> {
             (S.table self.old.store)
             (λ trees. unopened_into trees (slots_of self.old.nodes.items) from.0
             (front_of (names_of path.now))) self.old.lookups self.new.lookups result }
-        ensures each { KeepsEach S.is_honest S.table (λ has. ⊤) self.old self.new }
-        ensures kept { IsKept S.is_honest S.table path.now self.old self.new result }
-        ensures stands { (way : Path) → Way (slots_of self.old.nodes.items) way from.0
-            → Way (slots_of self.new.nodes.items) way from.0 }
-        ensures within { from.0 < length self.new.nodes.items }
+        ensures kept { IsKept S.is_honest S.table path.now (λ has. ⊤) self.old self.new result }
+        ensures stays { KeepsTree from.0 self.old self.new }
     {
         check_names(path)?;
         let (at, depth) = walk(
@@ -57,7 +54,7 @@ impl<S: FindInto> Editor<S> {
             path,
         )?;
         if depth + 1 == path.len() {
-            cut(self.nodes.as_mut_slice(), at, path[depth]);
+            cut(&mut self.nodes, at, path[depth]);
         }
         Ok(())
     }
@@ -71,10 +68,8 @@ impl<S: FindInto> Editor<S> {
     ) -> Result<(), Error>
         requires { from.0 < length self.old.nodes.items }
         ensures removed { (way : Path) → Way (slots_of self.old.nodes.items) way from.0
-            → OnOk result (Removes S.is_honest S.table (onto way (names_of path.now)) self.old
+            → OnOk result (RemovesLeaf S.is_honest S.table (onto way (names_of path.now)) self.old
             self.new) }
-        ensures leaf { (way : Path) → Way (slots_of self.old.nodes.items) way from.0
-            → OnOk result (HadNoneBelow S.is_honest S.table (onto way (names_of path.now)) self.old) }
         ensures refused { (way : Path) → Way (slots_of self.old.nodes.items) way from.0
             → FaultOfLeaf S.is_honest S.may_fail S.table (names_of path.now)
             (onto way (names_of path.now)) self.old self.new result }
@@ -82,11 +77,8 @@ impl<S: FindInto> Editor<S> {
             (S.table self.old.store)
             (λ trees. unopened_into trees (slots_of self.old.nodes.items) from.0
             (names_of path.now)) self.old.lookups self.new.lookups result }
-        ensures each { KeepsEach S.is_honest S.table (λ has. ⊤) self.old self.new }
-        ensures kept { IsKept S.is_honest S.table path.now self.old self.new result }
-        ensures stands { (way : Path) → Way (slots_of self.old.nodes.items) way from.0
-            → Way (slots_of self.new.nodes.items) way from.0 }
-        ensures within { from.0 < length self.new.nodes.items }
+        ensures kept { IsKept S.is_honest S.table path.now (λ has. ⊤) self.old self.new result }
+        ensures stays { KeepsTree from.0 self.old self.new }
     {
         check_names(path)?;
         let (at, depth) = walk(
@@ -106,7 +98,7 @@ impl<S: FindInto> Editor<S> {
                 at,
                 path[depth],
             )?;
-            cut(self.nodes.as_mut_slice(), at, path[depth]);
+            cut(&mut self.nodes, at, path[depth]);
         }
         Ok(())
     }
@@ -131,12 +123,9 @@ impl<S: FindInto> Editor<S> {
             (S.table self.old.store)
             (λ trees. unopened_into trees (slots_of self.old.nodes.items) from.0
             (front_of (names_of path.now))) self.old.lookups self.new.lookups result }
-        ensures each { KeepsEach S.is_honest S.table (λ has. MayStand has (names_of path.now)
-            (leaf_of_kind kind id)) self.old self.new }
-        ensures kept { IsKept S.is_honest S.table path.now self.old self.new result }
-        ensures stands { (way : Path) → Way (slots_of self.old.nodes.items) way from.0
-            → Way (slots_of self.new.nodes.items) way from.0 }
-        ensures within { from.0 < length self.new.nodes.items }
+        ensures kept { IsKept S.is_honest S.table path.now (λ has. MayStand has (names_of path.now)
+            (leaf_of_kind kind id)) self.old self.new result }
+        ensures stays { KeepsTree from.0 self.old self.new }
     {
         check_names(path)?;
         let (at, depth) = walk(
@@ -148,7 +137,7 @@ impl<S: FindInto> Editor<S> {
             path,
         )?;
         if id.is_null() {
-            cut(self.nodes.as_mut_slice(), at, path[depth]);
+            cut(&mut self.nodes, at, path[depth]);
             return Ok(());
         }
         let slot = Slot {
@@ -160,7 +149,7 @@ impl<S: FindInto> Editor<S> {
             return Ok(());
         }
         lay_entry(&mut self.nodes, alloc, at, &path[depth..], slot, true)?;
-        mark_changed(self.nodes.as_mut_slice(), at);
+        mark_if(&mut self.nodes, at, true);
         Ok(())
     }
 
@@ -181,9 +170,8 @@ impl<S: FindInto> Editor<S> {
             self.new result }
         ensures asked { AsksInto S.is_honest S.may_fail S.table (names_of path.now) self.old
             self.new result }
-        ensures each { KeepsEach S.is_honest S.table (λ has. MayStandMade has hash
-            (names_of path.now)) self.old self.new }
-        ensures kept { IsKept S.is_honest S.table path.now self.old self.new result }
+        ensures kept { IsKept S.is_honest S.table path.now (λ has. MayStandMade has hash
+            (names_of path.now)) self.old self.new result }
     {
         check_names(path)?;
         let (at, depth) = walk(
@@ -208,7 +196,7 @@ impl<S: FindInto> Editor<S> {
                 let stands = slot_at(self.nodes.as_slice(), at, path[depth]).is_some();
                 let left = &path[depth..];
                 let made = make_folders(&mut self.nodes, alloc, at, left, hash, stands)?;
-                mark_where(self.nodes.as_mut_slice(), at, stands);
+                mark_if(&mut self.nodes, at, stands);
                 Ok(made)
             }
         }

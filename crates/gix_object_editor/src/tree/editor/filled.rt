@@ -5,7 +5,7 @@ ghost use Rattle.gix_object_nodes.specs.Files.{Bytes, Path, Trees};
 ghost use Rattle.gix_object_nodes.specs.Nodes.{slots_of, files_of_node, IsForest, AreFilled, HasFileBelow, IsFolderAt};
 ghost use Rattle.gix_object_editor.specs.Refusals.{FolderFault};
 ghost use Rattle.gix_object_editor.specs.Asked.{unopened_into, Asks};
-ghost use Rattle.gix_object_editor.specs.Grown.{IsForestOf, OpensMore, KeepsTrees};
+ghost use Rattle.gix_object_editor.specs.Grown.{HasTree, Grows};
 
 use crate::tree::editor::Error;
 use crate::tree::editor::forest::open;
@@ -23,12 +23,9 @@ pub(crate) fn refuse_folder<S: FindInto>(
     at: NodeId,
     name: &[u8],
 ) -> Result<(), Error>
-    requires forest { IsForestOf nodes.old.items }
-    requires within { at.0 < length nodes.old.items }
-    ensures opened { OpensMore (S.is_honest store.now) (S.table store.now)
-        nodes.old.items nodes.new.items }
-    ensures kept { KeepsTrees (S.is_honest store.now) (S.table store.now)
-        nodes.old.items nodes.new.items }
+    requires { HasTree nodes.old.items at.0 }
+    ensures grows { Grows (S.is_honest store.now) (S.table store.now) nodes.old.items
+        nodes.new.items }
     ensures plain { OnOk result (IsFolderAt (slots_of nodes.new.items) at.0 name.now None) }
     ensures counted { lookups.new ≤ lookups.old + 1 }
     ensures asked { Asks (S.is_honest store.now) (S.may_fail store.now) (S.table store.now)

@@ -1,30 +1,23 @@
 //! Which opened trees edits changed.
 
-ghost use Rattle.std.specs.Prelude.{◌≡◌, ◌≢◌, ◌<◌, ℕ, length, true, false, Some, None, IsTrue, IsFalse};
-ghost use Rattle.gix_object_nodes.specs.Files.{Bytes};
-ghost use Rattle.gix_object_nodes.specs.Nodes.{slots_of, child_of, IsForest};
-ghost use Rattle.gix_object_nodes.specs.Marks.{marks_of, mark_below, AreMarked, AreMarkedBut, AreMarkedUp, IsMarkedFor, IsIdle};
+ghost use Rattle.std.specs.Prelude.{◌≡◌, ◌≢◌, ◌<◌, ℕ, length, true, Some, IsTrue, IsFalse};
+ghost use Rattle.gix_object_nodes.specs.Nodes.{child_of, HasSlotsOf};
+ghost use Rattle.gix_object_nodes.specs.Marks.{marks_of, mark_below, IsIdle};
+ghost use Rattle.gix_object_editor.specs.Grown.{HasTree, IsMarkedOf, IsMarkedBut, IsMarkedUp, IsCut};
 
 use gix_object_nodes::changed::is_changed;
 use gix_object_nodes::node::{Node, NodeId, Slot, slot_at, take_at};
 
 /// Removes the entry of a name from an opened tree, which is marked as changed, if more than a made
 /// folder is there.
-pub(crate) fn cut(nodes: &mut [Node], at: NodeId, name: &[u8])
-    requires within { at.0 < length nodes.old }
-    requires forest { IsForest (slots_of nodes.old) (length nodes.old) }
-    requires marked { AreMarked (slots_of nodes.old) (marks_of nodes.old) (length nodes.old) }
-    ensures here { slots_of nodes.new at.0 name.now ≡ None }
-    ensures others { (i : ℕ) (m : Bytes) → (i ≡ at.0 → m ≡ name.now → ⊥)
-        → slots_of nodes.new i m ≡ slots_of nodes.old i m }
-    ensures marks { IsMarkedFor (slots_of nodes.old) (slots_of nodes.new) (marks_of nodes.old)
-        (marks_of nodes.new) at.0 (length nodes.old) (length nodes.old) }
-    ensures idle { IsIdle (marks_of nodes.old) (slots_of nodes.old at.0 name.now)
-        → (i : ℕ) → marks_of nodes.new i ≡ marks_of nodes.old i }
+pub(crate) fn cut(nodes: &mut Vec<Node>, at: NodeId, name: &[u8])
+    requires tree { HasTree nodes.old.items at.0 }
+    requires marked { IsMarkedOf nodes.old.items }
+    ensures { IsCut nodes.old.items at.0 name.now nodes.new.items }
 {
-    let more = is_more(nodes, slot_at(nodes, at, name));
+    let more = is_more(nodes.as_slice(), slot_at(nodes.as_slice(), at, name));
     take_at(nodes, at, name);
-    mark_where(nodes, at, more);
+    mark_if(nodes, at, more);
 }
 
 // Returns whether more is there than a folder that was made and into which nothing was put.
@@ -42,46 +35,34 @@ fn is_more(nodes: &[Node], slot: Option<Slot>) -> bool
     }
 }
 
-/// Marks an opened tree as changed, and those that it lies in.
-pub(crate) fn mark_changed(nodes: &mut [Node], at: NodeId)
-    requires within { at.0 < length nodes.old }
-    requires forest { IsForest (slots_of nodes.old) (length nodes.old) }
-    requires marked { AreMarkedBut at.0 (slots_of nodes.old) (marks_of nodes.old)
-        (length nodes.old) }
-    ensures slots { (i : ℕ) (m : Bytes) → slots_of nodes.new i m ≡ slots_of nodes.old i m }
-    ensures marked { AreMarkedUp (slots_of nodes.old) (marks_of nodes.old)
-        (marks_of nodes.new) at.0 (length nodes.old) }
+/// Marks an opened tree as changed, and those that it lies in, if `changed`; otherwise nothing
+/// changes.
+pub(crate) fn mark_if(nodes: &mut Vec<Node>, at: NodeId, changed: bool)
+    requires tree { HasTree nodes.old.items at.0 }
+    requires marked { IsTrue changed → IsMarkedBut at.0 nodes.old.items }
+    ensures marked { IsTrue changed → IsMarkedUp nodes.old.items at.0 nodes.new.items }
+    ensures same { IsFalse changed → nodes.new.items ≡ nodes.old.items }
 {
+    if !changed {
+        return;
+    }
     let mut above = at;
     'trees: while above.0 > 0 {
         mark_at(nodes, above);
-        above = parent_at(nodes, above);
+        above = parent_at(nodes.as_slice(), above);
     }
     mark_at(nodes, above);
 }
 
-/// The same if `changed`; otherwise no mark changes.
-pub(crate) fn mark_where(nodes: &mut [Node], at: NodeId, changed: bool)
-    requires within { at.0 < length nodes.old }
-    requires forest { IsForest (slots_of nodes.old) (length nodes.old) }
-    requires marked { IsTrue changed
-        → AreMarkedBut at.0 (slots_of nodes.old) (marks_of nodes.old) (length nodes.old) }
-    ensures slots { (i : ℕ) (m : Bytes) → slots_of nodes.new i m ≡ slots_of nodes.old i m }
-    ensures marked { IsTrue changed → AreMarkedUp (slots_of nodes.old) (marks_of nodes.old)
-        (marks_of nodes.new) at.0 (length nodes.old) }
-    ensures same { IsFalse changed → (i : ℕ) → marks_of nodes.new i ≡ marks_of nodes.old i }
-{
-    if changed {
-        mark_changed(nodes, at);
-    }
-}
-
 // Marks one opened tree as changed.
-fn mark_at(nodes: &mut [Node], at: NodeId)
-    requires { at.0 < length nodes.old }
-    ensures slots { (i : ℕ) (m : Bytes) → slots_of nodes.new i m ≡ slots_of nodes.old i m }
-    ensures here { marks_of nodes.new at.0 ≡ mark_below (marks_of nodes.old at.0).parent true }
-    ensures others { (i : ℕ) → i ≢ at.0 → marks_of nodes.new i ≡ marks_of nodes.old i }
+fn mark_at(nodes: &mut Vec<Node>, at: NodeId)
+    requires { at.0 < length nodes.old.items }
+    ensures len { length nodes.new.items ≡ length nodes.old.items }
+    ensures slots { HasSlotsOf nodes.old.items nodes.new.items }
+    ensures here { marks_of nodes.new.items at.0
+        ≡ mark_below (marks_of nodes.old.items at.0).parent true }
+    ensures others { (i : ℕ) → i ≢ at.0
+        → marks_of nodes.new.items i ≡ marks_of nodes.old.items i }
 {
     let node = &mut nodes[at.0];
     node.place(node.parent, true);

@@ -43,7 +43,7 @@ returns-in-RemoveFile-clause-files g c = λ honest trees kind files made stored 
     let names = ap names_of c.as_slice-in-RemoveFile.ensures.value ∙ c.in_ok-names.ensures in
     let old = files_of trees c.args.editor.now in
     file_removed (g.S.Lookup.table c.args.editor.now.store) kind files old is path made (files_of trees c.remove_leaf.new.self) (subst (λ change. IsChange (g.S.Lookup.table c.args.editor.now.store) kind path change made) c.in-RemoveFile.is edit)
-    (λ q. c.in_ok-remove_leaf-in-RemoveFile.ensures.removed.files honest trees stored q ∙ ap (λ ps. unfolded.removed ps old q) names)
+    (λ q. c.in_ok-remove_leaf-in-RemoveFile.ensures.removed.removes.files honest trees stored q ∙ ap (λ ps. unfolded.removed ps old q) names)
 
 pub returns-in-RemoveFile-clause-accepted : goal.returns-in-RemoveFile-clause-accepted
 returns-in-RemoveFile-clause-accepted g c = λ honest trees kind files made stored edit is.
@@ -51,33 +51,33 @@ returns-in-RemoveFile-clause-accepted g c = λ honest trees kind files made stor
     let names = ap names_of c.as_slice-in-RemoveFile.ensures.value ∙ c.in_ok-names.ensures in
     let old = files_of trees c.args.editor.now in
     none_refused (g.S.Lookup.table c.args.editor.now.store) kind files old is path made (files_of trees c.remove_leaf.new.self) (subst (λ change. IsChange (g.S.Lookup.table c.args.editor.now.store) kind path change made) c.in-RemoveFile.is edit)
-    (subst (λ ps. HasNoneBelow ps old) names (c.in_ok-remove_leaf-in-RemoveFile.ensures.leaf honest trees stored))
+    (subst (λ ps. HasNoneBelow ps old) names (c.in_ok-remove_leaf-in-RemoveFile.ensures.removed.none_below honest trees stored))
 
 pub returns-in_err-upsert-in-Put-clause-each : goal.returns-in_err-upsert-in-Put-clause-each
 returns-in_err-upsert-in-Put-clause-each g c = λ honest has down may each.
     let names = ap names_of c.as_slice.ensures.value ∙ c.in_ok-names.ensures in
     let put = subst (MayPut has c.args.edit.now.path.now) c.in-Put.is may in
-    c.upsert.ensures.each honest has down
+    c.upsert.ensures.kept.each honest has down
     (subst (λ k. MayStand has (names_of c.as_slice.result.now) (leaf_of_kind k c.in-Put.id)) (sym c.entry_kind.ensures) (subst (λ ps. MayStand has ps (leaf_of_kind (entry_kind c.in-Put.kind) c.in-Put.id)) (sym names) put)) each
 
 pub returns-in-Put-clause-each : goal.returns-in-Put-clause-each
 returns-in-Put-clause-each g c = λ honest has down may each.
     let names = ap names_of c.as_slice.ensures.value ∙ c.in_ok-names.ensures in
     let put = subst (MayPut has c.args.edit.now.path.now) c.in-Put.is may in
-    c.upsert.ensures.each honest has down
+    c.upsert.ensures.kept.each honest has down
     (subst (λ k. MayStand has (names_of c.as_slice.result.now) (leaf_of_kind k c.in-Put.id)) (sym c.entry_kind.ensures) (subst (λ ps. MayStand has ps (leaf_of_kind (entry_kind c.in-Put.kind) c.in-Put.id)) (sym names) put)) each
 
 pub returns-in_err-remove-in-Remove-clause-each : goal.returns-in_err-remove-in-Remove-clause-each
-returns-in_err-remove-in-Remove-clause-each g c = λ honest has down may each. c.remove.ensures.each honest has down tt each
+returns-in_err-remove-in-Remove-clause-each g c = λ honest has down may each. c.remove.ensures.kept.each honest has down tt each
 
 pub returns-in-Remove-clause-each : goal.returns-in-Remove-clause-each
-returns-in-Remove-clause-each g c = λ honest has down may each. c.remove.ensures.each honest has down tt each
+returns-in-Remove-clause-each g c = λ honest has down may each. c.remove.ensures.kept.each honest has down tt each
 
 pub returns-in_err-remove_leaf-in-RemoveFile-clause-each : goal.returns-in_err-remove_leaf-in-RemoveFile-clause-each
-returns-in_err-remove_leaf-in-RemoveFile-clause-each g c = λ honest has down may each. c.remove_leaf.ensures.each honest has down tt each
+returns-in_err-remove_leaf-in-RemoveFile-clause-each g c = λ honest has down may each. c.remove_leaf.ensures.kept.each honest has down tt each
 
 pub returns-in-RemoveFile-clause-each : goal.returns-in-RemoveFile-clause-each
-returns-in-RemoveFile-clause-each g c = λ honest has down may each. c.remove_leaf.ensures.each honest has down tt each
+returns-in-RemoveFile-clause-each g c = λ honest has down may each. c.remove_leaf.ensures.kept.each honest has down tt each
 
 pub returns-in_err-upsert-in-Put-clause-refused : goal.returns-in_err-upsert-in-Put-clause-refused
 returns-in_err-upsert-in-Put-clause-refused g c = λ honest kind stands files made can fine edit lies.
@@ -167,7 +167,7 @@ returns-clause-files g c = λ honest trees kind files made stored edit is.
     let names = ap names_of c.as_slice-in-Graft.ensures.value ∙ c.in_ok-names.ensures in
     let old = files_of trees c.args.editor.now in
     let new = files_of trees c.graft.new.self in
-    let after = c.in_ok-graft-in-Graft.ensures.put.files honest trees stored in
+    let after = c.in_ok-graft-in-Graft.ensures.grafted.put.files honest trees stored in
     graft_made (g.S.Lookup.table c.args.editor.now.store) kind files old is path made new trees c.in-Graft.found stored
     (subst (λ change. IsChange (g.S.Lookup.table c.args.editor.now.store) kind path change made) c.in-Graft.is edit)
     (λ q. after q ∙ (λ i. unfolded.put trees (names i) (c.entry_for-entry.ensures i) old q))
@@ -182,13 +182,13 @@ pub returns-in_err-graft-in-Graft-clause-each : goal.returns-in_err-graft-in-Gra
 returns-in_err-graft-in-Graft-clause-each g c = λ honest has down may each.
     let names = ap names_of c.as_slice-in-Graft.ensures.value ∙ c.in_ok-names.ensures in
     let put = subst (MayPut has c.args.edit.now.path.now) c.in-Graft.is may in
-    c.graft.ensures.each honest has down (λ some. subst (MayStand has (names_of c.as_slice-in-Graft.result.now)) (sym c.entry_for-entry.ensures) (subst (λ ps. MayStand has ps (found_leaf c.in-Graft.found)) (sym names) put)) each
+    c.graft.ensures.kept.each honest has down (λ some. subst (MayStand has (names_of c.as_slice-in-Graft.result.now)) (sym c.entry_for-entry.ensures) (subst (λ ps. MayStand has ps (found_leaf c.in-Graft.found)) (sym names) put)) each
 
 pub returns-clause-each : goal.returns-clause-each
 returns-clause-each g c = λ honest has down may each.
     let names = ap names_of c.as_slice-in-Graft.ensures.value ∙ c.in_ok-names.ensures in
     let put = subst (MayPut has c.args.edit.now.path.now) c.in-Graft.is may in
-    c.graft.ensures.each honest has down (λ some. subst (MayStand has (names_of c.as_slice-in-Graft.result.now)) (sym c.entry_for-entry.ensures) (subst (λ ps. MayStand has ps (found_leaf c.in-Graft.found)) (sym names) put)) each
+    c.graft.ensures.kept.each honest has down (λ some. subst (MayStand has (names_of c.as_slice-in-Graft.result.now)) (sym c.entry_for-entry.ensures) (subst (λ ps. MayStand has ps (found_leaf c.in-Graft.found)) (sym names) put)) each
 
 pub returns-in_err-graft-in-Graft-clause-refused : goal.returns-in_err-graft-in-Graft-clause-refused
 returns-in_err-graft-in-Graft-clause-refused g c = λ honest kind stands files made can fine edit lies.

@@ -1,8 +1,8 @@
 use Rattle.std.proofs.Common.{length, ◌-◌, ◌<◌, ◌≤◌, ◌+◌, ◌++◌, ◌⊎◌, ◌≡◌, map, drop}
 use Rattle.gix_object_nodes.specs.Files.{Path, Trees}
-use Rattle.gix_object_editor.specs.Stored.{HasStored, IsOpened}
+use Rattle.gix_object_editor.specs.Stored.{HasStored}
 use Rattle.gix_object_editor.specs.Asked.{front_of, unopened_into, AsksUpTo}
-use Rattle.gix_object_editor.specs.Grown.{KeepsTrees}
+use Rattle.gix_object_editor.specs.Grown.{Grows}
 use Rattle.gix_object_nodes.specs.Nodes.{slots_of, Way, onto, LeadsTo}
 use Rattle.gix_object_editor.proofs.tree.editor.forest.walk.Given as goal
 
@@ -12,8 +12,7 @@ invariant-names g l = record {
   within : l.at.0 < length l.nodes.items;
   below : l.fn.from.0 ≤ l.at.0;
   left : l.depth < length l.path;
-  opened : IsOpened (g.S.Lookup.is_honest l.store) (g.S.Lookup.table l.store) (slots_of l.initial.nodes.items) (slots_of l.nodes.items) (length l.initial.nodes.items) (length l.nodes.items);
-  kept : KeepsTrees (g.S.Lookup.is_honest l.store) (g.S.Lookup.table l.store) l.initial.nodes.items l.nodes.items;
+  grows : Grows (g.S.Lookup.is_honest l.store) (g.S.Lookup.table l.store) l.initial.nodes.items l.nodes.items;
   leads : (way : Path) → Way (slots_of l.initial.nodes.items) way l.fn.from.0 → LeadsTo (slots_of l.nodes.items) (onto way (map (λ n. n.now) l.path)) l.at.0 (map (λ n. n.now) (drop l.depth l.path));
   last : (length l.nodes.items ≡ length l.initial.nodes.items) ⊎ (l.at.0 + 1 ≡ length l.nodes.items);
   counted : l.lookups ≤ l.initial.lookups + l.depth;

@@ -95,10 +95,28 @@ loop-i-init c = record {
   rungs = λ k lt. absurd (omega (arith, lt));
 }
 
-pub returns-in_err-push-clause-leaves : goal.returns-in_err-push-clause-leaves
-returns-in_err-push-clause-leaves c = λ j m u le is.
+pub returns-clause-front : goal.returns-clause-front
+returns-clause-front c = record { longer = omega (arith, c.loop-i.invariant.len); slots = c.loop-i.invariant.front; marks = c.loop-i.invariant.marks }
+
+pub returns-clause-ladder : goal.returns-clause-ladder
+returns-clause-ladder c = record {
+  len = omega (arith, c.loop-i.invariant.len);
+  rungs = λ k lt. c.loop-i.invariant.rungs k (omega (arith, lt));
+  leaves = c.loop-i.invariant.leaves;
+  marked = λ k lt. c.loop-i.invariant.changed k (omega (arith, lt));
+}
+
+pub returns-in_err-push-clause-front : goal.returns-in_err-push-clause-front
+returns-in_err-push-clause-front c =
     let before = c.loop-i.nodes.items in
     let node : Node = c.in_ok-lone.field-0 in
     let failed : is_ok c.push.result ≡ false = search rules in
     let same : c.push.new.self.items ≡ before = c.push.ensures.items ∙ ap (λ b. if b then before ++ node ∷ [] else before) failed in
-    c.loop-i.invariant.leaves j m u le (ap (λ ns. slots_of ns j m) (sym same) ∙ is)
+    record {
+      longer = omega (arith, ap length same, c.loop-i.invariant.len);
+      slots = λ i m lt. ap (λ ns. slots_of ns i m) same ∙ c.loop-i.invariant.front i m lt;
+      marks = λ i lt. ap (λ ns. marks_of ns i) same ∙ c.loop-i.invariant.marks i lt;
+    }
+
+pub returns-in_err-lone-clause-front : goal.returns-in_err-lone-clause-front
+returns-in_err-lone-clause-front c = record { longer = omega (arith, c.loop-i.invariant.len); slots = c.loop-i.invariant.front; marks = c.loop-i.invariant.marks }

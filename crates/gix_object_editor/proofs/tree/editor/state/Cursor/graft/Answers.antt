@@ -4,11 +4,12 @@ use Rattle.gix_object_editor.specs.declared.tree.editor.error.Error.{Error}
 use Rattle.gix_object_editor.specs.declared.tree.editor.error.Error.TheVariants.{EmptyTree}
 use Rattle.gix_object_nodes.specs.Files.{IsEmptyTree, NamesAreFull}
 use Rattle.gix_object_editor.specs.Editor.{files_of, names_of, LeadsThrough, EditFault}
-use Rattle.gix_object_editor.proofs.Grafted.{grafts_put, or_other, not_so}
+use Rattle.gix_object_editor.proofs.Grafted.{grafts_put, kept_graft, or_other, not_so}
 use Rattle.gix_object_editor.proofs.tree.editor.state.Cursor.graft.Goals as goal
 
-pub returns-clause-each : goal.returns-clause-each
-returns-clause-each g c = λ honest has down fits each. c.upsert.ensures.each honest has down (fits c.in_ok-check_graft.ensures.ok.1) each
+pub returns-clause-kept : goal.returns-clause-kept
+returns-clause-kept g c =
+    kept_graft g.S.Lookup.is_honest g.S.Lookup.table c.args.path.now c.args.kind c.args.id c.args.self.now.editor.now c.upsert.new.self.editor.now c.upsert.result c.in_ok-check_graft.ensures.ok.1 c.upsert.ensures.kept
 
 pub returns-clause-refused : goal.returns-clause-refused
 returns-clause-refused g c = λ base stands.

@@ -4,7 +4,7 @@ use Rattle.gix_object_nodes.specs.Files.{Trees}
 use Rattle.gix_object_nodes.specs.Nodes.{slots_of}
 use Rattle.gix_object_editor.specs.Editor.{files_of, names_of, LeadsInto}
 use Rattle.gix_object_editor.specs.Asked.{Asks}
-use Rattle.gix_object_editor.specs.Outcomes.{Removes, HadNoneBelow, FaultOfLeaf}
+use Rattle.gix_object_editor.specs.Outcomes.{RemovesLeaf, FaultOfLeaf}
 use Rattle.gix_object_editor.proofs.Folders.{below_base}
 use Rattle.gix_object_editor.proofs.Leafs.{leaf_fault_folder}
 use Rattle.gix_object_editor.proofs.Asking.{asked_below}
@@ -12,13 +12,8 @@ use Rattle.gix_object_editor.proofs.tree.editor.state.Cursor.remove_leaf.Goals a
 
 pub returns-clause-removed : goal.returns-clause-removed
 returns-clause-removed g c = λ base stands.
-    subst (λ p. OnOk c.remove_leaf_from.result (Removes g.S.Lookup.is_honest g.S.Lookup.table p c.args.self.now.editor.now c.remove_leaf_from.new.self))
+    subst (λ p. OnOk c.remove_leaf_from.result (RemovesLeaf g.S.Lookup.is_honest g.S.Lookup.table p c.args.self.now.editor.now c.remove_leaf_from.new.self))
     (below_base stands.0 base (names_of c.args.path.now) stands.2) (c.remove_leaf_from.ensures.removed stands.0 stands.1)
-
-pub returns-clause-leaf : goal.returns-clause-leaf
-returns-clause-leaf g c = λ base stands.
-    subst (λ p. OnOk c.remove_leaf_from.result (HadNoneBelow g.S.Lookup.is_honest g.S.Lookup.table p c.args.self.now.editor.now))
-    (below_base stands.0 base (names_of c.args.path.now) stands.2) (c.remove_leaf_from.ensures.leaf stands.0 stands.1)
 
 pub returns-clause-refused : goal.returns-clause-refused
 returns-clause-refused g c = λ base stands.
@@ -36,4 +31,4 @@ returns-clause-folder g c = λ base stands.
     (LeadsInto (λ trees. files_of trees c.remove_leaf_from.new.self) (base ++ names_of c.args.path.now)) (base ++ names_of c.args.path.now) c.remove_leaf_from.new.self c.remove_leaf_from.result (returns-clause-refused g c base stands)
 
 pub returns-clause-stays : goal.returns-clause-stays
-returns-clause-stays g c = record { stands = λ base stands. (stands.0, c.remove_leaf_from.ensures.stands stands.0 stands.1, stands.2); lent = search rules }
+returns-clause-stays g c = record { stands = λ base stands. (stands.0, c.remove_leaf_from.ensures.stays.way stands.0 stands.1, stands.2); lent = search rules }

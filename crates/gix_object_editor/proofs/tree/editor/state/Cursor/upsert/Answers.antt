@@ -25,4 +25,4 @@ returns-clause-asked g c = λ base stands.
     (asked_below (slots_of c.args.self.now.editor.now.nodes.items) base c.args.self.now.at.0 (front_of (names_of c.args.path.now)) stands) c.upsert_from.ensures.asked
 
 pub returns-clause-stays : goal.returns-clause-stays
-returns-clause-stays g c = record { stands = λ base stands. (stands.0, c.upsert_from.ensures.stands stands.0 stands.1, stands.2); lent = search rules }
+returns-clause-stays g c = record { stands = λ base stands. (stands.0, c.upsert_from.ensures.stays.way stands.0 stands.1, stands.2); lent = search rules }

@@ -27,7 +27,6 @@ returns-in_err-at g c =
         made = tt;
         stands = tt;
         asked = λ honest. tt;
-        each = tt;
         kept = tt;
         lent = tt;
       },

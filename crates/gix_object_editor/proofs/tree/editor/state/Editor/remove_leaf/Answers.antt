@@ -9,9 +9,6 @@ remove_leaf_from-requires g c = c.args.self.now.forest.rooted
 pub returns-clause-removed : goal.returns-clause-removed
 returns-clause-removed g c = c.remove_leaf_from.ensures.removed [] refl
 
-pub returns-clause-leaf : goal.returns-clause-leaf
-returns-clause-leaf g c = c.remove_leaf_from.ensures.leaf [] refl
-
 pub returns-clause-refused : goal.returns-clause-refused
 returns-clause-refused g c = c.remove_leaf_from.ensures.refused [] refl
 
