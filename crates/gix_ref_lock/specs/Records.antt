@@ -2,25 +2,16 @@
 use Rattle.std.specs.Prelude.{ℕ, ◌≡◌, List, [], Option, None, Some}
 use Rattle.gix_ref_file.specs.Tree.{Tree, file, node_at}
 use Rattle.gix_hash.specs.declared.kind.Kind.{Kind}
-use Rattle.gix_ref_format.specs.Packed.{Record, packed_records}
+use Rattle.gix_ref_format.specs.Packed.{Record}
 use Rattle.gix_ref_format.specs.PackedKept.{kept}
 use Rattle.gix_ref_format.specs.declared.packed.buffer.Buffer.{Buffer}
-use Rattle.gix_ref_format.specs.Edited.{Line, IsEdited}
-use Rattle.gix_ref_format.specs.Written.{packed_text, AllHaveKind}
+use Rattle.gix_ref_format.specs.Edited.{Line}
+pub use Rattle.gix_ref_format.specs.PackedText.{IsTextOf}
 
 -- the records of a file; none if there is no file
 abbrev pub records_in : Option Buffer → List Record
 records_in None = []
 records_in (Some buffer) = kept buffer
-
--- The text of the records under the edits, which is read as them if all their ids are of the hash
--- function.
-pub record IsTextOf (kind : Kind) (records : List Record) (lines : List Line)
-    (text : List ℕ) : Type 0 where
-  pub after : List Record
-  pub edited : IsEdited records lines after
-  pub is : text ≡ packed_text after
-  pub reads : AllHaveKind kind after → packed_records kind text ≡ Some after
 
 -- a file with that text is at the path
 pub record HoldsEdited (kind : Kind) (records : List Record) (lines : List Line) (path : List ℕ)

@@ -5,10 +5,9 @@ ghost use Rattle.gix_ref_file.specs.Tree.{node_at, bytes_at, bytes_of};
 ghost use Rattle.gix_ref_file.specs.Changes.{is_file_at, may_hold_file};
 ghost use Rattle.gix_ref_file.specs.Calls.{HasFault, Passes};
 ghost use Rattle.gix_ref_file.specs.History.{HasRisen};
-ghost use Rattle.gix_ref_format.specs.Packed.{record_of};
 ghost use Rattle.gix_ref_format.specs.PackedBuffer.{KeepsFile};
 ghost use Rattle.gix_ref_format.specs.PackedKept.{IsKnownOf, kept};
-ghost use Rattle.gix_ref_format.specs.Edited.{line_of, lines_of, IsEdited};
+ghost use Rattle.gix_ref_format.specs.Edited.{line_of, lines_of};
 ghost use Rattle.gix_ref_lock.specs.Records.{records_in, IsTextOf, HoldsEdited};
 ghost use Rattle.gix_ref_lock.specs.RecordEdits.{line_in};
 ghost use Rattle.gix_ref_way.specs.Ways.{SameFolders};
@@ -23,7 +22,7 @@ use crate::lock::{Lock, acquire};
 use gix_hash::{Kind, ObjectId};
 use gix_ref_file::{FileError, Files};
 use gix_ref_format::laws::written_records_are_read;
-use gix_ref_format::packed::{Buffer, Edit, Reference, buffer, edited, packed_text, written};
+use gix_ref_format::packed::{Buffer, Edit, Reference, buffer, packed_text, written};
 use gix_ref_name::FullName;
 use gix_ref_way::is_file;
 use std::alloc::{AllocError, Global};
@@ -457,23 +456,19 @@ fn new_text<'a>(
     ensures { IfOk result (λ text.
         IsTextOf kind (records_in buffer.now) (lines_of edits.now) text.items) }
 {
-    let records = new_records(alloc, buffer, edits)?;
-    written_records_are_read(records.as_slice(), kind);
-    packed_text(alloc, records.as_slice())
+    match buffer {
+        Some(buffer) => buffer.edited_text(alloc, kind, edits),
+        None => first_text(alloc, kind, edits),
+    }
 }
 
-fn new_records<'a>(
-    alloc: Global,
-    buffer: &'a Option<Buffer>,
-    edits: &[Edit<'a>],
-) -> Result<Vec<Reference<'a>>, AllocError>
-    ensures { IfOk result (λ after.
-        IsEdited (records_in buffer.now) (lines_of edits.now) (map record_of after.items)) }
+// The text of a file that there wasn't before.
+fn first_text(alloc: Global, kind: Kind, edits: &[Edit<'_>]) -> Result<Vec<u8>, AllocError>
+    ensures { IfOk result (λ text. IsTextOf kind [] (lines_of edits.now) text.items) }
 {
-    match buffer {
-        Some(buffer) => edited(alloc, buffer.iter(), edits),
-        None => written(alloc, edits),
-    }
+    let records = written(alloc, edits)?;
+    written_records_are_read(records.as_slice(), kind);
+    packed_text(alloc, records.as_slice())
 }
 
 // Removes the lock of a transaction that isn't prepared, and returns why: a failed call before want

@@ -3,7 +3,7 @@ use Rattle.std.proofs.lemmas.Result.{IfOk-weaker}
 use Rattle.gix_ref_format.specs.Packed.{record_of, packed_records}
 use Rattle.gix_ref_format.specs.declared.packed.Reference.{Reference}
 use Rattle.gix_ref_format.specs.Written.{packed_text, AllHaveKind}
-use Rattle.gix_ref_lock.proofs.packed.new_text.Goals as goal
+use Rattle.gix_ref_lock.proofs.packed.first_text.Goals as goal
 
 pub returns : goal.returns
 returns c =
