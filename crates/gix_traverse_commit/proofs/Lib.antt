@@ -1,4 +1,5 @@
 pub mod Over
+pub mod Awaited
 pub mod ByTime
 pub mod Counting
 pub mod Rest

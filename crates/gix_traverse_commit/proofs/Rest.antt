@@ -1,5 +1,5 @@
 -- What is left of a walk that begins anew.
-use Rattle.std.proofs.Common.{◌≡◌, ◌∙◌, sym, refl, subst, inl, inr, List, [], ◌++◌, length, Bool, true, false}
+use Rattle.std.proofs.Common.{◌≡◌, ◌∙◌, ◌+◌, sym, refl, subst, inl, inr, List, [], ◌++◌, length, Bool, true, false, Option}
 use Rattle.std.specs.Prelude.{Contains, IsTrue, not, ◌&&◌}
 use Rattle.std.proofs.lemmas.List.Elements.{Contains-append_cases, Contains-append_right}
 use Rattle.gix_hash.specs.Id.{Id, id_of}
@@ -8,9 +8,16 @@ use Rattle.gix_traverse_graph.specs.Commits.{Commits, Reached, tip, parent}
 use Rattle.gix_traverse_commit_known.specs.Keeping.{KeptAll}
 use Rattle.gix_traverse_commit_known.specs.Nodes.{is_met}
 use Rattle.gix_traverse_commit_known.specs.Asked.{Asked, AcceptsAs, keep_of}
-use Rattle.gix_traverse_commit.specs.Simply.{IsMade, IsRest, IsTurned, IsUnderWay, IsUnderWayTo, queued_in}
+use Rattle.gix_traverse_commit.specs.Simply.{GainsNone, IsMade, IsRest, IsTurned, IsUnderWay, IsUnderWayTo, queued_in, times_queued}
+use Rattle.gix_traverse_commit.specs.Giving.{InRows}
+use Rattle.gix_traverse_commit_known.specs.Ending.{NoneGains, times_in, times_waiting}
+use Rattle.gix_traverse_commit_known.specs.Timely.{AllRowed}
+use Rattle.gix_traverse_commit_known.specs.Told.{rows_of}
+use Rattle.gix_traverse_commit_known.proofs.Ending.{gains_none}
+use Rattle.gix_traverse_graph.specs.Rows.{AllHeld}
+use Rattle.gix_traverse_graph.specs.declared.rows.Row.{Row}
 use Rattle.gix_traverse_graph.specs.Sorting.{in_time}
-use Rattle.gix_traverse_commit_known.specs.Known.{waited_of}
+use Rattle.gix_traverse_commit_known.specs.Known.{KnownCommits, turns_of, waited_of}
 use Rattle.gix_traverse_commit.specs.declared.simple.Simple.{Simple}
 use Rattle.gix_traverse_graph.proofs.Lists.{at_from_contains}
 use Rattle.gix_traverse_commit_known.proofs.KnownLemmas.{none_waited, waited_waits}
@@ -94,3 +101,16 @@ rest_turned accepts rest walk walk' u none f =
 
 pub made_order : {F P : Type 0} (accepts : P → Id → Bool) (a : Asked) (walk : Simple F P) → IsMade accepts a walk → (walk.parents ≡ a.parents) × (walk.sorting ≡ a.sorting)
 made_order accepts a walk m = elim m [ inl n ↦ (n.parents, n.sorting) | inr t ↦ (t.parents, t.sorting) ]
+
+-- no commit may come more often while the same is known
+pub known_gains : {F P : Type 0} (before after : Simple F P) → after.known ≡ before.known → GainsNone before after
+known_gains before after e = subst (λ (k : KnownCommits). NoneGains before.known.nodes (times_queued before) k.nodes (λ id. times_in k.queue id + times_waiting (turns_of k) id)) (sym e) (gains_none before.known.nodes (times_queued before))
+
+-- the same rows are read
+pub in_rows : {F P : Type 0} (rows : Option (List Row)) (walk : Simple F P) → walk.source.rows ≡ rows → AllHeld (rows_of rows) walk.tips.items → AllHeld (rows_of rows) walk.hidden.items → AllHeld (rows_of rows) walk.known.queue → AllRowed (rows_of rows) (turns_of walk.known) → InRows walk
+in_rows rows walk e tips hidden queue waits = record {
+  tips = subst (λ (o : Option (List Row)). AllHeld (rows_of o) walk.tips.items) (sym e) tips;
+  hidden = subst (λ (o : Option (List Row)). AllHeld (rows_of o) walk.hidden.items) (sym e) hidden;
+  queue = subst (λ (o : Option (List Row)). AllHeld (rows_of o) walk.known.queue) (sym e) queue;
+  waiting_rows = subst (λ (o : Option (List Row)). AllRowed (rows_of o) (turns_of walk.known)) (sym e) waits;
+}

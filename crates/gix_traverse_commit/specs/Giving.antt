@@ -9,17 +9,19 @@ use Rattle.gix_traverse_graph.specs.Commits.{Commit, Commits, asked_parents}
 use Rattle.gix_object_lines.specs.Counts.{one_more}
 use Rattle.gix_traverse_commit_known.specs.Fetching.{TimeIsTold, HasRowsGeneration}
 use Rattle.gix_traverse_commit_known.specs.Known.{KnownCommits, turns_of}
-use Rattle.gix_traverse_commit_known.specs.Meeting.{Asks, CountsAll, CountsOne, CountsTimes, IsFresh, MarksAll, MarksMet, accepted}
+use Rattle.gix_traverse_commit_known.specs.Ending.{times_in}
+use Rattle.gix_traverse_commit_known.specs.Meeting.{Asks, CountsAll, CountsOne, CountsTimes, CountsTips, IsFresh, MarksAll, MarksMet, accepted, unmet}
 use Rattle.gix_traverse_commit_known.specs.Nodes.{is_met, Node}
 use Rattle.gix_traverse_commit_known.specs.Painting.{Paints, PaintsSome, ReachedFrom, StaysPainted}
 use Rattle.gix_traverse_commit_known.specs.Queueing.{QueuesSome}
 use Rattle.gix_traverse_graph.specs.Rows.{AllHeld, Holds}
 use Rattle.gix_traverse_commit_known.specs.Told.{AreTold, rows_of}
 use Rattle.gix_traverse_graph.specs.Order.{IsListOf}
-use Rattle.gix_traverse_graph.specs.Sorting.{timing_of, IsTime}
+use Rattle.gix_traverse_graph.specs.Sorting.{timing_of, IsByTime, IsTime}
 use Rattle.gix_traverse_commit_known.specs.Timely.{AllRowed, LetsWaitIn, TakesTurn}
 use Rattle.gix_traverse_graph.specs.declared.info.Info.{Info}
 use Rattle.gix_traverse_graph.specs.declared.parents.Parents.{Parents}
+use Rattle.gix_traverse_graph.specs.declared.parents.Parents.TheVariants.{All}
 use Rattle.gix_traverse_graph.specs.declared.rows.Row.{Row}
 use Rattle.gix_traverse_commit_known.specs.declared.faults.Error.{Error}
 use Rattle.gix_traverse_commit_known.specs.declared.faults.Error.TheVariants as fault
@@ -27,8 +29,8 @@ use Rattle.gix_traverse_commit.specs.declared.simple.Simple.{Simple}
 use Rattle.gix_traverse_graph.specs.declared.sorting.Sorting.{Sorting}
 use Rattle.gix_traverse_graph.specs.declared.sorting.Timing.{Timing}
 use Rattle.gix_traverse_commit_known.specs.declared.waiting.Turn.{Turn}
-use Rattle.gix_traverse_commit.specs.Simply.{GainsNone, StaysAsked, TakesOne, left_of, IsMade, IsUnderWay, Stands, IsOver}
-use Rattle.gix_traverse_commit_known.specs.Asked.{Asked, timing, Answers, IsSure, IsTurn}
+use Rattle.gix_traverse_commit.specs.Simply.{GainsNone, StaysAsked, TakesOne, left_of, IsAtTurn, IsMade, IsUnderWay, Stands, IsOver, content_of, graph_of, kind_of, lookups_of, times_queued}
+use Rattle.gix_traverse_commit_known.specs.Asked.{Asked, timing, Answers, IsKnown, IsSure, IsTurn}
 use Rattle.gix_traverse_commit_known.specs.Faults.{SimpleFault, StopsFetch}
 
 -- what is given of a commit
@@ -51,6 +53,27 @@ IsReadBefore honest rows table nodes tips place =
 -- the predicate accepts the commit
 abbrev pub IsAccepted : Asked → ObjectId → Type 0
 IsAccepted a x = a.accepts (id_of x) ≡ true
+
+-- it is to list this in another order; for an order by time the times of the tips that are accepted
+-- were read, in their order
+pub record IsSorted {F P : Type 0} (accepts : P → Id → Bool) (honest : Type 0) (table : Table)
+    (sorting : Sorting) (a : Asked) (before after : Simple F P) : Type 0 where
+  pub made : IsMade accepts (record a { sorting = sorting }) after
+  pub most : lookups_of after ≤ lookups_of before + length a.tips
+  pub each : CountsTimes (timing_of All sorting) (rows_of (graph_of before))
+      (accepted a.accepts a.tips) (lookups_of before) (lookups_of after)
+  pub rowed : AllHeld (rows_of (graph_of before)) a.tips → lookups_of after ≡ lookups_of before
+  pub told : honest → IsByTime sorting → (x : ObjectId) → Contains a.tips x → IsAccepted a x
+      → TimeIsTold (rows_of (graph_of before)) table x
+
+-- for an order by time the times of the tips that are not met were read, in their order
+pub record ReadsTips {F P : Type 0} (honest : Type 0) (table : Table) (sorting : Sorting)
+    (before after : Simple F P) : Type 0 where
+  pub content : content_of after ≡ content_of before
+  pub each : CountsTimes (timing_of All sorting) (rows_of (graph_of before))
+      (unmet before.known.nodes before.tips.items) (lookups_of before) (lookups_of after)
+  pub told : honest → IsByTime sorting → (x : ObjectId) → Contains before.tips.items x
+      → IsUnmet before.known.nodes x → TimeIsTold (rows_of (graph_of before)) table x
 
 -- a tip that the predicate accepts and no hidden commit reaches
 abbrev pub IsWanted : Commits ObjectId → Asked → ObjectId → Type 0
@@ -119,6 +142,113 @@ abbrev pub IsMetWith : {F P : Type 0} → (P → Id → Bool) → Simple F P →
 IsMetWith accepts before parents x =
     IsFresh before.known.nodes parents x × (accepts before.predicate (id_of x) ≡ true)
 
+-- by time those that are met with it wait now, and in breadth order none does
+abbrev pub LetsMetWait : {F P : Type 0} → (P → Id → Bool) → Type 0 → Commits ObjectId → Simple F P
+    → List ObjectId → Simple F P → Type 0
+LetsMetWait accepts may_fail g before parents after =
+    LetsWaitIn (timing_of before.parents before.sorting) may_fail g
+    (IsMetWith accepts before parents) (turns_of before.known) (turns_of after.known)
+
+-- one object was looked up if a commit isn't read; if memory is wanting, none that was counted is
+-- lost
+abbrev pub CountsFault : ℕ → ℕ → Error → Type 0
+CountsFault before after (fault.Find error) = after ≡ one_more before
+CountsFault before after (fault.ObjectDecode error) = after ≡ one_more before
+CountsFault before after (fault.HiddenGraph error) = ⊥
+CountsFault before after fault.Memory = before ≤ after
+
+-- the walk is over the same objects and goes on as it was asked to: what it gave is as it was, no
+-- commit may come more often, and nothing that has rows is looked up
+pub record KeepsOn {F P : Type 0} (before after : Simple F P) : Type 0 where
+  pub stays : StaysAsked before after
+  pub gains : GainsNone before after
+  pub content : content_of after ≡ content_of before
+  pub kind : kind_of after ≡ kind_of before
+  pub rowed : InRows before → InRows after × (lookups_of after ≡ lookups_of before)
+
+-- the tips are met, and those that are fresh are queued, or wait, after a lookup for their times
+pub record LinesUp {F P : Type 0} (before after : Simple F P) : Type 0 where
+  pub begun : after.begun ≡ true
+  pub painted : StaysPainted before.known.nodes after.known.nodes
+  pub met : MarksAll before.known.nodes before.tips.items after.known.nodes
+  pub timed : CountsTips (timing_of before.parents before.sorting)
+      (IsFresh before.known.nodes before.tips.items) (rows_of before.source.rows)
+      before.source.lookups after.source.lookups
+  pub gains : GainsNone before after
+  pub rowed : InRows before → InRows after × (lookups_of after ≡ lookups_of before)
+
+-- this commit is taken, whose turn it is, and no other
+pub record Takes {F P : Type 0} (accepts : P → Id → Bool) (before : Simple F P) (id : ObjectId)
+    (after : Simple F P) : Type 0 where
+  pub nodes : after.known.nodes ≡ before.known.nodes
+  pub waiting : TakesTurn (timing_of before.parents before.sorting) (turns_of before.known) id
+      (turns_of after.known)
+  pub queueing : IsSome (timing_of before.parents before.sorting)
+      → after.known.order ≡ before.known.order
+  pub less : (x : Id) → times_queued before x ≡ times_in (id ∷ []) x + times_queued after x
+  pub rowed : InRows before → InRows after × Holds (rows_of before.source.rows) id
+  pub turn : (ids : List Id) (g : Commits ObjectId) (a : Asked) (listed : List ObjectId)
+      → IsUnderWay accepts ids g a listed before
+      → IsAtTurn accepts ids g a listed id after × IsTurn g a listed id
+
+-- nothing is left to take: all that the walk is to list was given
+pub record HasEnded {F P : Type 0} (accepts : P → Id → Bool) (walk : Simple F P) : Type 0 where
+  pub none_waits : IsSome (timing_of walk.parents walk.sorting) → turns_of walk.known ≡ []
+  pub end : (ids : List Id) (g : Commits ObjectId) (a : Asked) (listed : List ObjectId)
+      → IsUnderWay accepts ids g a listed walk → Answers g a listed
+
+-- of these parents those that are fresh are met: the predicate is called for each once, and by time
+-- those that it accepts are looked up, for their times
+pub record MeetsAll {F P : Type 0} (accepts : P → Id → Bool) (goes : P → Id → P → Type 0)
+    (before : Simple F P) (parents : List ObjectId) (after : Simple F P) : Type 0 where
+  pub met : List ObjectId
+  pub are_met : IsListOf (IsFresh before.known.nodes parents) met
+  pub asked : Asks goes met before.predicate after.predicate
+  pub times : CountsTimes (timing_of before.parents before.sorting) (rows_of before.source.rows)
+      (accepted (accepts before.predicate) met) before.source.lookups after.source.lookups
+  pub marks : MarksMet before.known.nodes parents after.known.nodes
+  pub painted : StaysPainted before.known.nodes after.known.nodes
+  pub behind : IsSome (timing_of before.parents before.sorting)
+      → QueuesSome before.known parents after.known
+  pub gains : GainsNone before after
+  pub rowed : InRows before → AllHeld (rows_of before.source.rows) parents → InRows after
+  pub still : AllHeld (rows_of before.source.rows) parents
+      → lookups_of after ≡ lookups_of before
+
+-- this commit comes: what was read and looked up for it, and which parents were met
+pub record Comes {F P : Type 0} (accepts : P → Id → Bool) (goes : P → Id → P → Type 0)
+    (honest : Type 0) (table : Table) (ids : List Id) (before : Simple F P) (id : ObjectId)
+    (info : Info) (after : Simple F P) : Type 0 where
+  pub same : info.id ≡ id
+  pub known : IsKnown (rows_of before.source.rows) ids id
+  pub content : IsContentOf honest (rows_of before.source.rows) table id
+      after.source.buffer.items
+  pub kind : after.kind ≡ (id_of id).kind
+  pub in_breadth : timing_of before.parents before.sorting ≡ None
+      → lookups_of after ≤ lookups_of before + 1
+  pub one : timing_of before.parents before.sorting ≡ None
+      → CountsOne (rows_of before.source.rows) id before.source.lookups after.source.lookups
+  pub counted : CountsUpTo (rows_of before.source.rows) id (length info.parent_ids.items)
+      before.source.lookups after.source.lookups
+  pub meets : Meets accepts goes (rows_of before.source.rows) before info after
+  pub marks : MarksMet before.known.nodes info.parent_ids.items after.known.nodes
+  pub painted : StaysPainted before.known.nodes after.known.nodes
+  pub behind : IsSome (timing_of before.parents before.sorting)
+      → QueuesSome before.known info.parent_ids.items after.known
+  pub gains : GainsNone before after
+  pub rowed : InRows before → Holds (rows_of before.source.rows) id
+      → InRows after × (lookups_of after ≡ lookups_of before)
+  pub stays : before.begun ≡ true → StaysAsked before after
+
+-- this commit isn't given, for this cause
+pub record FailsToCome {F P : Type 0} (honest may_fail : Type 0) (table : Table)
+    (before : Simple F P) (id : ObjectId) (error : Error) (after : Simple F P) : Type 0 where
+  pub cause : StopsFetch before.parents honest may_fail (rows_of before.source.rows) table id error
+  pub counts : CountsFault before.source.lookups after.source.lookups error
+  pub in_breadth : timing_of before.parents before.sorting ≡ None
+      → lookups_of after ≤ lookups_of before + 1
+  pub unasked : (error ≡ fault.Memory) ⊎ (after.predicate ≡ before.predicate)
+
 -- by time a commit comes whose turn it is, and its parents that are met with it and accepted wait
 -- then, also those whose lookups fail; no other that waits is lost
 pub record ComesInTurn {F P : Type 0} (accepts : P → Id → Bool) (may_fail : Type 0)
@@ -181,14 +311,6 @@ pub record CountsFirst {F P : Type 0} (accepts : P → Id → Bool) (goes : P �
   pub queues : IsSome (timing a) → KeepsOrder begun info after
   pub marks : MarksMet begun.known.nodes info.parent_ids.items after.known.nodes
   pub paint_stays : StaysPainted begun.known.nodes after.known.nodes
-
--- one object was looked up if a commit isn't read; if memory is wanting, none that was counted is
--- lost
-abbrev pub CountsFault : ℕ → ℕ → Error → Type 0
-CountsFault before after (fault.Find error) = after ≡ one_more before
-CountsFault before after (fault.ObjectDecode error) = after ≡ one_more before
-CountsFault before after (fault.HiddenGraph error) = ⊥
-CountsFault before after fault.Memory = before ≤ after
 
 -- the walk begins, and by time it is the turn of a commit that isn't read, for this cause
 pub record FailsBegun {F P : Type 0} (accepts : P → Id → Bool) (honest may_fail : Type 0)

@@ -1,2 +1,3 @@
 pub mod Simply
+pub mod Awaited
 pub mod Giving

@@ -91,6 +91,25 @@ pub record StaysAsked {F P : Type 0} (before after : Simple F P) : Type 0 where
   pub sorting : after.sorting ≡ before.sorting
   pub hidden : after.hidden.items ≡ before.hidden.items
 
+-- the same objects and rows are read, and the predicate wasn't called
+pub record KeepsStore {F P : Type 0} (before after : Simple F P) : Type 0 where
+  pub objects : objects_of after ≡ objects_of before
+  pub rows : graph_of after ≡ graph_of before
+  pub unasked : predicate_of after ≡ predicate_of before
+
+-- the same objects and rows are read, and the commit that was given last is the same
+pub record KeepsReading {F P : Type 0} (before after : Simple F P) : Type 0 where
+  pub objects : objects_of after ≡ objects_of before
+  pub rows : graph_of after ≡ graph_of before
+  pub content : content_of after ≡ content_of before
+
+-- commits are read from these objects alone, and none was looked up
+pub record ReadsFrom {F P : Type 0} (find : F) (walk : Simple F P) : Type 0 where
+  pub objects : objects_of walk ≡ find
+  pub rows : graph_of walk ≡ None
+  pub lookups : lookups_of walk ≡ 0
+  pub content : content_of walk ≡ []
+
 -- a walk that has not begun, from these tips
 pub record IsNew {F P : Type 0} (accepts : P → Id → Bool) (a : Asked)
     (walk : Simple F P) : Type 0 where
@@ -122,6 +141,13 @@ pub record IsTurned {F P : Type 0} (accepts : P → Id → Bool) (a : Asked)
 -- a walk that is to list this, and has not begun, or begins anew
 abbrev pub IsMade : {F P : Type 0} → (P → Id → Bool) → Asked → Simple F P → Type 0
 IsMade accepts a walk = IsNew accepts a walk ⊎ IsTurned accepts a walk
+
+-- what was queued are its tips now, and met is what was, or is among them
+pub record IsGathered {F P : Type 0} (accepts : P → Id → Bool) (a : Asked)
+    (before after : Simple F P) : Type 0 where
+  pub new : IsNew accepts a after
+  pub met : (x : ObjectId) → (HasMet after x ⊎ Contains a.tips x)
+      ↔ (HasMet before x ⊎ Contains a.tips x)
 
 -- a walk that is to list this, with its hidden commits painted
 pub record IsPaintedFor {F P : Type 0} (accepts : P → Id → Bool) (g : Commits ObjectId)
@@ -195,7 +221,15 @@ pub record IsOver {F P : Type 0} (walk : Simple F P) : Type 0 where
   pub empty : walk.known.queue ≡ []
   pub none_waits : turns_of walk.known ≡ []
 
--- the same, as a test
+-- what is left of the walk is asked for anew: the predicate wasn't called, no commit may come more
+-- often, and a walk that is over stays over
+pub record IsAskedAnew {F P : Type 0} (before after : Simple F P) : Type 0 where
+  pub unasked : predicate_of after ≡ predicate_of before
+  pub kind : kind_of after ≡ kind_of before
+  pub gains : GainsNone before after
+  pub over : IsOver before → IsOver after
+
+-- it gives nothing more, as a test
 abbrev pub is_over : {F P : Type 0} → Simple F P → Bool
 is_over walk = walk.begun && (is_empty walk.known.queue && is_empty (turns_of walk.known))
 

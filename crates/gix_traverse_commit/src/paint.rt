@@ -4,8 +4,8 @@ ghost use Rattle.std.specs.Prelude.{◌≡◌, ◌↔◌, ℕ, List, true, false
 ghost use Rattle.gix_hash.specs.declared.object_id.ObjectId.{ObjectId};
 ghost use Rattle.gix_traverse_graph.specs.Commits.{Reached};
 ghost use Rattle.gix_traverse_commit_known.specs.Keeping.{Kept, KeptAll};
-ghost use Rattle.gix_traverse_commit_known.specs.Known.{turns_of};
-ghost use Rattle.gix_traverse_commit_known.specs.Nodes.{is_met, is_hidden};
+ghost use Rattle.gix_traverse_commit_known.specs.Nodes.{is_hidden};
+ghost use Rattle.gix_traverse_commit.specs.Awaited.{PaintsOnly};
 ghost use Rattle.gix_traverse_graph.specs.Numbered.{same_id};
 ghost use Rattle.gix_traverse_graph.specs.Order.{At, IsListOf};
 ghost use Rattle.gix_traverse_commit_known.specs.Painting.{CountsUnpainted, IsPainted, IsUnpainted, Paints, PaintFault, ReachedFrom, every};
@@ -25,10 +25,7 @@ use std::alloc::{AllocError, Global};
 
 // Paints a commit that was not painted before.
 fn paint_one(known: &mut Known, painted: &mut Vec<ObjectId>, id: ObjectId) -> Result<(), AllocError>
-    ensures met { OnOk result ((q : ObjectId) → is_met known.new.nodes q
-        ≡ is_met known.old.nodes q) }
-    ensures queue { OnOk result (known.new.queue ≡ known.old.queue) }
-    ensures turns { OnOk result (turns_of known.new ≡ turns_of known.old) }
+    ensures only { OnOk result (PaintsOnly known.old known.new) }
     ensures marked { OnOk result ((q : ObjectId) → is_hidden known.new.nodes q
         ≡ (if same_id id q then true else is_hidden known.old.nodes q)) }
     ensures queued { OnOk result (painted.new.items
@@ -57,10 +54,7 @@ fn paint_tips(
     painted: &mut Vec<ObjectId>,
     hidden: &[ObjectId],
 ) -> Result<(), AllocError>
-    ensures met { OnOk result ((q : ObjectId) → is_met known.new.nodes q
-        ≡ is_met known.old.nodes q) }
-    ensures queue { OnOk result (known.new.queue ≡ known.old.queue) }
-    ensures turns { OnOk result (turns_of known.new ≡ turns_of known.old) }
+    ensures only { OnOk result (PaintsOnly known.old known.new) }
     ensures painted { OnOk result (IsPainted known.old.nodes painted.old.items
         → IsPainted known.new.nodes painted.new.items) }
     ensures rowed { OnOk result ((rows : List Row) → AllHeld rows painted.old.items
@@ -81,10 +75,7 @@ fn paint_parents(
     painted: &mut Vec<ObjectId>,
     parents: &[ObjectId],
 ) -> Result<(), AllocError>
-    ensures met { OnOk result ((q : ObjectId) → is_met known.new.nodes q
-        ≡ is_met known.old.nodes q) }
-    ensures queue { OnOk result (known.new.queue ≡ known.old.queue) }
-    ensures turns { OnOk result (turns_of known.new ≡ turns_of known.old) }
+    ensures only { OnOk result (PaintsOnly known.old known.new) }
     ensures painted { OnOk result (IsPainted known.old.nodes painted.old.items
         → IsPainted known.new.nodes painted.new.items) }
     ensures rowed { OnOk result ((rows : List Row) → AllHeld rows painted.old.items
@@ -111,10 +102,7 @@ pub fn paint<F: FindInto>(
 ) -> Result<(), FetchError>
     ensures objects { source.new.objects ≡ source.old.objects }
     ensures rows { source.new.rows ≡ source.old.rows }
-    ensures met { OnOk result ((q : ObjectId) → is_met known.new.nodes q
-        ≡ is_met known.old.nodes q) }
-    ensures queue { OnOk result (known.new.queue ≡ known.old.queue) }
-    ensures turns { OnOk result (turns_of known.new ≡ turns_of known.old) }
+    ensures only { OnOk result (PaintsOnly known.old known.new) }
     ensures painted { OnOk result (IsUnpainted known.old.nodes
         → OverTold F.is_honest F.table source.old (λ g. Paints g hidden.now known.new.nodes)) }
     ensures rowed { OnOk result (AllHeld (rows_of source.old.rows) hidden.now

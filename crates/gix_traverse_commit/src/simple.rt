@@ -1,19 +1,16 @@
 //! A walk over commits, each once.
 
-ghost use Rattle.std.specs.Prelude.{◌≡◌, ◌≤◌, ◌+◌, List, Contains, [], length, IfOk, IfErr, IsOk, OnOk, None, true, false};
+ghost use Rattle.std.specs.Prelude.{◌≡◌, List, Contains, [], IfOk, IfErr, IsOk, true};
 ghost use Rattle.std.specs.Iterator.{at_most};
 ghost use Rattle.gix_hash.specs.Id.{Id};
 ghost use Rattle.gix_hash.specs.declared.object_id.ObjectId.{ObjectId};
 ghost use Rattle.gix_object_commit.specs.Tokens.{place_of, start};
 ghost use Rattle.gix_traverse_graph.specs.Commits.{Commits};
-ghost use Rattle.gix_traverse_commit_known.specs.Fetching.{TimeIsTold};
-ghost use Rattle.gix_traverse_commit_known.specs.Meeting.{AsksOnce, CountsTimes, accepted};
-ghost use Rattle.gix_traverse_graph.specs.Rows.{AllHeld};
+ghost use Rattle.gix_traverse_commit_known.specs.Meeting.{AsksOnce};
 ghost use Rattle.gix_traverse_commit_known.specs.Asked.{Asked, IsKnown};
-ghost use Rattle.gix_traverse_commit.specs.Simply.{GainsNone, HasAhead, IsMade, IsUnderWay, IsOver, answers_left, predicate_of, source_of, objects_of, graph_of, lookups_of, content_of, kind_of};
-ghost use Rattle.gix_traverse_commit.specs.Giving.{IsAccepted, GivesNext};
+ghost use Rattle.gix_traverse_commit.specs.Simply.{HasAhead, IsAskedAnew, IsMade, IsUnderWay, IsOver, KeepsReading, ReadsFrom, answers_left, predicate_of, source_of, objects_of, graph_of, lookups_of, content_of, kind_of};
+ghost use Rattle.gix_traverse_commit.specs.Giving.{IsAccepted, IsSorted, GivesNext};
 ghost use Rattle.gix_traverse_commit_known.specs.Faults.{TipFault};
-ghost use Rattle.gix_traverse_graph.specs.Sorting.{IsByTime, timing_of};
 ghost use Rattle.gix_traverse_commit_known.specs.Told.{rows_of};
 ghost use Rattle.gix_traverse_graph.specs.declared.parents.Parents.TheVariants.{All as AllParents};
 ghost use Rattle.gix_traverse_graph.specs.declared.sorting.Sorting.TheVariants.{BreadthFirst};
@@ -71,10 +68,7 @@ impl<F: FindInto + Drop> Simple<F, All> {
     /// A walk from these tips along all parents, which reads commits from these objects. Returns
     /// `Memory` if there is no memory for the walk.
     pub fn new(tips: Vec<ObjectId>, find: F) -> Result<Simple<F, All>, Error>
-        ensures objects { IfOk result (λ walk. objects_of walk ≡ find) }
-        ensures rows { IfOk result (λ walk. graph_of walk ≡ None) }
-        ensures lookups { IfOk result (λ walk. lookups_of walk ≡ 0) }
-        ensures content { IfOk result (λ walk. content_of walk ≡ []) }
+        ensures source { IfOk result (ReadsFrom find) }
         ensures made { IfOk result (IsMade (λ _ _. true) (record {
           tips = tips.items;
           hidden = [];
@@ -94,10 +88,7 @@ impl<F: FindInto + Drop, P: Accept + Drop> Simple<F, P> {
     /// other commit when the walk first meets it as a parent of one that comes, unless it is
     /// hidden. Returns `Memory` if there is no memory for the walk.
     pub fn filtered(tips: Vec<ObjectId>, find: F, mut predicate: P) -> Result<Simple<F, P>, Error>
-        ensures objects { IfOk result (λ walk. objects_of walk ≡ find) }
-        ensures rows { IfOk result (λ walk. graph_of walk ≡ None) }
-        ensures lookups { IfOk result (λ walk. lookups_of walk ≡ 0) }
-        ensures content { IfOk result (λ walk. content_of walk ≡ []) }
+        ensures source { IfOk result (ReadsFrom find) }
         ensures made { IfOk result (IsMade P.accepts (record {
           tips = tips.items;
           hidden = [];
@@ -140,32 +131,15 @@ impl<F: FindInto + Drop, P: Accept + Drop> Simple<F, P> {
     /// does: a walk whose tips are what is queued, in the order in which that was queued, and which
     /// goes to no other commit that was met. A walk that is over stays over, and is never refused.
     pub fn sorting(mut self, sorting: Sorting) -> Result<Simple<F, P>, Error>
-        ensures objects { IfOk result (λ walk. objects_of walk ≡ objects_of self) }
-        ensures rows { IfOk result (λ walk. graph_of walk ≡ graph_of self) }
-        ensures content { IfOk result (λ walk. content_of walk ≡ content_of self) }
-        ensures unasked { IfOk result (λ walk. predicate_of walk ≡ predicate_of self) }
-        ensures made { (a : Asked) → HasAhead P.accepts a self
-            → IfOk result (IsMade P.accepts (record a { sorting = sorting })) }
-        ensures counted { (a : Asked) → HasAhead P.accepts a self
-            → IfOk result (λ walk. lookups_of walk ≤ lookups_of self + length a.tips) }
-        ensures each { (a : Asked) → HasAhead P.accepts a self
-            → IfOk result (λ walk. CountsTimes (timing_of AllParents sorting)
-            (rows_of (graph_of self)) (accepted a.accepts a.tips)
-            (lookups_of self) (lookups_of walk)) }
-        ensures rowed { (a : Asked) → HasAhead P.accepts a self
-            → AllHeld (rows_of (graph_of self)) a.tips
-            → IfOk result (λ walk. lookups_of walk ≡ lookups_of self) }
-        ensures told { F.is_honest (objects_of self) → IsByTime sorting → (a : Asked)
-            → HasAhead P.accepts a self → OnOk result ((x : ObjectId) → Contains a.tips x
-            → IsAccepted a x → TimeIsTold (rows_of (graph_of self)) (F.table (objects_of self)) x) }
+        ensures reads { IfOk result (KeepsReading self) }
+        ensures anew { IfOk result (IsAskedAnew self) }
+        ensures made { (a : Asked) → HasAhead P.accepts a self → IfOk result (IsSorted P.accepts
+            (F.is_honest (objects_of self)) (F.table (objects_of self)) sorting a self) }
         ensures refused { (a : Asked) → HasAhead P.accepts a self → IfErr result (TipFault
             (F.is_honest (objects_of self)) (F.may_fail (objects_of self)) (rows_of (graph_of self))
             (F.table (objects_of self)) a.tips (IsAccepted a)) }
-        ensures left { IfOk result (GainsNone self) }
-        ensures over { IsOver self → IfOk result IsOver }
         ensures still { IsOver self → IfOk result (λ walk. lookups_of walk ≡ lookups_of self) }
         ensures whole { IsOver self → IsOk result }
-        ensures kind { IfOk result (λ walk. kind_of walk ≡ kind_of self) }
     {
         self.turn();
         self.gather()?;
@@ -177,12 +151,9 @@ impl<F: FindInto + Drop, P: Accept + Drop> Simple<F, P> {
     /// The same walk along these parents. After the first commit this begins the rest anew.
     pub fn parents(mut self, parents: Parents) -> Simple<F, P>
         ensures source { source_of result ≡ source_of self }
-        ensures unasked { predicate_of result ≡ predicate_of self }
+        ensures anew { IsAskedAnew self result }
         ensures made { (a : Asked) → HasAhead P.accepts a self
             → IsMade P.accepts (record a { parents = parents }) result }
-        ensures left { GainsNone self result }
-        ensures over { IsOver self → IsOver result }
-        ensures kind { kind_of result ≡ kind_of self }
     {
         self.turn();
         self.parents = parents;
@@ -193,13 +164,10 @@ impl<F: FindInto + Drop, P: Accept + Drop> Simple<F, P> {
     /// hidden before. It is never refused. After the first commit this begins the rest anew.
     pub fn hide(mut self, tips: Vec<ObjectId>) -> Result<Simple<F, P>, Error>
         ensures source { IfOk result (λ walk. source_of walk ≡ source_of self) }
-        ensures unasked { IfOk result (λ walk. predicate_of walk ≡ predicate_of self) }
+        ensures anew { IfOk result (IsAskedAnew self) }
         ensures made { (a : Asked) → HasAhead P.accepts a self
             → IfOk result (IsMade P.accepts (record a { hidden = tips.items })) }
-        ensures left { IfOk result (GainsNone self) }
-        ensures over { IsOver self → IfOk result IsOver }
         ensures whole { IsOk result }
-        ensures kind { IfOk result (λ walk. kind_of walk ≡ kind_of self) }
     {
         self.turn();
         self.hidden = tips;
@@ -208,20 +176,12 @@ impl<F: FindInto + Drop, P: Accept + Drop> Simple<F, P> {
 
     /// The same walk with these rows, which are read before the objects.
     pub fn commit_graph(mut self, rows: Option<Graph>) -> Simple<F, P>
-        ensures objects { objects_of result ≡ objects_of self }
-        ensures rows { graph_of result ≡ rows }
-        ensures lookups { lookups_of result ≡ lookups_of self }
-        ensures content { content_of result ≡ content_of self }
-        ensures unasked { predicate_of result ≡ predicate_of self }
-        ensures made { (a : Asked) → IsMade P.accepts a self → IsMade P.accepts a result }
         ensures same { result ≡ record self { source = record (source_of self) { rows = rows } } }
+        ensures made { (a : Asked) → IsMade P.accepts a self → IsMade P.accepts a result }
         ensures going { (ids : List Id) (g : Commits ObjectId) (a : Asked) (listed : List ObjectId)
             → ((x : ObjectId) → Contains listed x → IsKnown (rows_of rows) ids x)
             → IsUnderWay P.accepts ids g a listed self
             → IsUnderWay P.accepts ids g a listed result }
-        ensures left { GainsNone self result }
-        ensures over { IsOver self → IsOver result }
-        ensures kind { kind_of result ≡ kind_of self }
     {
         self.source.rows = rows;
         self

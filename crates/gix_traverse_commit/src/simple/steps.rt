@@ -1,27 +1,20 @@
 //! The steps of a walk: it begins, takes the commit whose turn it is, and meets its parents.
 
-ghost use Rattle.std.specs.Prelude.{◌≡◌, ◌⊎◌, ◌↔◌, ◌≤◌, ◌+◌, List, Contains, [], ◌∷◌, ◌++◌, length, IfOk, IfErr, IfSome, IfNone, IsNone, IsOk, IsSome, OnOk, None, true, false};
-ghost use Rattle.gix_hash.specs.Id.{Id, id_of};
+ghost use Rattle.std.specs.Prelude.{◌≡◌, List, [], ◌∷◌, ◌++◌, IfOk, IfErr, IfSome, IfNone, IsNone, IsOk, OnOk, true};
+ghost use Rattle.gix_hash.specs.Id.{Id};
 ghost use Rattle.gix_hash.specs.declared.object_id.ObjectId.{ObjectId};
 ghost use Rattle.gix_traverse_graph.specs.Commits.{Commits, asked_parents};
-ghost use Rattle.gix_traverse_commit_known.specs.Ending.{times_in};
-ghost use Rattle.gix_traverse_commit_known.specs.Fetching.{TimeIsTold};
 ghost use Rattle.gix_traverse_commit_known.specs.Known.{turns_of};
-ghost use Rattle.gix_traverse_commit_known.specs.Meeting.{Asks, CountsOne, CountsTimes, CountsTips, IsFresh, MarksAll, MarksMet, accepted, unmet};
-ghost use Rattle.gix_traverse_commit_known.specs.Nodes.{is_met};
-ghost use Rattle.gix_traverse_graph.specs.Order.{IsListOf};
-ghost use Rattle.gix_traverse_commit_known.specs.Painting.{Paints, StaysPainted};
-ghost use Rattle.gix_traverse_commit_known.specs.Queueing.{QueuesSome};
-ghost use Rattle.gix_traverse_graph.specs.Rows.{AllHeld, Holds};
-ghost use Rattle.gix_traverse_commit_known.specs.Asked.{Answers, Asked, IsKnown, IsSure, timing, IsTurn};
-ghost use Rattle.gix_traverse_commit.specs.Simply.{HasAhead, IsMade, IsNew, IsPaintedFor, IsUnderWay, IsAtTurn, IsOver, Stands, GainsNone, content_of, times_queued, StaysAsked};
-ghost use Rattle.gix_traverse_commit.specs.Giving.{CountsBeginning, CountsFault, CountsUnbegun, CountsUpTo, IsInfo, IsMetWith, IsContentOf, IsUnmet, IsWanted, InRows, Meets};
-ghost use Rattle.gix_traverse_commit_known.specs.Faults.{StopsFetch, TipFault, SimpleFault};
-ghost use Rattle.gix_traverse_graph.specs.Sorting.{IsByTime, timing_of};
-ghost use Rattle.gix_traverse_commit_known.specs.Timely.{LetsWaitIn, TakesTurn};
-ghost use Rattle.gix_traverse_commit_known.specs.Told.{OverTold, rows_of};
+ghost use Rattle.gix_traverse_commit_known.specs.Meeting.{IsFresh};
+ghost use Rattle.gix_traverse_commit_known.specs.Asked.{Asked, IsKnown, IsSure};
+ghost use Rattle.gix_traverse_commit.specs.Awaited.{LooksUp, times_of};
+ghost use Rattle.gix_traverse_commit.specs.Simply.{HasAhead, IsGathered, IsMade, IsPaintedFor, IsUnderWay, IsAtTurn, IsOver, KeepsStore, Stands, GainsNone, content_of};
+ghost use Rattle.gix_traverse_commit.specs.Giving.{Begins, Comes, FailsToCome, FailsUnbegun, HasEnded, InRows, IsInfo, IsUnmet, KeepsOn, LetsMetWait, LinesUp, MeetsAll, ReadsTips, Takes};
+ghost use Rattle.gix_traverse_commit_known.specs.Faults.{TipFault};
 ghost use Rattle.gix_traverse_graph.specs.declared.parents.Parents.TheVariants.{All as AllParents};
-ghost use Rattle.gix_traverse_commit_known.specs.declared.faults.Error.TheVariants.{Memory};
+ghost use Rattle.gix_traverse_graph.specs.Sorting.{timing_of};
+ghost use Rattle.gix_traverse_commit_known.specs.Timely.{LetsWaitIn};
+ghost use Rattle.gix_traverse_commit_known.specs.Told.{OverTold, rows_of};
 
 use crate::paint::paint;
 use crate::simple::timed::{await_parents, await_tips, read_times};
@@ -40,55 +33,31 @@ use std::mem;
 impl<F: FindInto + Drop, P: Accept + Drop> Simple<F, P> {
     // Lets the rest of a walk that has begun begin anew from what is queued.
     pub(crate) fn turn(&mut self)
-        ensures source { self.new.source ≡ self.old.source }
-        ensures predicate { self.new.predicate ≡ self.old.predicate }
-        ensures same { self.old.begun ≡ false → self.new ≡ self.old }
+        ensures stays { self.new ≡ record self.old {
+          tips = self.new.tips;
+          begun = self.new.begun;
+        } }
         ensures ahead { (a : Asked) → HasAhead P.accepts a self.old → IsMade P.accepts a self.new }
-        ensures left { GainsNone self.old self.new }
-        ensures over { IsOver self.old → IsOver self.new }
-        ensures stays { (self.new.hidden ≡ self.old.hidden) × (self.new.kind ≡ self.old.kind) }
-        ensures emptied { IsOver self.old → self.new.tips.items ≡ [] }
+        ensures over { IsOver self.old → IsOver self.new × (self.new.tips.items ≡ []) }
     {
         if !self.begun {
             return;
         }
         self.tips.clear();
-        self.begun = self.is_idle();
-    }
-
-    // Returns whether nothing is queued.
-    fn is_idle(&self) -> bool
-        ensures { (result ≡ true) ↔ ((self.now.known.queue ≡ [])
-            × (turns_of self.now.known ≡ [])) }
-    {
-        self.known.is_idle()
+        self.begun = self.known.is_idle();
     }
 
     // Reads the times of the tips, except those that the predicate refused, if the order goes by
     // time.
     pub(crate) fn read_tips(&mut self, sorting: Sorting) -> Result<(), Error>
-        ensures predicate { self.new.predicate ≡ self.old.predicate }
-        ensures objects { self.new.source.objects ≡ self.old.source.objects }
-        ensures rows { self.new.source.rows ≡ self.old.source.rows }
-        ensures made { (a : Asked) → IsNew P.accepts a self.old → IsNew P.accepts a self.new }
-        ensures counted { self.new.source.lookups
-            ≤ self.old.source.lookups + length self.old.tips.items }
-        ensures rowed { AllHeld (rows_of self.old.source.rows) self.old.tips.items
-            → self.new.source.lookups ≡ self.old.source.lookups }
-        ensures each { OnOk result (CountsTimes (timing_of AllParents sorting)
-            (rows_of self.old.source.rows) (unmet self.old.known.nodes self.old.tips.items)
-            self.old.source.lookups self.new.source.lookups) }
-        ensures content { OnOk result (content_of self.new ≡ content_of self.old) }
-        ensures told { F.is_honest self.old.source.objects → IsByTime sorting
-            → OnOk result ((x : ObjectId) → Contains self.old.tips.items x
-            → IsUnmet self.old.known.nodes x → TimeIsTold (rows_of self.old.source.rows)
-            (F.table self.old.source.objects) x) }
+        ensures reads { LooksUp (times_of (timing_of AllParents sorting) self.old.tips.items)
+            self.old.source self.new.source }
+        ensures stays { self.new ≡ record self.old { source = self.new.source } }
+        ensures times { OnOk result (ReadsTips (F.is_honest self.old.source.objects)
+            (F.table self.old.source.objects) sorting self.old self.new) }
         ensures refused { IfErr result (TipFault (F.is_honest self.old.source.objects)
             (F.may_fail self.old.source.objects) (rows_of self.old.source.rows)
             (F.table self.old.source.objects) self.old.tips.items (IsUnmet self.old.known.nodes)) }
-        ensures left { OnOk result (GainsNone self.old self.new) }
-        ensures over { IsOver self.old → IsOver self.new }
-        ensures kind { self.new.kind ≡ self.old.kind }
         ensures whole { self.old.tips.items ≡ [] → IsOk result }
     {
         if time_order(Parents::All, sorting).is_none() {
@@ -104,22 +73,18 @@ impl<F: FindInto + Drop, P: Accept + Drop> Simple<F, P> {
     // Makes tips of what is queued, in its order, and takes the hidden marks away. A walk that has
     // not begun has nothing queued.
     pub(crate) fn gather(&mut self) -> Result<(), AllocError>
-        ensures source { self.new.source ≡ self.old.source }
-        ensures predicate { self.new.predicate ≡ self.old.predicate }
+        ensures stays { self.new ≡ record self.old {
+          tips = self.new.tips;
+          known = self.new.known;
+        } }
         ensures same { self.old.known.queue ≡ [] → turns_of self.old.known ≡ []
             → (self.new ≡ self.old) × IsOk result }
         ensures made { (a : Asked) → IsMade P.accepts a self.old
-            → OnOk result (IsNew P.accepts a self.new) }
-        ensures met { (a : Asked) → IsMade P.accepts a self.old → OnOk result ((x : ObjectId)
-            → ((is_met self.new.known.nodes x ≡ true) ⊎ Contains a.tips x)
-            ↔ ((is_met self.old.known.nodes x ≡ true) ⊎ Contains a.tips x)) }
+            → OnOk result (IsGathered P.accepts a self.old self.new) }
         ensures left { OnOk result (GainsNone self.old self.new) }
-        ensures order { (self.new.parents ≡ self.old.parents)
-            × (self.new.sorting ≡ self.old.sorting) }
         ensures rowed { InRows self.old → OnOk result (InRows self.new) }
-        ensures stays { (self.new.hidden ≡ self.old.hidden) × (self.new.kind ≡ self.old.kind) }
     {
-        if self.is_idle() {
+        if self.known.is_idle() {
             return Ok(());
         }
         let alloc: Global = *self.tips.allocator();
@@ -130,10 +95,14 @@ impl<F: FindInto + Drop, P: Accept + Drop> Simple<F, P> {
     }
 
     // Queues the tips of a walk whose hidden commits are painted.
-    fn line_up(&mut self) -> Result<(), Error>
-        ensures predicate { self.new.predicate ≡ self.old.predicate }
-        ensures objects { self.new.source.objects ≡ self.old.source.objects }
-        ensures rows { self.new.source.rows ≡ self.old.source.rows }
+    fn line_up(&mut self) -> Result<(), AllocError>
+        ensures reads { LooksUp (times_of (timing_of self.old.parents self.old.sorting)
+            self.old.tips.items) self.old.source self.new.source }
+        ensures stays { self.new ≡ record self.old {
+          source = self.new.source;
+          known = self.new.known;
+          begun = self.new.begun;
+        } }
         ensures going { OverTold F.is_honest F.table self.old.source
             (λ g. (ids : List Id) (a : Asked) → IsSure (F.may_fail self.old.source.objects) a
             → IsPaintedFor P.accepts g a self.old
@@ -143,26 +112,7 @@ impl<F: FindInto + Drop, P: Accept + Drop> Simple<F, P> {
             (F.may_fail self.old.source.objects) g
             (IsFresh self.old.known.nodes self.old.tips.items)
             (turns_of self.old.known) (turns_of self.new.known))) }
-        ensures left { OnOk result (GainsNone self.old self.new) }
-        ensures rowed { InRows self.old → OnOk result (InRows self.new
-            × (self.new.source.lookups ≡ self.old.source.lookups)) }
-        ensures in_breadth { timing_of self.old.parents self.old.sorting ≡ None
-            → self.new.source.lookups ≡ self.old.source.lookups }
-        ensures rising { self.old.source.lookups ≤ self.new.source.lookups }
-        ensures counted { self.new.source.lookups
-            ≤ self.old.source.lookups + length self.old.tips.items }
-        ensures timed { OnOk result (CountsTips (timing_of self.old.parents self.old.sorting)
-            (IsFresh self.old.known.nodes self.old.tips.items) (rows_of self.old.source.rows)
-            self.old.source.lookups self.new.source.lookups) }
-        ensures order { (self.new.parents ≡ self.old.parents)
-            × (self.new.sorting ≡ self.old.sorting) }
-        ensures refused { IfErr result (λ error. error ≡ Memory) }
-        ensures stays { OnOk result ((self.new.hidden ≡ self.old.hidden)
-            × (self.new.begun ≡ true)) }
-        ensures kind { self.new.kind ≡ self.old.kind }
-        ensures painted { OnOk result (StaysPainted self.old.known.nodes self.new.known.nodes) }
-        ensures met { OnOk result (MarksAll self.old.known.nodes self.old.tips.items
-            self.new.known.nodes) }
+        ensures lines { OnOk result (LinesUp self.old self.new) }
     {
         let Some(timing) = time_order(self.parents, self.sorting) else {
             queue_tips(&mut self.known, self.tips.as_slice())?;
@@ -179,45 +129,29 @@ impl<F: FindInto + Drop, P: Accept + Drop> Simple<F, P> {
         Ok(())
     }
 
-    // Paints what is hidden, and queues the tips; if the walk was begun before, what was queued
-    // then.
-    fn begin(&mut self) -> Result<(), Error>
-        ensures predicate { self.new.predicate ≡ self.old.predicate }
-        ensures objects { self.new.source.objects ≡ self.old.source.objects }
-        ensures rows { self.new.source.rows ≡ self.old.source.rows }
+    // Begins the walk unless that was done already: paints what is hidden, and queues the tips; if
+    // the walk was begun before, what was queued then.
+    pub(crate) fn ready(&mut self) -> Result<(), Error>
+        ensures store { KeepsStore self.old self.new }
+        ensures same { self.old.begun ≡ true → IsOk result × (self.new ≡ self.old) }
         ensures going { OverTold F.is_honest F.table self.old.source
-            (λ g. (ids : List Id) (a : Asked) → IsSure (F.may_fail self.old.source.objects) a
-            → IsMade P.accepts a self.old
-            → OnOk result (IsUnderWay P.accepts ids g a [] self.new)) }
-        ensures awaits { OnOk result ((a : Asked) → IsMade P.accepts a self.old
-            → OverTold F.is_honest F.table self.old.source
-            (λ g. LetsWaitIn (timing a) (F.may_fail self.old.source.objects) g (IsWanted g a) []
-            (turns_of self.new.known))) }
-        ensures left { OnOk result (GainsNone self.old self.new) }
-        ensures content { OnOk result (content_of self.new ≡ content_of self.old) }
-        ensures rowed { OnOk result (InRows self.old → InRows self.new
-            × (self.new.source.lookups ≡ self.old.source.lookups)) }
-        ensures counted { OnOk result ((a : Asked) → IsMade P.accepts a self.old
-            → CountsBeginning (F.is_honest self.old.source.objects) (rows_of self.old.source.rows)
-            (F.table self.old.source.objects) a self.old.source.lookups self.new.source.lookups) }
-        ensures counted_fault { (a : Asked) → IsMade P.accepts a self.old
-            → IfErr result (CountsUnbegun (F.is_honest self.old.source.objects)
-            (rows_of self.old.source.rows) (F.table self.old.source.objects) a.hidden
-            self.old.source.lookups self.new.source.lookups) }
-        ensures order { (self.new.parents ≡ self.old.parents)
-            × (self.new.sorting ≡ self.old.sorting) }
-        ensures refused { (a : Asked) → IsMade P.accepts a self.old
-            → IfErr result (SimpleFault (λ _. ⊥) a.parents (F.is_honest self.old.source.objects)
-            (F.may_fail self.old.source.objects) (rows_of self.old.source.rows)
-            (F.table self.old.source.objects) a.hidden) }
-        ensures stays { OnOk result (StaysAsked self.old self.new) }
-        ensures kind { OnOk result (self.new.kind ≡ self.old.kind) }
-        ensures painted { OnOk result ((a : Asked) → IsMade P.accepts a self.old
-            → OverTold F.is_honest F.table self.old.source
-            (λ g. Paints g a.hidden self.new.known.nodes)) }
-        ensures met { OnOk result ((a : Asked) → IsMade P.accepts a self.old
-            → MarksAll self.old.known.nodes a.tips self.new.known.nodes) }
+            (λ g. (a : Asked) (listed : List ObjectId)
+            → IsSure (F.may_fail self.old.source.objects) a
+            → Stands P.accepts (F.ids self.old.source.objects) g a listed self.old
+            → OnOk result (IsUnderWay P.accepts (F.ids self.old.source.objects) g a listed
+            self.new)) }
+        ensures begins { (a : Asked) → IsMade P.accepts a self.old → OnOk result (Begins P.accepts
+            (F.is_honest self.old.source.objects) (F.may_fail self.old.source.objects)
+            (F.table self.old.source.objects) (F.ids self.old.source.objects) a self.old self.new) }
+        ensures fails { (a : Asked) → IsMade P.accepts a self.old
+            → IfErr result (λ error. FailsUnbegun (F.is_honest self.old.source.objects)
+            (F.may_fail self.old.source.objects) (F.table self.old.source.objects) a self.old error
+            self.new) }
+        ensures keeps { OnOk result (KeepsOn self.old self.new) }
     {
+        if self.begun {
+            return Ok(());
+        }
         self.gather()?;
         let alloc: Global = *self.tips.allocator();
         let content = mem::replace(&mut self.source.buffer, Vec::new(alloc));
@@ -229,60 +163,10 @@ impl<F: FindInto + Drop, P: Accept + Drop> Simple<F, P> {
         Ok(())
     }
 
-    // Begins the walk unless that was done already.
-    pub(crate) fn ready(&mut self) -> Result<(), Error>
-        ensures predicate { self.new.predicate ≡ self.old.predicate }
-        ensures objects { self.new.source.objects ≡ self.old.source.objects }
-        ensures rows { self.new.source.rows ≡ self.old.source.rows }
-        ensures going { OverTold F.is_honest F.table self.old.source
-            (λ g. (ids : List Id) (a : Asked) (listed : List ObjectId)
-            → IsSure (F.may_fail self.old.source.objects) a
-            → Stands P.accepts ids g a listed self.old
-            → OnOk result (IsUnderWay P.accepts ids g a listed self.new)) }
-        ensures awaits { OnOk result ((a : Asked) → IsMade P.accepts a self.old
-            → OverTold F.is_honest F.table self.old.source
-            (λ g. LetsWaitIn (timing a) (F.may_fail self.old.source.objects) g (IsWanted g a) []
-            (turns_of self.new.known))) }
-        ensures left { OnOk result (GainsNone self.old self.new) }
-        ensures same { self.old.begun ≡ true → OnOk result (self.new ≡ self.old) }
-        ensures begun { self.old.begun ≡ true → IsOk result }
-        ensures content { OnOk result (content_of self.new ≡ content_of self.old) }
-        ensures rowed { OnOk result (InRows self.old → InRows self.new
-            × (self.new.source.lookups ≡ self.old.source.lookups)) }
-        ensures counted { OnOk result ((a : Asked) → IsMade P.accepts a self.old
-            → CountsBeginning (F.is_honest self.old.source.objects) (rows_of self.old.source.rows)
-            (F.table self.old.source.objects) a self.old.source.lookups self.new.source.lookups) }
-        ensures counted_fault { (a : Asked) → IsMade P.accepts a self.old
-            → IfErr result (CountsUnbegun (F.is_honest self.old.source.objects)
-            (rows_of self.old.source.rows) (F.table self.old.source.objects) a.hidden
-            self.old.source.lookups self.new.source.lookups) }
-        ensures order { (self.new.parents ≡ self.old.parents)
-            × (self.new.sorting ≡ self.old.sorting) }
-        ensures refused { (g : Commits ObjectId) (ids : List Id) (a : Asked)
-            (listed : List ObjectId) → Stands P.accepts ids g a listed self.old
-            → IfErr result (SimpleFault (λ _. ⊥) a.parents (F.is_honest self.old.source.objects)
-            (F.may_fail self.old.source.objects) (rows_of self.old.source.rows)
-            (F.table self.old.source.objects) a.hidden) }
-        ensures stays { OnOk result (StaysAsked self.old self.new) }
-        ensures kind { OnOk result (self.new.kind ≡ self.old.kind) }
-        ensures painted { OnOk result ((a : Asked) → IsMade P.accepts a self.old
-            → OverTold F.is_honest F.table self.old.source
-            (λ g. Paints g a.hidden self.new.known.nodes)) }
-        ensures met { OnOk result ((a : Asked) → IsMade P.accepts a self.old
-            → MarksAll self.old.known.nodes a.tips self.new.known.nodes) }
-    {
-        if self.begun {
-            return Ok(());
-        }
-        self.begin()
-    }
-
     // Ends the walk.
     pub(crate) fn finish(&mut self)
-        ensures source { self.new.source ≡ self.old.source }
-        ensures predicate { self.new.predicate ≡ self.old.predicate }
+        ensures stays { self.new ≡ record self.old { begun = true; known = self.new.known } }
         ensures over { IsOver self.new }
-        ensures kind { self.new.kind ≡ self.old.kind }
     {
         self.begun = true;
         self.known.clear();
@@ -290,12 +174,10 @@ impl<F: FindInto + Drop, P: Accept + Drop> Simple<F, P> {
 
     // Ends the walk after an error.
     pub(crate) fn stop(&mut self)
-        ensures objects { self.new.source.objects ≡ self.old.source.objects }
-        ensures rows { self.new.source.rows ≡ self.old.source.rows }
+        ensures store { KeepsStore self.old self.new }
         ensures lookups { self.new.source.lookups ≡ self.old.source.lookups }
         ensures emptied { content_of self.new ≡ [] }
         ensures over { IsOver self.new }
-        ensures predicate { self.new.predicate ≡ self.old.predicate }
     {
         self.finish();
         self.source.buffer.clear();
@@ -303,30 +185,10 @@ impl<F: FindInto + Drop, P: Accept + Drop> Simple<F, P> {
 
     // Takes the commit whose turn it is.
     pub(crate) fn take(&mut self) -> Option<ObjectId>
-        ensures source { self.new.source ≡ self.old.source }
-        ensures predicate { self.new.predicate ≡ self.old.predicate }
-        ensures nodes { self.new.known.nodes ≡ self.old.known.nodes }
-        ensures order { (self.new.parents ≡ self.old.parents)
-            × (self.new.sorting ≡ self.old.sorting) }
-        ensures turn { IfSome result (λ id. (ids : List Id) (g : Commits ObjectId) (a : Asked)
-            (listed : List ObjectId) → IsUnderWay P.accepts ids g a listed self.old
-            → IsAtTurn P.accepts ids g a listed id self.new × IsTurn g a listed id) }
-        ensures waiting { IfSome result (λ id. TakesTurn (timing_of self.old.parents
-            self.old.sorting) (turns_of self.old.known) id (turns_of self.new.known)) }
-        ensures none_waits { IfNone result (IsSome (timing_of self.old.parents self.old.sorting)
-            → turns_of self.old.known ≡ []) }
-        ensures less { IfSome result (λ id. (x : Id) → times_queued self.old x
-            ≡ times_in (id ∷ []) x + times_queued self.new x) }
-        ensures end { IfNone result ((ids : List Id) (g : Commits ObjectId) (a : Asked)
-            (listed : List ObjectId) → IsUnderWay P.accepts ids g a listed self.old
-            → Answers g a listed) }
+        ensures stays { self.new ≡ record self.old { known = self.new.known } }
+        ensures takes { IfSome result (λ id. Takes P.accepts self.old id self.new) }
+        ensures ends { IfNone result (HasEnded P.accepts self.old) }
         ensures ended { IsOver self.old → IsNone result }
-        ensures rowed { IfSome result (λ id. InRows self.old → InRows self.new
-            × Holds (rows_of self.old.source.rows) id) }
-        ensures stays { (self.new.hidden ≡ self.old.hidden) × (self.new.begun ≡ self.old.begun) }
-        ensures kind { self.new.kind ≡ self.old.kind }
-        ensures queueing { IfSome result (λ _. IsSome (timing_of self.old.parents self.old.sorting)
-            → self.new.known.order ≡ self.old.known.order) }
     {
         let Some(timing) = time_order(self.parents, self.sorting) else {
             let id = self.known.pop()?;
@@ -337,11 +199,14 @@ impl<F: FindInto + Drop, P: Accept + Drop> Simple<F, P> {
     }
 
     // Queues the parents of a commit.
-    fn meet_all(&mut self, parents: &[ObjectId]) -> Result<(), Error>
-        ensures objects { self.new.source.objects ≡ self.old.source.objects }
-        ensures rows { self.new.source.rows ≡ self.old.source.rows }
-        ensures order { (self.new.parents ≡ self.old.parents)
-            × (self.new.sorting ≡ self.old.sorting) }
+    fn meet_all(&mut self, parents: &[ObjectId]) -> Result<(), AllocError>
+        ensures reads { LooksUp (times_of (timing_of self.old.parents self.old.sorting)
+            parents.now) self.old.source self.new.source }
+        ensures stays { self.new ≡ record self.old {
+          source = self.new.source;
+          known = self.new.known;
+          predicate = self.new.predicate;
+        } }
         ensures going { OnOk result (OverTold F.is_honest F.table self.old.source
             (λ g. (ids : List Id) (a : Asked) (listed : List ObjectId) (id : ObjectId)
             → IsSure (F.may_fail self.old.source.objects) a
@@ -350,31 +215,9 @@ impl<F: FindInto + Drop, P: Accept + Drop> Simple<F, P> {
             → IsAtTurn P.accepts ids g a listed id self.old
             → IsUnderWay P.accepts ids g a (listed ++ id ∷ []) self.new)) }
         ensures awaits { OnOk result (OverTold F.is_honest F.table self.old.source
-            (λ g. LetsWaitIn (timing_of self.old.parents self.old.sorting)
-            (F.may_fail self.old.source.objects) g (IsMetWith P.accepts self.old parents.now)
-            (turns_of self.old.known) (turns_of self.new.known))) }
-        ensures left { OnOk result (GainsNone self.old self.new) }
-        ensures rowed { InRows self.old → AllHeld (rows_of self.old.source.rows) parents.now
-            → OnOk result (InRows self.new × (self.new.source.lookups ≡ self.old.source.lookups)) }
-        ensures in_breadth { timing_of self.old.parents self.old.sorting ≡ None
-            → self.new.source.lookups ≡ self.old.source.lookups }
-        ensures counted { self.new.source.lookups ≤ self.old.source.lookups + length parents.now }
-        ensures rising { self.old.source.lookups ≤ self.new.source.lookups }
-        ensures still { AllHeld (rows_of self.old.source.rows) parents.now
-            → OnOk result (self.new.source.lookups ≡ self.old.source.lookups) }
-        ensures met { OnOk result ((met : List ObjectId)
-            × IsListOf (IsFresh self.old.known.nodes parents.now) met
-            × Asks P.goes met self.old.predicate self.new.predicate
-            × CountsTimes (timing_of self.old.parents self.old.sorting)
-            (rows_of self.old.source.rows) (accepted (P.accepts self.old.predicate) met)
-            self.old.source.lookups self.new.source.lookups) }
-        ensures refused { IfErr result (λ error. error ≡ Memory) }
-        ensures stays { (self.new.hidden ≡ self.old.hidden) × (self.new.begun ≡ self.old.begun) }
-        ensures painted { OnOk result (StaysPainted self.old.known.nodes self.new.known.nodes) }
-        ensures marks { OnOk result (MarksMet self.old.known.nodes parents.now
-            self.new.known.nodes) }
-        ensures behind { OnOk result (IsSome (timing_of self.old.parents self.old.sorting)
-            → QueuesSome self.old.known parents.now self.new.known) }
+            (λ g. LetsMetWait P.accepts (F.may_fail self.old.source.objects) g self.old parents.now
+            self.new)) }
+        ensures meets { OnOk result (MeetsAll P.accepts P.goes self.old parents.now self.new) }
     {
         let Some(timing) = time_order(self.parents, self.sorting) else {
             meet_parents(&mut self.known, &mut self.predicate, parents)?;
@@ -394,12 +237,9 @@ impl<F: FindInto + Drop, P: Accept + Drop> Simple<F, P> {
     pub(crate) fn enter(&mut self, id: ObjectId) -> Result<Info, Error>
         ensures objects { self.new.source.objects ≡ self.old.source.objects }
         ensures rows { self.new.source.rows ≡ self.old.source.rows }
-        ensures id { IfOk result (λ info. info.id ≡ id) }
         ensures told { OverTold F.is_honest F.table self.old.source
             (λ g. IfOk result (IsInfo g (rows_of self.old.source.rows) self.old.parents
             self.old.sorting)) }
-        ensures known { IfOk result (λ _. IsKnown (rows_of self.old.source.rows)
-            (F.ids self.old.source.objects) id) }
         ensures going { OnOk result (OverTold F.is_honest F.table self.old.source
             (λ g. (a : Asked) (listed : List ObjectId)
             → IsSure (F.may_fail self.old.source.objects) a
@@ -407,39 +247,14 @@ impl<F: FindInto + Drop, P: Accept + Drop> Simple<F, P> {
             → IsUnderWay P.accepts (F.ids self.old.source.objects) g a (listed ++ id ∷ [])
             self.new)) }
         ensures awaits { OverTold F.is_honest F.table self.old.source
-            (λ g. IfOk result (λ info. LetsWaitIn (timing_of self.old.parents self.old.sorting)
-            (F.may_fail self.old.source.objects) g
-            (IsMetWith P.accepts self.old info.parent_ids.items)
-            (turns_of self.old.known) (turns_of self.new.known))) }
-        ensures left { OnOk result (GainsNone self.old self.new) }
-        ensures content { OnOk result (IsContentOf (F.is_honest self.old.source.objects)
-            (rows_of self.old.source.rows) (F.table self.old.source.objects) id
-            self.new.source.buffer.items × (self.new.kind ≡ (id_of id).kind)) }
-        ensures in_breadth { timing_of self.old.parents self.old.sorting ≡ None
-            → self.new.source.lookups ≤ self.old.source.lookups + 1 }
-        ensures one { timing_of self.old.parents self.old.sorting ≡ None
-            → OnOk result (CountsOne (rows_of self.old.source.rows) id self.old.source.lookups
-            self.new.source.lookups) }
-        ensures counted { IfOk result (λ info. CountsUpTo (rows_of self.old.source.rows) id
-            (length info.parent_ids.items) self.old.source.lookups self.new.source.lookups) }
-        ensures met { IfOk result (λ info. Meets P.accepts P.goes (rows_of self.old.source.rows)
-            self.old info self.new) }
-        ensures rowed { InRows self.old → Holds (rows_of self.old.source.rows) id
-            → OnOk result (InRows self.new × (self.new.source.lookups ≡ self.old.source.lookups)) }
-        ensures failed { IfErr result (CountsFault self.old.source.lookups
-            self.new.source.lookups) }
-        ensures refused { IfErr result (StopsFetch self.old.parents
-            (F.is_honest self.old.source.objects) (F.may_fail self.old.source.objects)
-            (rows_of self.old.source.rows) (F.table self.old.source.objects) id) }
-        ensures stays { OnOk result (self.old.begun ≡ true → StaysAsked self.old self.new) }
-        ensures painted { OnOk result (StaysPainted self.old.known.nodes self.new.known.nodes) }
-        ensures marks { IfOk result (λ info. MarksMet self.old.known.nodes info.parent_ids.items
-            self.new.known.nodes) }
-        ensures unasked { IfErr result (λ error. (error ≡ Memory)
-            ⊎ (self.new.predicate ≡ self.old.predicate)) }
-        ensures behind { IfOk result (λ info.
-            IsSome (timing_of self.old.parents self.old.sorting)
-            → QueuesSome self.old.known info.parent_ids.items self.new.known) }
+            (λ g. IfOk result (λ info. LetsMetWait P.accepts (F.may_fail self.old.source.objects) g
+            self.old info.parent_ids.items self.new)) }
+        ensures comes { IfOk result (λ info. Comes P.accepts P.goes
+            (F.is_honest self.old.source.objects) (F.table self.old.source.objects)
+            (F.ids self.old.source.objects) self.old id info self.new) }
+        ensures fails { IfErr result (λ error. FailsToCome (F.is_honest self.old.source.objects)
+            (F.may_fail self.old.source.objects) (F.table self.old.source.objects) self.old id error
+            self.new) }
     {
         let commit = self.source.fetch(&id, self.parents)?;
         let alloc: Global = *self.tips.allocator();

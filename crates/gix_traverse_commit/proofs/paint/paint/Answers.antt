@@ -15,6 +15,7 @@ use Rattle.gix_traverse_commit_known.proofs.Keeping.{kept_next}
 use Rattle.gix_traverse_graph.proofs.Lists.{contains_from_at}
 use Rattle.gix_traverse_commit_known.proofs.Painting.{painted_all, painted_reached, known_longer, read_fit, paint_fault, shorter}
 use Rattle.gix_traverse_graph.proofs.RowLemmas.{at_item}
+use Rattle.gix_traverse_commit.proofs.Awaited.{paints_more}
 use Rattle.gix_traverse_commit.proofs.paint.paint.Goals as goal
 
 pub returns-in_err-commit-clause-refused : goal.returns-in_err-commit-clause-refused
@@ -42,9 +43,7 @@ painted-preserved-in_ok-paint_parents g c =
     record {
       objects = c.fetch.ensures.objects ∙ c.painted.invariant.objects;
       rows = c.fetch.ensures.rows ∙ c.painted.invariant.rows;
-      met = λ q. c.in_ok-paint_parents.ensures.met q ∙ c.painted.invariant.met q;
-      queue = c.in_ok-paint_parents.ensures.queue ∙ c.painted.invariant.queue;
-      turns = c.in_ok-paint_parents.ensures.turns ∙ c.painted.invariant.turns;
+      only = paints_more c.args.known.now c.painted.known c.paint_parents.new.known c.painted.invariant.only c.in_ok-paint_parents.ensures.only;
       within = (let k = slice_get_within c.paint_parents.new.painted.items c.painted.read id (c.in_ok-paint_parents.ensures.longer c.painted.read id here) in omega arith);
       painted = c.in_ok-paint_parents.ensures.painted c.painted.invariant.painted;
       known = known_longer rows ids items c.paint_parents.new.painted.items c.painted.read id l c.in_ok-paint_parents.ensures.longer c.painted.invariant.known here listed;
@@ -100,9 +99,7 @@ painted-preserved g c =
     record {
       objects = c.fetch.ensures.objects ∙ c.painted.invariant.objects;
       rows = c.fetch.ensures.rows ∙ c.painted.invariant.rows;
-      met = λ q. c.in_ok-paint_parents.ensures.met q ∙ c.painted.invariant.met q;
-      queue = c.in_ok-paint_parents.ensures.queue ∙ c.painted.invariant.queue;
-      turns = c.in_ok-paint_parents.ensures.turns ∙ c.painted.invariant.turns;
+      only = paints_more c.args.known.now c.painted.known c.paint_parents.new.known c.painted.invariant.only c.in_ok-paint_parents.ensures.only;
       within = (let k = slice_get_within c.paint_parents.new.painted.items c.painted.read id (c.in_ok-paint_parents.ensures.longer c.painted.read id here) in omega arith);
       painted = c.in_ok-paint_parents.ensures.painted c.painted.invariant.painted;
       known = known_longer rows ids items c.paint_parents.new.painted.items c.painted.read id l c.in_ok-paint_parents.ensures.longer c.painted.invariant.known here listed;

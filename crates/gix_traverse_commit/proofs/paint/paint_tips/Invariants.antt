@@ -1,18 +1,16 @@
-use Rattle.std.proofs.Common.{◌≡◌, List}
+use Rattle.std.proofs.Common.{List}
 use Rattle.gix_hash.specs.declared.object_id.ObjectId.{ObjectId}
-use Rattle.gix_traverse_commit_known.specs.Known.{turns_of}
 use Rattle.gix_traverse_commit_known.specs.Keeping.{Kept}
-use Rattle.gix_traverse_commit_known.specs.Nodes.{is_hidden, is_met}
+use Rattle.gix_traverse_commit_known.specs.Nodes.{is_hidden}
 use Rattle.gix_traverse_commit_known.specs.Painting.{IsPainted, every}
 use Rattle.gix_traverse_graph.specs.Rows.{AllHeld}
 use Rattle.gix_traverse_graph.specs.declared.rows.Row.{Row}
+use Rattle.gix_traverse_commit.specs.Awaited.{PaintsOnly}
 use Rattle.gix_traverse_commit.proofs.paint.paint_tips.Given as goal
 
 abbrev pub invariant-tips : goal.invariant-tips
 invariant-tips l = record {
-  met : (q : ObjectId) → is_met l.known.nodes q ≡ is_met l.fn.known.nodes q;
-  queue : l.known.queue ≡ l.fn.known.queue;
-  turns : turns_of l.known ≡ turns_of l.fn.known;
+  only : PaintsOnly l.fn.known l.known;
   painted : IsPainted l.fn.known.nodes l.fn.painted.items → IsPainted l.known.nodes l.painted.items;
   rowed : (rows : List Row) → AllHeld rows l.fn.painted.items → AllHeld rows l.hidden → AllHeld rows l.painted.items;
   walked : (along : ObjectId → List ObjectId) → Kept along l.hidden every (is_hidden l.fn.known.nodes) l.fn.painted.items 0 0

@@ -22,8 +22,8 @@ returns-in_err-sorting-clause-refused g c =
     let hidden = c.args.hidden.items in
     let walk = c.in_ok-walk.walk in
     let error = c.in_err-sorting.field-0.0 in
-    let objects : objects_of walk ≡ c.args.store = ap (λ s. s.objects) c.in_ok-walk.ensures.source ∙ ap (λ s. s.objects) c.parents.ensures.source ∙ c.commit_graph.ensures.objects ∙ c.in_ok-new.ensures.objects in
-    let rows : graph_of walk ≡ c.args.rows = ap (λ s. s.rows) c.in_ok-walk.ensures.source ∙ ap (λ s. s.rows) c.parents.ensures.source ∙ c.commit_graph.ensures.rows in
+    let objects : objects_of walk ≡ c.args.store = ap (λ s. s.objects) c.in_ok-walk.ensures.source ∙ ap (λ s. s.objects) c.parents.ensures.source ∙ ap objects_of c.commit_graph.ensures.same ∙ c.in_ok-new.ensures.source.objects in
+    let rows : graph_of walk ≡ c.args.rows = ap (λ s. s.rows) c.in_ok-walk.ensures.source ∙ ap (λ s. s.rows) c.parents.ensures.source ∙ ap graph_of c.commit_graph.ensures.same in
     let made : IsMade (λ _ _. true) (asked tips hidden c.args.parents BreadthFirst) walk =
     c.in_ok-walk.ensures.made (asked tips [] c.args.parents BreadthFirst) (inl (c.parents.ensures.made (asked tips [] AllParents BreadthFirst) (inl (c.commit_graph.ensures.made (asked tips [] AllParents BreadthFirst) c.in_ok-new.ensures.made)))) in
     let accepted = IsAccepted (asked tips hidden c.args.parents BreadthFirst) in
@@ -39,11 +39,11 @@ returns-clause-lists g c =
     let hidden = c.args.hidden.items in
     let walk = c.in_ok-sorting.field-0 in
     let objects : objects_of walk ≡ c.args.store =
-    c.in_ok-sorting.ensures.objects ∙ ap (λ s. s.objects) c.in_ok-walk.ensures.source ∙ ap (λ s. s.objects) c.parents.ensures.source ∙ c.commit_graph.ensures.objects ∙ c.in_ok-new.ensures.objects in
-    let rows : graph_of walk ≡ c.args.rows = c.in_ok-sorting.ensures.rows ∙ ap (λ s. s.rows) c.in_ok-walk.ensures.source ∙ ap (λ s. s.rows) c.parents.ensures.source ∙ c.commit_graph.ensures.rows in
+    c.in_ok-sorting.ensures.reads.objects ∙ ap (λ s. s.objects) c.in_ok-walk.ensures.source ∙ ap (λ s. s.objects) c.parents.ensures.source ∙ ap objects_of c.commit_graph.ensures.same ∙ c.in_ok-new.ensures.source.objects in
+    let rows : graph_of walk ≡ c.args.rows = c.in_ok-sorting.ensures.reads.rows ∙ ap (λ s. s.rows) c.in_ok-walk.ensures.source ∙ ap (λ s. s.rows) c.parents.ensures.source ∙ ap graph_of c.commit_graph.ensures.same in
     let made : IsMade (λ _ _. true) (asked tips hidden c.args.parents c.args.sorting) walk =
-    c.in_ok-sorting.ensures.made (asked tips hidden c.args.parents BreadthFirst)
-    (inl (c.in_ok-walk.ensures.made (asked tips [] c.args.parents BreadthFirst) (inl (c.parents.ensures.made (asked tips [] AllParents BreadthFirst) (inl (c.commit_graph.ensures.made (asked tips [] AllParents BreadthFirst) c.in_ok-new.ensures.made)))))) in
+    (c.in_ok-sorting.ensures.made (asked tips hidden c.args.parents BreadthFirst)
+    (inl (c.in_ok-walk.ensures.made (asked tips [] c.args.parents BreadthFirst) (inl (c.parents.ensures.made (asked tips [] AllParents BreadthFirst) (inl (c.commit_graph.ensures.made (asked tips [] AllParents BreadthFirst) c.in_ok-new.ensures.made))))))).made in
     λ is h told sure. over_same g.F.Lookup.is_honest g.F.Lookup.table
     (λ o r h. (a : Asked) → IsSure (g.F.Lookup.may_fail o) a → IsMade (λ _ _. true) a walk → IfOk c.given.result (λ (ids : Vec ObjectId Global). Answers h a ids.items)) (objects_of walk) c.args.store (graph_of walk) c.args.rows objects rows c.given.ensures.lists
     is h told (asked tips hidden c.args.parents c.args.sorting) sure made
@@ -54,11 +54,11 @@ returns-clause-refused g c =
     let hidden = c.args.hidden.items in
     let walk = c.in_ok-sorting.field-0 in
     let objects : objects_of walk ≡ c.args.store =
-    c.in_ok-sorting.ensures.objects ∙ ap (λ s. s.objects) c.in_ok-walk.ensures.source ∙ ap (λ s. s.objects) c.parents.ensures.source ∙ c.commit_graph.ensures.objects ∙ c.in_ok-new.ensures.objects in
-    let rows : graph_of walk ≡ c.args.rows = c.in_ok-sorting.ensures.rows ∙ ap (λ s. s.rows) c.in_ok-walk.ensures.source ∙ ap (λ s. s.rows) c.parents.ensures.source ∙ c.commit_graph.ensures.rows in
+    c.in_ok-sorting.ensures.reads.objects ∙ ap (λ s. s.objects) c.in_ok-walk.ensures.source ∙ ap (λ s. s.objects) c.parents.ensures.source ∙ ap objects_of c.commit_graph.ensures.same ∙ c.in_ok-new.ensures.source.objects in
+    let rows : graph_of walk ≡ c.args.rows = c.in_ok-sorting.ensures.reads.rows ∙ ap (λ s. s.rows) c.in_ok-walk.ensures.source ∙ ap (λ s. s.rows) c.parents.ensures.source ∙ ap graph_of c.commit_graph.ensures.same in
     let made : IsMade (λ _ _. true) (asked tips hidden c.args.parents c.args.sorting) walk =
-    c.in_ok-sorting.ensures.made (asked tips hidden c.args.parents BreadthFirst)
-    (inl (c.in_ok-walk.ensures.made (asked tips [] c.args.parents BreadthFirst) (inl (c.parents.ensures.made (asked tips [] AllParents BreadthFirst) (inl (c.commit_graph.ensures.made (asked tips [] AllParents BreadthFirst) c.in_ok-new.ensures.made)))))) in
+    (c.in_ok-sorting.ensures.made (asked tips hidden c.args.parents BreadthFirst)
+    (inl (c.in_ok-walk.ensures.made (asked tips [] c.args.parents BreadthFirst) (inl (c.parents.ensures.made (asked tips [] AllParents BreadthFirst) (inl (c.commit_graph.ensures.made (asked tips [] AllParents BreadthFirst) c.in_ok-new.ensures.made))))))).made in
     λ is h told sure. over_same g.F.Lookup.is_honest g.F.Lookup.table
     (λ o r h. (a : Asked) → IsSure (g.F.Lookup.may_fail o) a → IsMade (λ _ _. true) a walk → IfErr c.given.result (WalkFault (g.F.Lookup.may_fail o) (rows_of r) (g.F.Lookup.table o) h a.tips a.hidden)) (objects_of walk) c.args.store (graph_of walk) c.args.rows objects rows c.given.ensures.refused
     is h told (asked tips hidden c.args.parents c.args.sorting) sure made

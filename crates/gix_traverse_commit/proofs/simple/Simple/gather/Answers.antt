@@ -35,37 +35,8 @@ returns-clause-rowed g c = λ r.
 
 pub returns-then-is_idle-clause-made : goal.returns-then-is_idle-clause-made
 returns-then-is_idle-clause-made g c = λ a m. elim m [
-  | inl n ↦ n
+  | inl n ↦ record { new = n; met = λ x. ((λ d. d), (λ d. d)) }
   | inr t ↦ (let both = c.is_idle.ensures.0 c.if-is_idle.true in absurd (t.goes_on both.0 both.1))
-]
-
-pub returns-clause-made : goal.returns-clause-made
-returns-clause-made g c = λ a m. elim m [
-  | inl n ↦ (let f = c.if-is_idle.false in let t = c.is_idle.ensures.1 (n.empty, n.none_waits) in let z : ⊥ = cc in absurd z)
-  | inr t ↦ (
-      let all : c.unpaint.new.known.queue ≡ a.tips = c.in_ok-unpaint.ensures.queue ∙ c.in_ok-queue_waiting.ensures.queued ∙ t.queued in
-      let was : (x : ObjectId) → is_met c.unpaint.new.known.nodes x ≡ is_met c.args.self.now.known.nodes x = λ x. c.in_ok-unpaint.ensures.met x ∙ ap (λ (ns : List Node). is_met ns x) c.queue_waiting.ensures.nodes in
-      record {
-        begun = t.begun;
-        tips = c.in_ok-take_all.ensures.tips ∙ ap (λ (zs : List ObjectId). zs ++ c.unpaint.new.known.queue) t.no_tips ∙ all;
-        hidden = t.hidden;
-        parents = t.parents;
-        sorting = t.sorting;
-        accepts_as = record {
-          given = t.accepts_as.given;
-          unmet = λ x n. elim (c.in_ok-take_all.ensures.unmet x n) [
-            | inl f ↦ t.accepts_as.unmet x (sym (was x) ∙ f)
-            | inr k ↦ (let yes = t.accepted x (subst (λ (zs : List ObjectId). Contains zs x) all k) in t.accepts_as.given x yes ∙ sym yes)
-          ];
-        };
-        asked = record {
-          refused = (λ x m. let (met, out) = c.in_ok-take_all.ensures.met x m in t.refused x (sym (was x) ∙ met) (λ k. out (subst (λ (zs : List ObjectId). Contains zs x) (sym all) k)));
-          accepted = λ x k u. t.accepted x k;
-          unpainted = λ x. c.in_ok-take_all.ensures.hidden x ∙ c.in_ok-unpaint.ensures.unpainted x;
-        };
-        empty = c.in_ok-take_all.ensures.emptied;
-        none_waits = c.in_ok-take_all.ensures.turns ∙ c.in_ok-unpaint.ensures.turns ∙ c.in_ok-queue_waiting.ensures.emptied;
-      })
 ]
 
 pub returns-then-is_idle-clause-left : goal.returns-then-is_idle-clause-left
@@ -87,9 +58,6 @@ returns-clause-left g c =
       ]
     ])
 
-pub returns-then-is_idle-clause-met : goal.returns-then-is_idle-clause-met
-returns-then-is_idle-clause-met g c = λ a m x. ((λ d. d), (λ d. d))
-
 -- what was met is met still, or has come
 met_or_come : (has has' : ObjectId → Bool) (tips : List ObjectId) (x : ObjectId) → (has' x ≡ false → (has x ≡ false) ⊎ Contains tips x) → has x ≡ true → (has' x ≡ true) ⊎ Contains tips x
 met_or_come has has' tips x unmet h = go (has' x) refl
@@ -98,17 +66,40 @@ met_or_come has has' tips x unmet h = go (has' x) refl
     go true e = inl e
     go false e = elim (unmet e) [ inl f ↦ (let z : ⊥ = cc in absurd z) | inr k ↦ inr k ]
 
-pub returns-clause-met : goal.returns-clause-met
-returns-clause-met g c = λ a m. elim m [
+pub returns-clause-made : goal.returns-clause-made
+returns-clause-made g c = λ a m. elim m [
   | inl n ↦ (let f = c.if-is_idle.false in let t = c.is_idle.ensures.1 (n.empty, n.none_waits) in let z : ⊥ = cc in absurd z)
   | inr t ↦ (
       let all : c.unpaint.new.known.queue ≡ a.tips = c.in_ok-unpaint.ensures.queue ∙ c.in_ok-queue_waiting.ensures.queued ∙ t.queued in
       let was : (x : ObjectId) → is_met c.unpaint.new.known.nodes x ≡ is_met c.args.self.now.known.nodes x = λ x. c.in_ok-unpaint.ensures.met x ∙ ap (λ (ns : List Node). is_met ns x) c.queue_waiting.ensures.nodes in
-      λ x. (
-        (λ d. elim d [ inl h ↦ inl (sym (was x) ∙ (c.in_ok-take_all.ensures.met x h).0) | inr k ↦ inr k ]),
-        (λ d. elim d [
-          | inl h ↦ met_or_come (is_met c.unpaint.new.known.nodes) (is_met c.take_all.new.known.nodes) a.tips x (λ f. subst (λ (zs : List ObjectId). (is_met c.unpaint.new.known.nodes x ≡ false) ⊎ Contains zs x) all (c.in_ok-take_all.ensures.unmet x f)) (was x ∙ h)
-          | inr k ↦ inr k
-        ]),
-      ))
+      record {
+        new = record {
+          begun = t.begun;
+          tips = c.in_ok-take_all.ensures.tips ∙ ap (λ (zs : List ObjectId). zs ++ c.unpaint.new.known.queue) t.no_tips ∙ all;
+          hidden = t.hidden;
+          parents = t.parents;
+          sorting = t.sorting;
+          accepts_as = record {
+            given = t.accepts_as.given;
+            unmet = λ x n. elim (c.in_ok-take_all.ensures.unmet x n) [
+              | inl f ↦ t.accepts_as.unmet x (sym (was x) ∙ f)
+              | inr k ↦ (let yes = t.accepted x (subst (λ (zs : List ObjectId). Contains zs x) all k) in t.accepts_as.given x yes ∙ sym yes)
+            ];
+          };
+          asked = record {
+            refused = (λ x m. let (met, out) = c.in_ok-take_all.ensures.met x m in t.refused x (sym (was x) ∙ met) (λ k. out (subst (λ (zs : List ObjectId). Contains zs x) (sym all) k)));
+            accepted = λ x k u. t.accepted x k;
+            unpainted = λ x. c.in_ok-take_all.ensures.hidden x ∙ c.in_ok-unpaint.ensures.unpainted x;
+          };
+          empty = c.in_ok-take_all.ensures.emptied;
+          none_waits = c.in_ok-take_all.ensures.turns ∙ c.in_ok-unpaint.ensures.turns ∙ c.in_ok-queue_waiting.ensures.emptied;
+        };
+        met = λ x. (
+          (λ d. elim d [ inl h ↦ inl (sym (was x) ∙ (c.in_ok-take_all.ensures.met x h).0) | inr k ↦ inr k ]),
+          (λ d. elim d [
+            | inl h ↦ met_or_come (is_met c.unpaint.new.known.nodes) (is_met c.take_all.new.known.nodes) a.tips x (λ f. subst (λ (zs : List ObjectId). (is_met c.unpaint.new.known.nodes x ≡ false) ⊎ Contains zs x) all (c.in_ok-take_all.ensures.unmet x f)) (was x ∙ h)
+            | inr k ↦ inr k
+          ]),
+        );
+      })
 ]

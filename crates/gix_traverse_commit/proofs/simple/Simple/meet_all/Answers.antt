@@ -23,7 +23,21 @@ use Rattle.gix_traverse_graph.specs.Order.{IsOpen}
 use Rattle.gix_traverse_commit_known.proofs.Chosen.{met_parents}
 use Rattle.gix_traverse_commit_known.proofs.Simply.{accepts_more, known_push}
 use Rattle.gix_traverse_commit_known.proofs.Timely.{met_kept}
+use Rattle.gix_traverse_commit.specs.Awaited.{LooksUp, times_of}
+use Rattle.gix_traverse_commit.proofs.Awaited.{awaits_rowed, counts_held, parents_awaited}
+use Rattle.gix_traverse_commit.proofs.Rest.{in_rows}
+use Rattle.gix_traverse_commit_known.proofs.Awaiting.{of_accepted}
 use Rattle.gix_traverse_commit.proofs.simple.Simple.meet_all.Goals as goal
+
+pub returns-clause-reads : goal.returns-clause-reads
+returns-clause-reads g c =
+    let is : timing_of c.args.self.now.parents c.args.self.now.sorting ≡ Some c.in-Some.timing = sym c.time_order.ensures ∙ c.in-Some.is in
+    subst (λ (t : Option Timing). LooksUp (times_of t c.args.parents.now) c.args.self.now.source c.await_parents.new.source) (sym is) c.await_parents.ensures.reads
+
+pub returns-in_err-await_parents-clause-reads : goal.returns-in_err-await_parents-clause-reads
+returns-in_err-await_parents-clause-reads g c =
+    let is : timing_of c.args.self.now.parents c.args.self.now.sorting ≡ Some c.in-Some.timing = sym c.time_order.ensures ∙ c.in-Some.is in
+    subst (λ (t : Option Timing). LooksUp (times_of t c.args.parents.now) c.args.self.now.source c.await_parents.new.source) (sym is) c.await_parents.ensures.reads
 
 pub returns-in_default-clause-going : goal.returns-in_default-clause-going
 returns-in_default-clause-going g c = λ honest commits told ids a listed id sure same known at.
@@ -62,7 +76,8 @@ returns-clause-going g c = λ honest commits told ids a listed id sure same know
           ap (λ (b : Bool). not b && (a.accepts (id_of x) && in_time n.by_time.since (commits x).time)) (sym (n.hidden x))
           ∙ ap (λ (t : Timing). not (is_hidden c.args.self.now.known.nodes x) && (a.accepts (id_of x) && in_time t.since (commits x).time)) one) in
           let before = met_kept commits keep (listed ++ id ∷ []) keep' (is_met c.args.self.now.known.nodes) (IsOpen along a.tips listed) (turns_of c.args.self.now.known) alike n.met in
-          let after = c.in_ok-await_parents.ensures.walked honest (is_sure (g.F.Lookup.may_fail c.args.self.now.source.objects) a n.by_time sure n.is_by_time) commits told a.accepts along a.tips listed (listed ++ id ∷ []) n.accepts_as.unmet before in
+          let after = parents_awaited commits c.in-Some.timing.since c.args.self.now.known.nodes c.await_parents.new.known.nodes a.accepts (g.F.Lookup.may_fail c.args.self.now.source.objects) (turns_of c.args.self.now.known) (turns_of c.await_parents.new.known) (is_sure (g.F.Lookup.may_fail c.args.self.now.source.objects) a n.by_time sure n.is_by_time)
+          (g.P.Accept.accepts c.args.self.now.predicate) (IsOpen along a.tips listed) (listed ++ id ∷ []) c.args.parents.now c.in_ok-await_parents.ensures.met (c.in_ok-await_parents.ensures.awaits honest commits told) n.accepts_as.unmet before in
           let back = met_kept commits keep' (listed ++ id ∷ []) keep (is_met c.await_parents.new.known.nodes) (λ x. IsOpen along a.tips listed x ⊎ Contains c.args.parents.now x) (turns_of c.await_parents.new.known) (λ x. sym (alike x)) after in
           let named = subst (λ (ps : List ObjectId). IsMetSoFar commits keep (is_met c.await_parents.new.known.nodes) (λ x. IsOpen along a.tips listed x ⊎ Contains ps x) (listed ++ id ∷ []) (turns_of c.await_parents.new.known)) same back in
           inr (record {
@@ -72,49 +87,16 @@ returns-clause-going g c = λ honest commits told ids a listed id sure same know
             sorting = n.sorting;
             by_time = n.by_time;
             is_by_time = n.is_by_time;
-            empty = c.in_ok-await_parents.ensures.queue ∙ n.empty;
-            accepts_as = accepts_more (g.P.Accept.accepts c.args.self.now.predicate) (g.P.Accept.accepts c.await_parents.new.predicate) c.args.self.now.known.nodes c.await_parents.new.known.nodes a c.await_parents.ensures.accepts c.in_ok-await_parents.ensures.grown n.accepts_as;
+            empty = c.in_ok-await_parents.ensures.some.queue ∙ n.empty;
+            accepts_as = accepts_more (g.P.Accept.accepts c.args.self.now.predicate) (g.P.Accept.accepts c.await_parents.new.predicate) c.args.self.now.known.nodes c.await_parents.new.known.nodes a c.in_ok-await_parents.ensures.asked.2.same (λ q h. (c.in_ok-await_parents.ensures.met q).1 (inl h)) n.accepts_as;
             hides = n.hides;
-            hidden = λ x. c.in_ok-await_parents.ensures.hidden x ∙ n.hidden x;
+            hidden = λ x. c.in_ok-await_parents.ensures.some.painted x ∙ n.hidden x;
             painted = n.painted;
-            known = subst (λ (r : Option (List Row)). (x : ObjectId) → Contains (listed ++ id ∷ []) x → IsKnown (rows_of r) ids x) (sym c.await_parents.ensures.rows) (known_push (rows_of c.args.self.now.source.rows) ids listed id n.known known);
+            known = subst (λ (r : Option (List Row)). (x : ObjectId) → Contains (listed ++ id ∷ []) x → IsKnown (rows_of r) ids x) (sym c.await_parents.ensures.reads.rows) (known_push (rows_of c.args.self.now.source.rows) ids listed id n.known known);
             met = met_parents commits along a.tips keep n.by_time.order (is_met c.await_parents.new.known.nodes) listed id (turns_of c.await_parents.new.known) named;
             chosen = n.chosen;
           }))
     ]
-
-pub returns-clause-rowed : goal.returns-clause-rowed
-returns-clause-rowed g c = λ r held.
-    let step = c.in_ok-await_parents.ensures.rowed held in (
-      record {
-        tips = subst (λ (o : Option (List Row)). AllHeld (rows_of o) c.args.self.now.tips.items) (sym c.await_parents.ensures.rows) r.tips;
-        hidden = subst (λ (o : Option (List Row)). AllHeld (rows_of o) c.args.self.now.hidden.items) (sym c.await_parents.ensures.rows) r.hidden;
-        queue = subst (λ (o : Option (List Row)). AllHeld (rows_of o) c.await_parents.new.known.queue) (sym c.await_parents.ensures.rows) (subst (AllHeld (rows_of c.args.self.now.source.rows)) (sym c.in_ok-await_parents.ensures.queue) r.queue);
-        waiting_rows = subst (λ (o : Option (List Row)). AllRowed (rows_of o) (turns_of c.await_parents.new.known)) (sym c.await_parents.ensures.rows) (step.1 r.waiting_rows);
-      },
-      step.0,
-    )
-
-pub returns-in_default-clause-met : goal.returns-in_default-clause-met
-returns-in_default-clause-met g c =
-    let none : timing_of c.args.self.now.parents c.args.self.now.sorting ≡ None = search rules in
-    let lookups = c.args.self.now.source.lookups in
-    let (met, list, asks) = c.in_ok-meet_parents.ensures.asked in
-    (met, list, asks, subst (λ (t : Option Timing). CountsTimes t (rows_of c.args.self.now.source.rows) (accepted (g.P.Accept.accepts c.args.self.now.predicate) met) lookups lookups) (sym none) refl)
-
-pub returns-clause-met : goal.returns-clause-met
-returns-clause-met g c =
-    let is : timing_of c.args.self.now.parents c.args.self.now.sorting ≡ Some c.in-Some.timing = sym c.time_order.ensures ∙ c.in-Some.is in
-    let (met, list, asks, counts) = c.in_ok-await_parents.ensures.asked in
-    (met, list, asks, subst (λ (t : Option Timing). CountsTimes t (rows_of c.args.self.now.source.rows) (accepted (g.P.Accept.accepts c.args.self.now.predicate) met) c.args.self.now.source.lookups c.await_parents.new.source.lookups) (sym is) counts)
-
-pub returns-in_default-clause-left : goal.returns-in_default-clause-left
-returns-in_default-clause-left g c = subst (λ (ts : List Turn). NoneGains c.args.self.now.known.nodes (times_queued c.args.self.now) c.meet_parents.new.known.nodes (λ id. times_in c.meet_parents.new.known.queue id + times_waiting ts id)) (sym c.in_ok-meet_parents.ensures.turns)
-    (gains_before c.args.self.now.known.nodes c.meet_parents.new.known.nodes (times_in c.args.self.now.known.queue) (times_in c.meet_parents.new.known.queue) (times_waiting (turns_of c.args.self.now.known)) c.in_ok-meet_parents.ensures.left)
-
-pub returns-clause-left : goal.returns-clause-left
-returns-clause-left g c = subst (λ (zs : List ObjectId). NoneGains c.args.self.now.known.nodes (times_queued c.args.self.now) c.await_parents.new.known.nodes (λ id. times_in zs id + times_waiting (turns_of c.await_parents.new.known) id)) (sym c.in_ok-await_parents.ensures.queue)
-    (gains_behind c.args.self.now.known.nodes c.await_parents.new.known.nodes (times_waiting (turns_of c.args.self.now.known)) (times_waiting (turns_of c.await_parents.new.known)) (times_in c.args.self.now.known.queue) c.in_ok-await_parents.ensures.left)
 
 pub returns-in_default-clause-awaits : goal.returns-in_default-clause-awaits
 returns-in_default-clause-awaits g c = λ honest commits told.
@@ -126,7 +108,52 @@ returns-clause-awaits g c = λ honest commits told.
     let is : timing_of c.args.self.now.parents c.args.self.now.sorting ≡ Some c.in-Some.timing = sym c.time_order.ensures ∙ c.in-Some.is in
     subst (λ (t : Option Timing). LetsWaitIn t (g.F.Lookup.may_fail c.args.self.now.source.objects) commits (IsMetWith g.P.Accept.accepts c.args.self.now c.args.parents.now) (turns_of c.args.self.now.known) (turns_of c.await_parents.new.known)) (sym is) (c.in_ok-await_parents.ensures.awaits honest commits told)
 
-pub returns-in_default-clause-behind : goal.returns-in_default-clause-behind
-returns-in_default-clause-behind g c = λ some.
+pub returns-in_default-clause-meets : goal.returns-in_default-clause-meets
+returns-in_default-clause-meets g c =
     let none : timing_of c.args.self.now.parents c.args.self.now.sorting ≡ None = search rules in
-    absurd (let s : false ≡ true = subst (λ (t : Option Timing). IsSome t) none some in let z : ⊥ = cc in z)
+    let lookups = c.args.self.now.source.lookups in
+    let rows = rows_of c.args.self.now.source.rows in
+    let met = c.in_ok-meet_parents.ensures in
+    let (fresh, list, asks) = met.asked in
+    record {
+      met = fresh;
+      are_met = list;
+      asked = asks;
+      times = subst (λ (t : Option Timing). CountsTimes t rows (accepted (g.P.Accept.accepts c.args.self.now.predicate) fresh) lookups lookups) (sym none) refl;
+      marks = met.marks;
+      painted = met.hidden;
+      behind = λ some. absurd (let s : false ≡ true = subst (λ (t : Option Timing). IsSome t) none some in let z : ⊥ = cc in z);
+      gains = subst (λ (ts : List Turn). NoneGains c.args.self.now.known.nodes (times_queued c.args.self.now) c.meet_parents.new.known.nodes (λ id. times_in c.meet_parents.new.known.queue id + times_waiting ts id)) (sym met.turns)
+          (gains_before c.args.self.now.known.nodes c.meet_parents.new.known.nodes (times_in c.args.self.now.known.queue) (times_in c.meet_parents.new.known.queue) (times_waiting (turns_of c.args.self.now.known)) met.left);
+      rowed = λ r held. record {
+        tips = r.tips;
+        hidden = r.hidden;
+        queue = met.rowed rows r.queue held;
+        waiting_rows = subst (AllRowed rows) (sym met.turns) r.waiting_rows;
+      };
+      still = λ held. refl;
+    }
+
+pub returns-clause-meets : goal.returns-clause-meets
+returns-clause-meets g c =
+    let is : timing_of c.args.self.now.parents c.args.self.now.sorting ≡ Some c.in-Some.timing = sym c.time_order.ensures ∙ c.in-Some.is in
+    let rows = rows_of c.args.self.now.source.rows in
+    let before = c.args.self.now.source.lookups in
+    let after = c.await_parents.new.source.lookups in
+    let accepts = g.P.Accept.accepts c.args.self.now.predicate in
+    let some = c.in_ok-await_parents.ensures.some in
+    let (fresh, list, asks) = c.in_ok-await_parents.ensures.asked in
+    record {
+      met = fresh;
+      are_met = list;
+      asked = asks.asked;
+      times = subst (λ (t : Option Timing). CountsTimes t rows (accepted accepts fresh) before after) (sym is) asks.timed;
+      marks = c.in_ok-await_parents.ensures.met;
+      painted = some.painted;
+      behind = λ _. some.behind;
+      gains = subst (λ (zs : List ObjectId). NoneGains c.args.self.now.known.nodes (times_queued c.args.self.now) c.await_parents.new.known.nodes (λ id. times_in zs id + times_waiting (turns_of c.await_parents.new.known) id)) (sym some.queue)
+          (gains_behind c.args.self.now.known.nodes c.await_parents.new.known.nodes (times_waiting (turns_of c.args.self.now.known)) (times_waiting (turns_of c.await_parents.new.known)) (times_in c.args.self.now.known.queue) some.gains);
+      rowed = λ r held. in_rows c.args.self.now.source.rows (record c.args.self.now { source = c.await_parents.new.source; known = c.await_parents.new.known; predicate = c.await_parents.new.predicate }) c.await_parents.ensures.reads.rows r.tips r.hidden (subst (AllHeld rows) (sym some.queue) r.queue)
+          (awaits_rowed rows c.args.self.now.known c.args.parents.now c.await_parents.new.known some held r.waiting_rows);
+      still = λ held. counts_held rows (accepted accepts fresh) before after (λ x k. held x ((list.each x).0 (of_accepted accepts fresh x k).0).0) asks.timed;
+    }

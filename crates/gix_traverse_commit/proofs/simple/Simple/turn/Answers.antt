@@ -1,6 +1,4 @@
 use Rattle.std.proofs.Common.{inl, inr}
-use Rattle.gix_traverse_commit.specs.Simply.{times_queued}
-use Rattle.gix_traverse_commit_known.proofs.Ending.{gains_none}
 use Rattle.gix_traverse_commit.proofs.Rest.{begun_to, rest_turned}
 use Rattle.gix_traverse_commit.proofs.simple.Simple.turn.Goals as goal
 use Rattle.std.proofs.lemmas.Bool.{false_from_ne_true}
@@ -11,12 +9,6 @@ returns-then-not-self-clause-ahead g c = λ a m. elim m [
   | inr u ↦ (let b = begun_to g.P.Accept.accepts c.args.self.now a u in let f = c.if-not-self.true in let z : ⊥ = cc in absurd z)
 ]
 
-pub returns-then-not-self-clause-left : goal.returns-then-not-self-clause-left
-returns-then-not-self-clause-left g c = gains_none c.args.self.now.known.nodes (times_queued c.args.self.now)
-
-pub returns-clause-left : goal.returns-clause-left
-returns-clause-left g c = gains_none c.args.self.now.known.nodes (times_queued c.args.self.now)
-
 pub returns-clause-ahead : goal.returns-clause-ahead
 returns-clause-ahead g c = λ a m. elim m [
   | inl (inl n) ↦ (let b = n.begun in let f = c.if-not-self.false in let z : ⊥ = cc in absurd z)
@@ -25,5 +17,5 @@ returns-clause-ahead g c = λ a m. elim m [
       (false_from_ne_true c.is_idle-self.result (λ h. let both = c.is_idle-self.ensures.0 h in u.goes_on (record { begun = begun_to g.P.Accept.accepts c.args.self.now a u; empty = both.0; none_waits = both.1 }))))
 ]
 
-pub returns-then-not-self-clause-emptied : goal.returns-then-not-self-clause-emptied
-returns-then-not-self-clause-emptied g c = λ o. let b = o.begun in let f = c.if-not-self.true in let z : ⊥ = cc in absurd z
+pub returns-then-not-self-clause-over : goal.returns-then-not-self-clause-over
+returns-then-not-self-clause-over g c = λ o. let b = o.begun in let f = c.if-not-self.true in let z : ⊥ = cc in absurd z

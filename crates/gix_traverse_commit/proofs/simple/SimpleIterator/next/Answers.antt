@@ -1,4 +1,4 @@
-use Rattle.std.proofs.Common.{inl, inr, pos, ◌<◌, ◌≡◌, ◌∙◌, sym, refl, ap, subst, arith, ℕ, length, List, [], ◌∷◌, ◌++◌, Option, None, true, false, cond, ◌+◌}
+use Rattle.std.proofs.Common.{inl, inr, ◌<◌, ◌≡◌, ◌∙◌, sym, refl, ap, subst, arith, ℕ, length, List, [], ◌∷◌, ◌++◌, Option, None, true, false, cond, ◌+◌}
 use Rattle.gix_hash.specs.Id.{id_of}
 use Rattle.gix_hash.specs.declared.object_id.ObjectId.{ObjectId}
 use Rattle.std.specs.List.{sum_by}
@@ -34,15 +34,19 @@ no_way e = cc
 
 pub returns-in-Err-clause-steps : goal.returns-in-Err-clause-steps
 returns-in-Err-clause-steps g c = record {
-  objects = c.stop.ensures.objects ∙ c.ready.ensures.objects;
-  rows = c.stop.ensures.rows ∙ c.ready.ensures.rows;
+  objects = c.stop.ensures.store.objects ∙ c.ready.ensures.store.objects;
+  rows = c.stop.ensures.store.rows ∙ c.ready.ensures.store.rows;
   given = λ honest commits told a listed sure s. tt;
   end = λ honest commits told a listed sure s. tt;
-  refused = λ honest commits told a listed sure s. fault_more (λ _. ⊥) (IsTurn commits a listed) a.parents (g.F.Lookup.is_honest c.args.self.now.source.objects) (g.F.Lookup.may_fail c.args.self.now.source.objects) (rows_of c.args.self.now.source.rows) (g.F.Lookup.table c.args.self.now.source.objects) a.hidden c.in-Err.error (λ x z. absurd z) (c.in-Err.ensures.refused commits (g.F.Lookup.ids c.args.self.now.source.objects) a listed s);
+  refused = λ honest commits told a listed sure s. fault_more (λ _. ⊥) (IsTurn commits a listed) a.parents (g.F.Lookup.is_honest c.args.self.now.source.objects) (g.F.Lookup.may_fail c.args.self.now.source.objects) (rows_of c.args.self.now.source.rows) (g.F.Lookup.table c.args.self.now.source.objects) a.hidden c.in-Err.error (λ x z. absurd z) (elim s [
+    | inl (e, m) ↦ (c.in-Err.ensures.fails a m).cause
+    | inr (inl w) ↦ absurd (no_way (c.in-Err.ensures.same w.begun).0)
+    | inr (inr w) ↦ absurd (no_way (c.in-Err.ensures.same w.begun).0)
+  ]);
   failed = c.stop.ensures.over;
-  ended = λ o. absurd (no_way (c.in-Err.ensures.begun o.begun));
+  ended = λ o. absurd (no_way ((c.in-Err.ensures.same o.begun).0));
   content = tt;
-  counted = λ b n. absurd (no_way (c.in-Err.ensures.begun b));
+  counted = λ b n. absurd (no_way ((c.in-Err.ensures.same b).0));
   counted_one = λ b n. tt;
   counted_by_time = λ b. tt;
   rowed = λ r. tt;
@@ -52,7 +56,7 @@ returns-in-Err-clause-steps g c = record {
   content_end = tt;
   content_fault = c.stop.ensures.emptied;
   counted_end = λ b. tt;
-  counted_fault = λ b. absurd (no_way (c.in-Err.ensures.begun b));
+  counted_fault = λ b. absurd (no_way ((c.in-Err.ensures.same b).0));
   rowed_end = λ r. tt;
   first = λ a m. tt;
   first_end = λ a m. tt;
@@ -60,54 +64,54 @@ returns-in-Err-clause-steps g c = record {
   in_turn = λ b honest commits told. tt;
   in_turn_end = λ b by_time. tt;
   tips_end = λ a m honest commits told. tt;
-  in_turn_fault = λ b. absurd (no_way (c.in-Err.ensures.begun b));
+  in_turn_fault = λ b. absurd (no_way ((c.in-Err.ensures.same b).0));
   told = λ honest commits told. tt;
   stays = tt;
   paint_stays = λ b. tt;
   takes_one = tt;
   marks = λ b. tt;
   first_fault = λ a m. inl (record {
-    cause = c.in-Err.ensures.refused (λ _. record { parents = []; time = pos 0 }) (g.F.Lookup.ids c.args.self.now.source.objects) a [] (inl (refl, m));
-    counts = subst (λ (n : ℕ). CountsUnbegun (g.F.Lookup.is_honest c.args.self.now.source.objects) (rows_of c.args.self.now.source.rows) (g.F.Lookup.table c.args.self.now.source.objects) a.hidden c.args.self.now.source.lookups n c.in-Err.error) (sym c.stop.ensures.lookups) (c.in-Err.ensures.counted_fault a m);
+    cause = (c.in-Err.ensures.fails a m).cause;
+    counts = subst (λ (n : ℕ). CountsUnbegun (g.F.Lookup.is_honest c.args.self.now.source.objects) (rows_of c.args.self.now.source.rows) (g.F.Lookup.table c.args.self.now.source.objects) a.hidden c.args.self.now.source.lookups n c.in-Err.error) (sym c.stop.ensures.lookups) (c.in-Err.ensures.fails a m).counts;
   });
-  unasked_fault = inr (c.stop.ensures.predicate ∙ c.ready.ensures.predicate);
+  unasked_fault = inr (c.stop.ensures.store.unasked ∙ c.ready.ensures.store.unasked);
   kind_end = tt;
   queues = λ b some. tt;
 }
 
 pub returns-in_default-take-clause-steps : goal.returns-in_default-take-clause-steps
 returns-in_default-take-clause-steps g c =
-    let lookups : c.finish.new.self.source.lookups ≡ c.ready.new.self.source.lookups = ap (λ s. s.lookups) (c.finish.ensures.source ∙ c.take.ensures.source) in
+    let lookups : c.finish.new.self.source.lookups ≡ c.ready.new.self.source.lookups = ap (λ s. s.lookups) ((ap (λ w. w.source) c.finish.ensures.stays) ∙ (ap (λ w. w.source) c.take.ensures.stays)) in
     record {
-      objects = ap (λ s. s.objects) c.finish.ensures.source ∙ ap (λ s. s.objects) c.take.ensures.source ∙ c.ready.ensures.objects;
-      rows = ap (λ s. s.rows) c.finish.ensures.source ∙ ap (λ s. s.rows) c.take.ensures.source ∙ c.ready.ensures.rows;
+      objects = ap (λ s. s.objects) (ap (λ w. w.source) c.finish.ensures.stays) ∙ ap (λ s. s.objects) (ap (λ w. w.source) c.take.ensures.stays) ∙ c.ready.ensures.store.objects;
+      rows = ap (λ s. s.rows) (ap (λ w. w.source) c.finish.ensures.stays) ∙ ap (λ s. s.rows) (ap (λ w. w.source) c.take.ensures.stays) ∙ c.ready.ensures.store.rows;
       given = λ honest commits told a listed sure s. tt;
-      end = λ honest commits told a listed sure s. c.in_default-take.ensures.end (g.F.Lookup.ids c.args.self.now.source.objects) commits a listed (c.in_default.ensures.going honest commits told (g.F.Lookup.ids c.args.self.now.source.objects) a listed sure s);
+      end = λ honest commits told a listed sure s. c.in_default-take.ensures.ends.end (g.F.Lookup.ids c.args.self.now.source.objects) commits a listed (c.in_default.ensures.going honest commits told a listed sure s);
       refused = λ honest commits told a listed sure s. tt;
       failed = tt;
       ended = λ o. refl;
       content = tt;
-      counted = λ b n. let s = ap (λ walk. walk.source.lookups) (c.in_default.ensures.same b) in omega (arith, lookups, s);
+      counted = λ b n. let s = ap (λ walk. walk.source.lookups) ((c.in_default.ensures.same b).1) in omega (arith, lookups, s);
       counted_one = λ b n. tt;
       counted_by_time = λ b. tt;
       rowed = λ r. tt;
       meets = λ b. tt;
-      unasked = c.finish.ensures.predicate ∙ (c.take.ensures.predicate ∙ c.ready.ensures.predicate);
+      unasked = (ap (λ w. w.predicate) c.finish.ensures.stays) ∙ ((ap (λ w. w.predicate) c.take.ensures.stays) ∙ c.ready.ensures.store.unasked);
       over = c.finish.ensures.over;
-      content_end = ap (λ s. s.buffer.items) (c.finish.ensures.source ∙ c.take.ensures.source) ∙ c.in_default.ensures.content;
+      content_end = ap (λ s. s.buffer.items) ((ap (λ w. w.source) c.finish.ensures.stays) ∙ (ap (λ w. w.source) c.take.ensures.stays)) ∙ c.in_default.ensures.keeps.content;
       content_fault = tt;
-      counted_end = λ b. lookups ∙ ap (λ walk. walk.source.lookups) (c.in_default.ensures.same b);
+      counted_end = λ b. lookups ∙ ap (λ walk. walk.source.lookups) ((c.in_default.ensures.same b).1);
       counted_fault = λ b. tt;
-      rowed_end = λ r. lookups ∙ (c.in_default.ensures.rowed r).1;
+      rowed_end = λ r. lookups ∙ (c.in_default.ensures.keeps.rowed r).1;
       first = λ a m. tt;
-      first_end = λ a m. subst (λ (n : ℕ). CountsBeginning (g.F.Lookup.is_honest c.args.self.now.source.objects) (rows_of c.args.self.now.source.rows) (g.F.Lookup.table c.args.self.now.source.objects) a c.args.self.now.source.lookups n) (sym lookups) (c.in_default.ensures.counted a m);
+      first_end = λ a m. subst (λ (n : ℕ). CountsBeginning (g.F.Lookup.is_honest c.args.self.now.source.objects) (rows_of c.args.self.now.source.rows) (g.F.Lookup.table c.args.self.now.source.objects) a c.args.self.now.source.lookups n) (sym lookups) ((c.in_default.ensures.begins a m).beginning);
       falls = tt;
       in_turn = λ b honest commits told. tt;
-      in_turn_end = λ b by_time. subst (λ walk. IsSome (timing_of walk.parents walk.sorting) → turns_of walk.known ≡ []) (c.in_default.ensures.same b) c.in_default-take.ensures.none_waits by_time;
+      in_turn_end = λ b by_time. subst (λ walk. IsSome (timing_of walk.parents walk.sorting) → turns_of walk.known ≡ []) ((c.in_default.ensures.same b).1) c.in_default-take.ensures.ends.none_waits by_time;
       tips_end = (λ a m honest commits told.
           let order = made_order g.P.Accept.accepts a c.args.self.now m in
-          let same = timing_same a c.ready.new.self.parents c.ready.new.self.sorting (c.in_default.ensures.order.0 ∙ order.0) (c.in_default.ensures.order.1 ∙ order.1) in
-          none_awaited (timing a) (g.F.Lookup.may_fail c.args.self.now.source.objects) commits (IsWanted commits a) (turns_of c.ready.new.self.known) (λ some. c.in_default-take.ensures.none_waits (subst (λ (t : Option Timing). IsSome t) (sym same) some)) (c.in_default.ensures.awaits a m honest commits told));
+          let same = timing_same a c.ready.new.self.parents c.ready.new.self.sorting (c.in_default.ensures.keeps.stays.parents ∙ order.0) (c.in_default.ensures.keeps.stays.sorting ∙ order.1) in
+          none_awaited (timing a) (g.F.Lookup.may_fail c.args.self.now.source.objects) commits (IsWanted commits a) (turns_of c.ready.new.self.known) (λ some. c.in_default-take.ensures.ends.none_waits (subst (λ (t : Option Timing). IsSome t) (sym same) some)) ((c.in_default.ensures.begins a m).tips_wait honest commits told));
       in_turn_fault = λ b. tt;
       told = λ honest commits told. tt;
       stays = tt;
@@ -116,7 +120,7 @@ returns-in_default-take-clause-steps g c =
       marks = λ b. tt;
       first_fault = λ a m. tt;
       unasked_fault = tt;
-      kind_end = c.finish.ensures.kind ∙ (c.take.ensures.kind ∙ c.in_default.ensures.kind);
+      kind_end = (ap (λ w. w.kind) c.finish.ensures.stays) ∙ ((ap (λ w. w.kind) c.take.ensures.stays) ∙ c.in_default.ensures.keeps.kind);
       queues = λ b some. tt;
     }
 
@@ -125,9 +129,9 @@ returns-in-Ok-clause-steps g c =
     let rows = rows_of c.args.self.now.source.rows in
     let ids = g.F.Lookup.ids c.args.self.now.source.objects in
     let id : ObjectId = c.in-Some.id in
-    let objects : c.take.new.self.source.objects ≡ c.args.self.now.source.objects = ap (λ s. s.objects) c.take.ensures.source ∙ c.ready.ensures.objects in
-    let same_rows : c.take.new.self.source.rows ≡ c.args.self.now.source.rows = ap (λ s. s.rows) c.take.ensures.source ∙ c.ready.ensures.rows in
-    let in_order : timing_of c.take.new.self.parents c.take.new.self.sorting ≡ timing_of c.ready.new.self.parents c.ready.new.self.sorting = ap (λ (p : Parents). timing_of p c.take.new.self.sorting) c.take.ensures.order.0 ∙ ap (λ (s : Sorting). timing_of c.ready.new.self.parents s) c.take.ensures.order.1 in
+    let objects : c.take.new.self.source.objects ≡ c.args.self.now.source.objects = ap (λ s. s.objects) (ap (λ w. w.source) c.take.ensures.stays) ∙ c.ready.ensures.store.objects in
+    let same_rows : c.take.new.self.source.rows ≡ c.args.self.now.source.rows = ap (λ s. s.rows) (ap (λ w. w.source) c.take.ensures.stays) ∙ c.ready.ensures.store.rows in
+    let in_order : timing_of c.take.new.self.parents c.take.new.self.sorting ≡ timing_of c.ready.new.self.parents c.ready.new.self.sorting = ap (λ (p : Parents). timing_of p c.take.new.self.sorting) (ap (λ w. w.parents) c.take.ensures.stays) ∙ ap (λ (s : Sorting). timing_of c.ready.new.self.parents s) (ap (λ w. w.sorting) c.take.ensures.stays) in
     let may_fail = g.F.Lookup.may_fail c.args.self.now.source.objects in
     let order = timing_of c.ready.new.self.parents c.ready.new.self.sorting in
     let comes : g.F.Lookup.is_honest c.args.self.now.source.objects → (commits : Commits ObjectId) → AreTold rows (g.F.Lookup.table c.args.self.now.source.objects) commits → ComesInTurn g.P.Accept.accepts may_fail commits c.ready.new.self c.in-Ok.info c.enter.new.self = (λ honest commits told.
@@ -139,26 +143,26 @@ returns-in-Ok-clause-steps g c =
     let p' = c.take.new.self.predicate in
     let here = subst (λ (o : g.row.F.Denot). LetsWaitIn (timing_of c.take.new.self.parents c.take.new.self.sorting) (g.F.Lookup.may_fail o) commits (IsMetWith g.P.Accept.accepts c.take.new.self ps) turns turns') objects (c.in-Ok.ensures.awaits honest' commits told') in
     let timed = subst (λ (t : Option Timing). LetsWaitIn t may_fail commits (IsMetWith g.P.Accept.accepts c.take.new.self ps) turns turns') in_order here in
-    let nodes = subst (λ (ns : List Node). LetsWaitIn order may_fail commits (λ x. IsFresh ns ps x × (g.P.Accept.accepts p' (id_of x) ≡ true)) turns turns') c.take.ensures.nodes timed in
+    let nodes = subst (λ (ns : List Node). LetsWaitIn order may_fail commits (λ x. IsFresh ns ps x × (g.P.Accept.accepts p' (id_of x) ≡ true)) turns turns') c.in-Some.ensures.takes.nodes timed in
     record {
       others = turns;
-      taken = subst (λ (x : ObjectId). TakesTurn order (turns_of c.ready.new.self.known) x turns) (sym c.in-Ok.ensures.id) c.in-Some.ensures.waiting;
-      parents = subst (λ (p : g.row.P.Denot). LetsWaitIn order may_fail commits (λ x. IsFresh c.ready.new.self.known.nodes ps x × (g.P.Accept.accepts p (id_of x) ≡ true)) turns turns') c.take.ensures.predicate nodes;
+      taken = subst (λ (x : ObjectId). TakesTurn order (turns_of c.ready.new.self.known) x turns) (sym c.in-Ok.ensures.comes.same) c.in-Some.ensures.takes.waiting;
+      parents = subst (λ (p : g.row.P.Denot). LetsWaitIn order may_fail commits (λ x. IsFresh c.ready.new.self.known.nodes ps x × (g.P.Accept.accepts p (id_of x) ≡ true)) turns turns') (ap (λ w. w.predicate) c.take.ensures.stays) nodes;
     }) in
     let queued : IsSome order → KeepsOrder c.ready.new.self c.in-Ok.info c.enter.new.self = (λ some. record {
       between = c.take.new.self.known;
-      nodes = c.take.ensures.nodes;
-      order = c.in-Some.ensures.queueing some;
-      taken = subst (λ (x : ObjectId). TakesTurn order (turns_of c.ready.new.self.known) x (turns_of c.take.new.self.known)) (sym c.in-Ok.ensures.id) c.in-Some.ensures.waiting;
-      behind = c.in-Ok.ensures.behind (subst (λ (t : Option Timing). IsSome t) (sym in_order) some);
+      nodes = c.in-Some.ensures.takes.nodes;
+      order = c.in-Some.ensures.takes.queueing some;
+      taken = subst (λ (x : ObjectId). TakesTurn order (turns_of c.ready.new.self.known) x (turns_of c.take.new.self.known)) (sym c.in-Ok.ensures.comes.same) c.in-Some.ensures.takes.waiting;
+      behind = c.in-Ok.ensures.comes.behind (subst (λ (t : Option Timing). IsSome t) (sym in_order) some);
     }) in
-    let known : IsKnown rows ids id = subst (λ (o : g.row.F.Denot). IsKnown rows (g.F.Lookup.ids o) id) objects (subst (λ (r : Option (List Row)). IsKnown (rows_of r) (g.F.Lookup.ids c.take.new.self.source.objects) id) same_rows c.in-Ok.ensures.known) in
+    let known : IsKnown rows ids id = subst (λ (o : g.row.F.Denot). IsKnown rows (g.F.Lookup.ids o) id) objects (subst (λ (r : Option (List Row)). IsKnown (rows_of r) (g.F.Lookup.ids c.take.new.self.source.objects) id) same_rows c.in-Ok.ensures.comes.known) in
     record {
       objects = c.enter.ensures.objects ∙ objects;
       rows = c.enter.ensures.rows ∙ same_rows;
       given = (λ honest commits told a listed sure s.
-          let w = c.in_default.ensures.going honest commits told ids a listed sure s in
-          let (at, turn) = c.in-Some.ensures.turn ids commits a listed w in
+          let w = c.in_default.ensures.going honest commits told a listed sure s in
+          let (at, turn) = c.in-Some.ensures.takes.turn ids commits a listed w in
           let honest' = subst (λ (o : g.row.F.Denot). g.F.Lookup.is_honest o) (sym objects) honest in
           let sure' = subst (λ (o : g.row.F.Denot). IsSure (g.F.Lookup.may_fail o) a) (sym objects) sure in
           let told' = subst (λ (o : g.row.F.Denot). AreTold (rows_of c.take.new.self.source.rows) (g.F.Lookup.table o) commits) (sym objects) (subst (λ (r : Option (List Row)). AreTold (rows_of r) (g.F.Lookup.table c.args.self.now.source.objects) commits) (sym same_rows) told) in
@@ -167,36 +171,36 @@ returns-in-Ok-clause-steps g c =
           record {
             told = subst (λ (p : Parents). IsInfo commits rows p a.sorting c.in-Ok.info) parents (subst (λ (s : Sorting). IsInfo commits rows c.take.new.self.parents s c.in-Ok.info) sorting (subst (λ (o : Option (List Row)). IsInfo commits (rows_of o) c.take.new.self.parents c.take.new.self.sorting c.in-Ok.info) same_rows (c.in-Ok.ensures.told honest' commits told')));
             fewer = at_fewer g.P.Accept.accepts ids commits a listed id c.take.new.self rows (sym (ap rows_of same_rows)) known at;
-            stands = subst (λ (x : ObjectId). IsUnderWay g.P.Accept.accepts ids commits a (listed ++ x ∷ []) c.enter.new.self) (sym c.in-Ok.ensures.id) (subst (λ (o : g.row.F.Denot). IsUnderWay g.P.Accept.accepts (g.F.Lookup.ids o) commits a (listed ++ id ∷ []) c.enter.new.self) objects under);
+            stands = subst (λ (x : ObjectId). IsUnderWay g.P.Accept.accepts ids commits a (listed ++ x ∷ []) c.enter.new.self) (sym c.in-Ok.ensures.comes.same) (subst (λ (o : g.row.F.Denot). IsUnderWay g.P.Accept.accepts (g.F.Lookup.ids o) commits a (listed ++ id ∷ []) c.enter.new.self) objects under);
           });
       end = λ honest commits told a listed sure s. tt;
       refused = λ honest commits told a listed sure s. tt;
       failed = tt;
-      ended = (λ o. let e = c.in_default.ensures.same o.begun in let over : IsOver c.ready.new.self = subst IsOver (sym e) o in let h = rw c.in-Some.is at (c.take.ensures.ended over) in absurd (no_way (sym h)));
-      content = subst (λ (x : ObjectId). IsContentOf (g.F.Lookup.is_honest c.args.self.now.source.objects) rows (g.F.Lookup.table c.args.self.now.source.objects) x c.enter.new.self.source.buffer.items × (c.enter.new.self.kind ≡ (id_of x).kind)) (sym c.in-Ok.ensures.id)
+      ended = (λ o. let e = (c.in_default.ensures.same o.begun).1 in let over : IsOver c.ready.new.self = subst IsOver (sym e) o in let h = rw c.in-Some.is at (c.take.ensures.ended over) in absurd (no_way (sym h)));
+      content = subst (λ (x : ObjectId). IsContentOf (g.F.Lookup.is_honest c.args.self.now.source.objects) rows (g.F.Lookup.table c.args.self.now.source.objects) x c.enter.new.self.source.buffer.items × (c.enter.new.self.kind ≡ (id_of x).kind)) (sym c.in-Ok.ensures.comes.same)
           (subst (λ (o : g.row.F.Denot). IsContentOf (g.F.Lookup.is_honest o) rows (g.F.Lookup.table o) id c.enter.new.self.source.buffer.items × (c.enter.new.self.kind ≡ (id_of id).kind)) objects
-          (subst (λ (r : Option (List Row)). IsContentOf (g.F.Lookup.is_honest c.take.new.self.source.objects) (rows_of r) (g.F.Lookup.table c.take.new.self.source.objects) id c.enter.new.self.source.buffer.items × (c.enter.new.self.kind ≡ (id_of id).kind)) same_rows c.in-Ok.ensures.content));
-      counted = (λ b n. let s = c.in_default.ensures.same b in let f = c.take.ensures.source in let e : c.take.new.self.source.lookups ≡ c.args.self.now.source.lookups = cc in
-          let m : timing_of c.take.new.self.parents c.take.new.self.sorting ≡ None = (let p = c.take.ensures.order.0 in let q = c.take.ensures.order.1 in ap (λ (x : Parents). timing_of x c.take.new.self.sorting) p ∙ (ap (λ (x : Sorting). timing_of c.ready.new.self.parents x) q ∙ (ap (λ walk. timing_of walk.parents walk.sorting) s ∙ n))) in
-          omega (arith, c.enter.ensures.in_breadth m));
-      counted_one = (λ b n. let s = c.in_default.ensures.same b in let f = c.take.ensures.source in let e : c.take.new.self.source.lookups ≡ c.args.self.now.source.lookups = cc in
-          let m : timing_of c.take.new.self.parents c.take.new.self.sorting ≡ None = (let p = c.take.ensures.order.0 in let q = c.take.ensures.order.1 in ap (λ (x : Parents). timing_of x c.take.new.self.sorting) p ∙ (ap (λ (x : Sorting). timing_of c.ready.new.self.parents x) q ∙ (ap (λ walk. timing_of walk.parents walk.sorting) s ∙ n))) in
-          subst (λ (x : ObjectId). CountsOne rows x c.args.self.now.source.lookups c.enter.new.self.source.lookups) (sym c.in-Ok.ensures.id)
+          (subst (λ (r : Option (List Row)). IsContentOf (g.F.Lookup.is_honest c.take.new.self.source.objects) (rows_of r) (g.F.Lookup.table c.take.new.self.source.objects) id c.enter.new.self.source.buffer.items × (c.enter.new.self.kind ≡ (id_of id).kind)) same_rows (c.in-Ok.ensures.comes.content, c.in-Ok.ensures.comes.kind)));
+      counted = (λ b n. let s = (c.in_default.ensures.same b).1 in let f = (ap (λ w. w.source) c.take.ensures.stays) in let e : c.take.new.self.source.lookups ≡ c.args.self.now.source.lookups = cc in
+          let m : timing_of c.take.new.self.parents c.take.new.self.sorting ≡ None = (let p = (ap (λ w. w.parents) c.take.ensures.stays) in let q = (ap (λ w. w.sorting) c.take.ensures.stays) in ap (λ (x : Parents). timing_of x c.take.new.self.sorting) p ∙ (ap (λ (x : Sorting). timing_of c.ready.new.self.parents x) q ∙ (ap (λ walk. timing_of walk.parents walk.sorting) s ∙ n))) in
+          omega (arith, c.in-Ok.ensures.comes.in_breadth m));
+      counted_one = (λ b n. let s = (c.in_default.ensures.same b).1 in let f = (ap (λ w. w.source) c.take.ensures.stays) in let e : c.take.new.self.source.lookups ≡ c.args.self.now.source.lookups = cc in
+          let m : timing_of c.take.new.self.parents c.take.new.self.sorting ≡ None = (let p = (ap (λ w. w.parents) c.take.ensures.stays) in let q = (ap (λ w. w.sorting) c.take.ensures.stays) in ap (λ (x : Parents). timing_of x c.take.new.self.sorting) p ∙ (ap (λ (x : Sorting). timing_of c.ready.new.self.parents x) q ∙ (ap (λ walk. timing_of walk.parents walk.sorting) s ∙ n))) in
+          subst (λ (x : ObjectId). CountsOne rows x c.args.self.now.source.lookups c.enter.new.self.source.lookups) (sym c.in-Ok.ensures.comes.same)
           (subst (λ (n : ℕ). CountsOne rows id n c.enter.new.self.source.lookups) e
-          (subst (λ (r : Option (List Row)). CountsOne (rows_of r) id c.take.new.self.source.lookups c.enter.new.self.source.lookups) same_rows (c.in-Ok.ensures.one m))));
-      counted_by_time = (λ b. let s = c.in_default.ensures.same b in let f = c.take.ensures.source in let e : c.take.new.self.source.lookups ≡ c.args.self.now.source.lookups = cc in
+          (subst (λ (r : Option (List Row)). CountsOne (rows_of r) id c.take.new.self.source.lookups c.enter.new.self.source.lookups) same_rows (c.in-Ok.ensures.comes.one m))));
+      counted_by_time = (λ b. let s = (c.in_default.ensures.same b).1 in let f = (ap (λ w. w.source) c.take.ensures.stays) in let e : c.take.new.self.source.lookups ≡ c.args.self.now.source.lookups = cc in
           let more : ℕ = length c.in-Ok.info.parent_ids.items in
-          subst (λ (x : ObjectId). CountsUpTo rows x more c.args.self.now.source.lookups c.enter.new.self.source.lookups) (sym c.in-Ok.ensures.id)
+          subst (λ (x : ObjectId). CountsUpTo rows x more c.args.self.now.source.lookups c.enter.new.self.source.lookups) (sym c.in-Ok.ensures.comes.same)
           (subst (λ (n : ℕ). CountsUpTo rows id more n c.enter.new.self.source.lookups) e
-          (subst (λ (r : Option (List Row)). CountsUpTo (rows_of r) id more c.take.new.self.source.lookups c.enter.new.self.source.lookups) same_rows c.in-Ok.ensures.counted)));
+          (subst (λ (r : Option (List Row)). CountsUpTo (rows_of r) id more c.take.new.self.source.lookups c.enter.new.self.source.lookups) same_rows c.in-Ok.ensures.comes.counted)));
       rowed = (λ r.
-          let (r', e) = c.in_default.ensures.rowed r in
-          let (r2, held) = c.in-Some.ensures.rowed r' in
-          let (n, f) = c.in-Ok.ensures.rowed r2 (subst (λ s. Holds (rows_of s.rows) id) (sym c.take.ensures.source) held) in
-          (n, f ∙ (ap (λ s. s.lookups) c.take.ensures.source ∙ e)));
-      meets = (λ b. let s = c.in_default.ensures.same b in
+          let (r', e) = c.in_default.ensures.keeps.rowed r in
+          let (r2, held) = c.in-Some.ensures.takes.rowed r' in
+          let (n, f) = c.in-Ok.ensures.comes.rowed r2 (subst (λ s. Holds (rows_of s.rows) id) (sym (ap (λ w. w.source) c.take.ensures.stays)) held) in
+          (n, f ∙ (ap (λ s. s.lookups) (ap (λ w. w.source) c.take.ensures.stays) ∙ e)));
+      meets = (λ b. let s = (c.in_default.ensures.same b).1 in
           meets_moved g.P.Accept.accepts g.P.Accept.goes (rows_of c.take.new.self.source.rows) rows c.take.new.self.known.nodes c.args.self.now.known.nodes (timing_of c.take.new.self.parents c.take.new.self.sorting) (timing_of c.args.self.now.parents c.args.self.now.sorting) c.in-Ok.info c.take.new.self.predicate c.args.self.now.predicate c.take.new.self.source.lookups c.args.self.now.source.lookups c.enter.new.self.predicate c.enter.new.self.source.lookups
-          (ap rows_of same_rows) (c.take.ensures.nodes ∙ ap (λ walk. walk.known.nodes) s) (in_order ∙ ap (λ walk. timing_of walk.parents walk.sorting) s) (c.take.ensures.predicate ∙ ap (λ walk. walk.predicate) s) (ap (λ source. source.lookups) c.take.ensures.source ∙ ap (λ walk. walk.source.lookups) s) c.in-Ok.ensures.met);
+          (ap rows_of same_rows) (c.in-Some.ensures.takes.nodes ∙ ap (λ walk. walk.known.nodes) s) (in_order ∙ ap (λ walk. timing_of walk.parents walk.sorting) s) ((ap (λ w. w.predicate) c.take.ensures.stays) ∙ ap (λ walk. walk.predicate) s) (ap (λ source. source.lookups) (ap (λ w. w.source) c.take.ensures.stays) ∙ ap (λ walk. walk.source.lookups) s) c.in-Ok.ensures.comes.meets);
       unasked = tt;
       over = tt;
       content_end = tt;
@@ -205,79 +209,69 @@ returns-in-Ok-clause-steps g c =
       counted_fault = λ b. tt;
       rowed_end = λ r. tt;
       first = (λ a m.
-          let f : c.take.new.self.source.lookups ≡ c.ready.new.self.source.lookups = ap (λ s. s.lookups) c.take.ensures.source in
+          let f : c.take.new.self.source.lookups ≡ c.ready.new.self.source.lookups = ap (λ s. s.lookups) (ap (λ w. w.source) c.take.ensures.stays) in
           let more : ℕ = length c.in-Ok.info.parent_ids.items in
           let order = made_order g.P.Accept.accepts a c.args.self.now m in
-          let parents : c.take.new.self.parents ≡ a.parents = c.take.ensures.order.0 ∙ (c.in_default.ensures.order.0 ∙ order.0) in
-          let sorting : c.take.new.self.sorting ≡ a.sorting = c.take.ensures.order.1 ∙ (c.in_default.ensures.order.1 ∙ order.1) in
+          let parents : c.take.new.self.parents ≡ a.parents = (ap (λ w. w.parents) c.take.ensures.stays) ∙ (c.in_default.ensures.keeps.stays.parents ∙ order.0) in
+          let sorting : c.take.new.self.sorting ≡ a.sorting = (ap (λ w. w.sorting) c.take.ensures.stays) ∙ (c.in_default.ensures.keeps.stays.sorting ∙ order.1) in
           record {
             begun = c.ready.new.self;
-            begins = record {
-              under_way = λ honest commits told sure. c.in_default.ensures.going honest commits told ids a [] sure (inl (refl, m));
-              unasked = c.ready.ensures.predicate;
-              beginning = c.in_default.ensures.counted a m;
-              order = (let order = made_order g.P.Accept.accepts a c.args.self.now m in timing_same a c.ready.new.self.parents c.ready.new.self.sorting (c.ready.ensures.order.0 ∙ order.0) (c.ready.ensures.order.1 ∙ order.1));
-              tips_wait = λ honest commits told. c.in_default.ensures.awaits a m honest commits told;
-              stays = c.in_default.ensures.stays;
-              painted = λ honest commits told. c.in_default.ensures.painted a m honest commits told;
-              met = c.in_default.ensures.met a m;
-              gains = c.in_default.ensures.left;
-            };
+            begins = c.in_default.ensures.begins a m;
             meets = meets_moved g.P.Accept.accepts g.P.Accept.goes (rows_of c.take.new.self.source.rows) rows c.take.new.self.known.nodes c.ready.new.self.known.nodes (timing_of c.take.new.self.parents c.take.new.self.sorting) (timing_of c.ready.new.self.parents c.ready.new.self.sorting) c.in-Ok.info c.take.new.self.predicate c.ready.new.self.predicate c.take.new.self.source.lookups c.ready.new.self.source.lookups c.enter.new.self.predicate c.enter.new.self.source.lookups
-                (ap rows_of same_rows) c.take.ensures.nodes in_order c.take.ensures.predicate f c.in-Ok.ensures.met;
-            one = (λ n. subst (λ (x : ObjectId). CountsOne rows x c.ready.new.self.source.lookups c.enter.new.self.source.lookups) (sym c.in-Ok.ensures.id)
+                (ap rows_of same_rows) c.in-Some.ensures.takes.nodes in_order (ap (λ w. w.predicate) c.take.ensures.stays) f c.in-Ok.ensures.comes.meets;
+            one = (λ n. subst (λ (x : ObjectId). CountsOne rows x c.ready.new.self.source.lookups c.enter.new.self.source.lookups) (sym c.in-Ok.ensures.comes.same)
                 (subst (λ (k : ℕ). CountsOne rows id k c.enter.new.self.source.lookups) f
-                (subst (λ (r : Option (List Row)). CountsOne (rows_of r) id c.take.new.self.source.lookups c.enter.new.self.source.lookups) same_rows (c.in-Ok.ensures.one (timing_same a c.take.new.self.parents c.take.new.self.sorting parents sorting ∙ n)))));
-            more = subst (λ (x : ObjectId). CountsUpTo rows x more c.ready.new.self.source.lookups c.enter.new.self.source.lookups) (sym c.in-Ok.ensures.id)
+                (subst (λ (r : Option (List Row)). CountsOne (rows_of r) id c.take.new.self.source.lookups c.enter.new.self.source.lookups) same_rows (c.in-Ok.ensures.comes.one (timing_same a c.take.new.self.parents c.take.new.self.sorting parents sorting ∙ n)))));
+            more = subst (λ (x : ObjectId). CountsUpTo rows x more c.ready.new.self.source.lookups c.enter.new.self.source.lookups) (sym c.in-Ok.ensures.comes.same)
                 (subst (λ (k : ℕ). CountsUpTo rows id more k c.enter.new.self.source.lookups) f
-                (subst (λ (r : Option (List Row)). CountsUpTo (rows_of r) id more c.take.new.self.source.lookups c.enter.new.self.source.lookups) same_rows c.in-Ok.ensures.counted));
+                (subst (λ (r : Option (List Row)). CountsUpTo (rows_of r) id more c.take.new.self.source.lookups c.enter.new.self.source.lookups) same_rows c.in-Ok.ensures.comes.counted));
             in_turn = comes;
-            queues = λ some. queued (subst (λ (t : Option Timing). IsSome t) (sym (timing_same a c.ready.new.self.parents c.ready.new.self.sorting (c.ready.ensures.order.0 ∙ order.0) (c.ready.ensures.order.1 ∙ order.1))) some);
-            marks = subst (λ (ns : List Node). MarksMet ns c.in-Ok.info.parent_ids.items c.enter.new.self.known.nodes) c.take.ensures.nodes c.in-Ok.ensures.marks;
-            paint_stays = λ x. c.in-Ok.ensures.painted x ∙ ap (λ (ns : List Node). is_hidden ns x) c.take.ensures.nodes;
+            queues = λ some. queued (subst (λ (t : Option Timing). IsSome t) (sym (timing_same a c.ready.new.self.parents c.ready.new.self.sorting (c.in_default.ensures.keeps.stays.parents ∙ order.0) (c.in_default.ensures.keeps.stays.sorting ∙ order.1))) some);
+            marks = subst (λ (ns : List Node). MarksMet ns c.in-Ok.info.parent_ids.items c.enter.new.self.known.nodes) c.in-Some.ensures.takes.nodes c.in-Ok.ensures.comes.marks;
+            paint_stays = λ x. c.in-Ok.ensures.comes.painted x ∙ ap (λ (ns : List Node). is_hidden ns x) c.in-Some.ensures.takes.nodes;
           });
       first_end = λ a m. tt;
-      in_turn = λ b honest commits told. subst (λ walk. ComesInTurn g.P.Accept.accepts (g.F.Lookup.may_fail c.args.self.now.source.objects) commits walk c.in-Ok.info c.enter.new.self) (c.in_default.ensures.same b) (comes honest commits told);
+      in_turn = λ b honest commits told. subst (λ walk. ComesInTurn g.P.Accept.accepts (g.F.Lookup.may_fail c.args.self.now.source.objects) commits walk c.in-Ok.info c.enter.new.self) ((c.in_default.ensures.same b).1) (comes honest commits told);
       in_turn_end = λ b by_time. tt;
       tips_end = λ a m honest commits told. tt;
       in_turn_fault = λ b. tt;
       told = (λ honest commits told.
           let honest' = subst (λ (o : g.row.F.Denot). g.F.Lookup.is_honest o) (sym objects) honest in
           let told' = subst (λ (o : g.row.F.Denot). AreTold (rows_of c.take.new.self.source.rows) (g.F.Lookup.table o) commits) (sym objects) (subst (λ (r : Option (List Row)). AreTold (rows_of r) (g.F.Lookup.table c.args.self.now.source.objects) commits) (sym same_rows) told) in
-          let parents : c.take.new.self.parents ≡ c.args.self.now.parents = c.take.ensures.order.0 ∙ c.ready.ensures.order.0 in
-          let sorting : c.take.new.self.sorting ≡ c.args.self.now.sorting = c.take.ensures.order.1 ∙ c.ready.ensures.order.1 in
+          let parents : c.take.new.self.parents ≡ c.args.self.now.parents = (ap (λ w. w.parents) c.take.ensures.stays) ∙ c.in_default.ensures.keeps.stays.parents in
+          let sorting : c.take.new.self.sorting ≡ c.args.self.now.sorting = (ap (λ w. w.sorting) c.take.ensures.stays) ∙ c.in_default.ensures.keeps.stays.sorting in
           subst (λ (p : Parents). IsInfo commits rows p c.args.self.now.sorting c.in-Ok.info) parents (subst (λ (s : Sorting). IsInfo commits rows c.take.new.self.parents s c.in-Ok.info) sorting (subst (λ (o : Option (List Row)). IsInfo commits (rows_of o) c.take.new.self.parents c.take.new.self.sorting c.in-Ok.info) same_rows (c.in-Ok.ensures.told honest' commits told'))));
       stays = (
-          let r = c.in_default.ensures.stays in
-          let e = c.in-Ok.ensures.stays (c.take.ensures.stays.1 ∙ r.begun) in
+          let r = c.in_default.ensures.keeps.stays in
+          let e = c.in-Ok.ensures.comes.stays ((ap (λ w. w.begun) c.take.ensures.stays) ∙ r.begun) in
           record {
             begun = e.begun;
-            parents = e.parents ∙ (c.take.ensures.order.0 ∙ r.parents);
-            sorting = e.sorting ∙ (c.take.ensures.order.1 ∙ r.sorting);
-            hidden = e.hidden ∙ (ap (λ v. v.items) c.take.ensures.stays.0 ∙ r.hidden);
+            parents = e.parents ∙ ((ap (λ w. w.parents) c.take.ensures.stays) ∙ r.parents);
+            sorting = e.sorting ∙ ((ap (λ w. w.sorting) c.take.ensures.stays) ∙ r.sorting);
+            hidden = e.hidden ∙ (ap (λ w. w.hidden.items) c.take.ensures.stays ∙ r.hidden);
           });
-      paint_stays = λ b. λ x. c.in-Ok.ensures.painted x ∙ ap (λ (ns : List Node). is_hidden ns x) (c.take.ensures.nodes ∙ ap (λ walk. walk.known.nodes) (c.in_default.ensures.same b));
+      paint_stays = λ b. λ x. c.in-Ok.ensures.comes.painted x ∙ ap (λ (ns : List Node). is_hidden ns x) (c.in-Some.ensures.takes.nodes ∙ ap (λ walk. walk.known.nodes) ((c.in_default.ensures.same b).1));
       takes_one = λ x. (
-          let a = c.in_default.ensures.left x in
-          let b = c.in-Some.ensures.less (id_of x) in
-          let d = c.in-Ok.ensures.left x in
-          let e = ap (λ nodes. may_come nodes (times_queued c.take.new.self) (id_of x)) c.take.ensures.nodes in
-          let f = ap (λ (z : ObjectId). times_in (z ∷ []) (id_of x)) c.in-Ok.ensures.id in
+          let a = c.in_default.ensures.keeps.gains x in
+          let b = c.in-Some.ensures.takes.less (id_of x) in
+          let d = c.in-Ok.ensures.comes.gains x in
+          let e = ap (λ nodes. may_come nodes (times_queued c.take.new.self) (id_of x)) c.in-Some.ensures.takes.nodes in
+          let f = ap (λ (z : ObjectId). times_in (z ∷ []) (id_of x)) c.in-Ok.ensures.comes.same in
           omega (arith, a, b, d, e, f));
-      marks = λ b. subst (λ (ns : List Node). MarksMet ns c.in-Ok.info.parent_ids.items c.enter.new.self.known.nodes) (c.take.ensures.nodes ∙ ap (λ walk. walk.known.nodes) (c.in_default.ensures.same b)) c.in-Ok.ensures.marks;
+      marks = λ b. subst (λ (ns : List Node). MarksMet ns c.in-Ok.info.parent_ids.items c.enter.new.self.known.nodes) (c.in-Some.ensures.takes.nodes ∙ ap (λ walk. walk.known.nodes) ((c.in_default.ensures.same b).1)) c.in-Ok.ensures.comes.marks;
       first_fault = λ a m. tt;
       unasked_fault = tt;
       kind_end = tt;
-      queues = λ b some. subst (λ walk. KeepsOrder walk c.in-Ok.info c.enter.new.self) (c.in_default.ensures.same b) (queued (subst (λ walk. IsSome (timing_of walk.parents walk.sorting)) (sym (c.in_default.ensures.same b)) some));
+      queues = λ b some. subst (λ walk. KeepsOrder walk c.in-Ok.info c.enter.new.self) ((c.in_default.ensures.same b).1) (queued (subst (λ walk. IsSome (timing_of walk.parents walk.sorting)) (sym ((c.in_default.ensures.same b).1)) some));
       falls = (
           let now = ap rows_of (c.enter.ensures.rows ∙ same_rows) in
           let old = c.args.self.now in
           let new = c.enter.new.self in
           let left = left_falls rows ids old.known.nodes new.known.nodes old.known.queue new.known.queue (turns_of old.known) (turns_of new.known) id known (λ x.
-          let a = c.in_default.ensures.left x in
-          let b = c.in-Some.ensures.less (id_of x) in
-          let d = c.in-Ok.ensures.left x in
-          let e = ap (λ nodes. may_come nodes (times_queued c.take.new.self) (id_of x)) c.take.ensures.nodes in
+          let a = c.in_default.ensures.keeps.gains x in
+          let b = c.in-Some.ensures.takes.less (id_of x) in
+          let d = c.in-Ok.ensures.comes.gains x in
+          let e = ap (λ nodes. may_come nodes (times_queued c.take.new.self) (id_of x)) c.in-Some.ensures.takes.nodes in
           omega (arith, a, b, d, e)) in
           subst (λ (r : List Row). sum_by (may_come new.known.nodes (times_queued new)) (known_ids r ids) < left_of ids old) (sym now) left);
     }
@@ -287,29 +281,29 @@ returns-in-Err-enter-clause-steps g c =
     let id : ObjectId = c.in-Some.id in
     let error = c.in-Err-enter.error in
     let ids = g.F.Lookup.ids c.args.self.now.source.objects in
-    let objects : c.take.new.self.source.objects ≡ c.args.self.now.source.objects = ap (λ s. s.objects) c.take.ensures.source ∙ c.ready.ensures.objects in
-    let same_rows : c.take.new.self.source.rows ≡ c.args.self.now.source.rows = ap (λ s. s.rows) c.take.ensures.source ∙ c.ready.ensures.rows in
-    let along : c.take.new.self.parents ≡ c.ready.new.self.parents = c.take.ensures.order.0 in
+    let objects : c.take.new.self.source.objects ≡ c.args.self.now.source.objects = ap (λ s. s.objects) (ap (λ w. w.source) c.take.ensures.stays) ∙ c.ready.ensures.store.objects in
+    let same_rows : c.take.new.self.source.rows ≡ c.args.self.now.source.rows = ap (λ s. s.rows) (ap (λ w. w.source) c.take.ensures.stays) ∙ c.ready.ensures.store.rows in
+    let along : c.take.new.self.parents ≡ c.ready.new.self.parents = (ap (λ w. w.parents) c.take.ensures.stays) in
     let fault = subst (λ (p : Parents). StopsFetch p (g.F.Lookup.is_honest c.args.self.now.source.objects) (g.F.Lookup.may_fail c.args.self.now.source.objects) (rows_of c.args.self.now.source.rows) (g.F.Lookup.table c.args.self.now.source.objects) id error) along
     (subst (λ (o : g.row.F.Denot). StopsFetch c.take.new.self.parents (g.F.Lookup.is_honest o) (g.F.Lookup.may_fail o) (rows_of c.args.self.now.source.rows) (g.F.Lookup.table o) id error) objects
-    (subst (λ (r : Option (List Row)). StopsFetch c.take.new.self.parents (g.F.Lookup.is_honest c.take.new.self.source.objects) (g.F.Lookup.may_fail c.take.new.self.source.objects) (rows_of r) (g.F.Lookup.table c.take.new.self.source.objects) id error) same_rows c.in-Err-enter.ensures.refused)) in
+    (subst (λ (r : Option (List Row)). StopsFetch c.take.new.self.parents (g.F.Lookup.is_honest c.take.new.self.source.objects) (g.F.Lookup.may_fail c.take.new.self.source.objects) (rows_of r) (g.F.Lookup.table c.take.new.self.source.objects) id error) same_rows c.in-Err-enter.ensures.fails.cause)) in
     record {
-      objects = c.stop-in-Err-enter.ensures.objects ∙ (c.enter.ensures.objects ∙ objects);
-      rows = c.stop-in-Err-enter.ensures.rows ∙ (c.enter.ensures.rows ∙ same_rows);
+      objects = c.stop-in-Err-enter.ensures.store.objects ∙ (c.enter.ensures.objects ∙ objects);
+      rows = c.stop-in-Err-enter.ensures.store.rows ∙ (c.enter.ensures.rows ∙ same_rows);
       given = λ honest commits told a listed sure s. tt;
       end = λ honest commits told a listed sure s. tt;
       refused = (λ honest commits told a listed sure s.
-          let w = c.in_default.ensures.going honest commits told ids a listed sure s in
-          let (at, turn) = c.in-Some.ensures.turn ids commits a listed w in
+          let w = c.in_default.ensures.going honest commits told a listed sure s in
+          let (at, turn) = c.in-Some.ensures.takes.turn ids commits a listed w in
           let parents = (at_order g.P.Accept.accepts ids commits a listed id c.take.new.self at).0 in
           let here = subst (λ (p : Parents). StopsFetch p (g.F.Lookup.is_honest c.args.self.now.source.objects) (g.F.Lookup.may_fail c.args.self.now.source.objects) (rows_of c.args.self.now.source.rows) (g.F.Lookup.table c.args.self.now.source.objects) id error) (sym along ∙ parents) fault in
           fetch_fault (IsTurn commits a listed) a.parents (g.F.Lookup.is_honest c.args.self.now.source.objects) (g.F.Lookup.may_fail c.args.self.now.source.objects) (rows_of c.args.self.now.source.rows) (g.F.Lookup.table c.args.self.now.source.objects) a.hidden id error turn here);
       failed = c.stop-in-Err-enter.ensures.over;
-      ended = (λ o. let e = c.in_default.ensures.same o.begun in let over : IsOver c.ready.new.self = subst IsOver (sym e) o in let h = rw c.in-Some.is at (c.take.ensures.ended over) in absurd (no_way (sym h)));
+      ended = (λ o. let e = (c.in_default.ensures.same o.begun).1 in let over : IsOver c.ready.new.self = subst IsOver (sym e) o in let h = rw c.in-Some.is at (c.take.ensures.ended over) in absurd (no_way (sym h)));
       content = tt;
-      counted = (λ b n. let s = c.in_default.ensures.same b in let f = c.take.ensures.source in let e : c.take.new.self.source.lookups ≡ c.args.self.now.source.lookups = cc in
-          let m : timing_of c.take.new.self.parents c.take.new.self.sorting ≡ None = (let p = c.take.ensures.order.0 in let q = c.take.ensures.order.1 in ap (λ (x : Parents). timing_of x c.take.new.self.sorting) p ∙ (ap (λ (x : Sorting). timing_of c.ready.new.self.parents x) q ∙ (ap (λ walk. timing_of walk.parents walk.sorting) s ∙ n))) in
-          omega (arith, c.enter.ensures.in_breadth m, c.stop-in-Err-enter.ensures.lookups));
+      counted = (λ b n. let s = (c.in_default.ensures.same b).1 in let f = (ap (λ w. w.source) c.take.ensures.stays) in let e : c.take.new.self.source.lookups ≡ c.args.self.now.source.lookups = cc in
+          let m : timing_of c.take.new.self.parents c.take.new.self.sorting ≡ None = (let p = (ap (λ w. w.parents) c.take.ensures.stays) in let q = (ap (λ w. w.sorting) c.take.ensures.stays) in ap (λ (x : Parents). timing_of x c.take.new.self.sorting) p ∙ (ap (λ (x : Sorting). timing_of c.ready.new.self.parents x) q ∙ (ap (λ walk. timing_of walk.parents walk.sorting) s ∙ n))) in
+          omega (arith, c.in-Err-enter.ensures.fails.in_breadth m, c.stop-in-Err-enter.ensures.lookups));
       counted_one = λ b n. tt;
       counted_by_time = λ b. tt;
       rowed = λ r. tt;
@@ -319,9 +313,9 @@ returns-in-Err-enter-clause-steps g c =
       content_end = tt;
       content_fault = c.stop-in-Err-enter.ensures.emptied;
       counted_end = λ b. tt;
-      counted_fault = (λ b. let s = c.in_default.ensures.same b in let f = c.take.ensures.source in let e : c.take.new.self.source.lookups ≡ c.args.self.now.source.lookups = cc in
+      counted_fault = (λ b. let s = (c.in_default.ensures.same b).1 in let f = (ap (λ w. w.source) c.take.ensures.stays) in let e : c.take.new.self.source.lookups ≡ c.args.self.now.source.lookups = cc in
           subst (λ (n : ℕ). CountsFault n c.stop-in-Err-enter.new.self.source.lookups error) e
-          (subst (λ (n : ℕ). CountsFault c.take.new.self.source.lookups n error) (sym c.stop-in-Err-enter.ensures.lookups) c.in-Err-enter.ensures.failed));
+          (subst (λ (n : ℕ). CountsFault c.take.new.self.source.lookups n error) (sym c.stop-in-Err-enter.ensures.lookups) c.in-Err-enter.ensures.fails.counts));
       rowed_end = λ r. tt;
       first = λ a m. tt;
       first_end = λ a m. tt;
@@ -329,10 +323,10 @@ returns-in-Err-enter-clause-steps g c =
       in_turn = λ b honest commits told. tt;
       in_turn_end = λ b by_time. tt;
       tips_end = λ a m honest commits told. tt;
-      in_turn_fault = (λ b. subst (λ walk. FailsInTurn (g.F.Lookup.is_honest c.args.self.now.source.objects) (g.F.Lookup.may_fail c.args.self.now.source.objects) (rows_of c.args.self.now.source.rows) (g.F.Lookup.table c.args.self.now.source.objects) walk error) (c.in_default.ensures.same b) (record {
+      in_turn_fault = (λ b. subst (λ walk. FailsInTurn (g.F.Lookup.is_honest c.args.self.now.source.objects) (g.F.Lookup.may_fail c.args.self.now.source.objects) (rows_of c.args.self.now.source.rows) (g.F.Lookup.table c.args.self.now.source.objects) walk error) ((c.in_default.ensures.same b).1) (record {
         id = id;
         others = turns_of c.take.new.self.known;
-        taken = c.in-Some.ensures.waiting;
+        taken = c.in-Some.ensures.takes.waiting;
         cause = fault;
       }));
       told = λ honest commits told. tt;
@@ -342,24 +336,14 @@ returns-in-Err-enter-clause-steps g c =
       marks = λ b. tt;
       first_fault = λ a m. inr (record {
         begun = c.ready.new.self;
-        begins = record {
-          under_way = λ honest commits told sure. c.in_default.ensures.going honest commits told ids a [] sure (inl (refl, m));
-          unasked = c.ready.ensures.predicate;
-          beginning = c.in_default.ensures.counted a m;
-          order = (let order = made_order g.P.Accept.accepts a c.args.self.now m in timing_same a c.ready.new.self.parents c.ready.new.self.sorting (c.ready.ensures.order.0 ∙ order.0) (c.ready.ensures.order.1 ∙ order.1));
-          tips_wait = λ honest commits told. c.in_default.ensures.awaits a m honest commits told;
-          stays = c.in_default.ensures.stays;
-          painted = λ honest commits told. c.in_default.ensures.painted a m honest commits told;
-          met = c.in_default.ensures.met a m;
-          gains = c.in_default.ensures.left;
-        };
-        fails = record { id = id; others = turns_of c.take.new.self.known; taken = c.in-Some.ensures.waiting; cause = fault };
-        counts = subst (λ (n : ℕ). CountsFault n c.stop-in-Err-enter.new.self.source.lookups error) (ap (λ s. s.lookups) c.take.ensures.source)
-            (subst (λ (n : ℕ). CountsFault c.take.new.self.source.lookups n error) (sym c.stop-in-Err-enter.ensures.lookups) c.in-Err-enter.ensures.failed);
+        begins = c.in_default.ensures.begins a m;
+        fails = record { id = id; others = turns_of c.take.new.self.known; taken = c.in-Some.ensures.takes.waiting; cause = fault };
+        counts = subst (λ (n : ℕ). CountsFault n c.stop-in-Err-enter.new.self.source.lookups error) (ap (λ s. s.lookups) (ap (λ w. w.source) c.take.ensures.stays))
+            (subst (λ (n : ℕ). CountsFault c.take.new.self.source.lookups n error) (sym c.stop-in-Err-enter.ensures.lookups) c.in-Err-enter.ensures.fails.counts);
       });
-      unasked_fault = elim c.in-Err-enter.ensures.unasked [
+      unasked_fault = elim c.in-Err-enter.ensures.fails.unasked [
         | inl e ↦ inl e
-        | inr p ↦ inr (c.stop-in-Err-enter.ensures.predicate ∙ (p ∙ (c.take.ensures.predicate ∙ c.ready.ensures.predicate)))
+        | inr p ↦ inr (c.stop-in-Err-enter.ensures.store.unasked ∙ (p ∙ ((ap (λ w. w.predicate) c.take.ensures.stays) ∙ c.ready.ensures.store.unasked)))
       ];
       kind_end = tt;
       queues = λ b some. tt;

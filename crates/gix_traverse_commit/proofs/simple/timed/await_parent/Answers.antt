@@ -1,75 +1,55 @@
-use Rattle.std.proofs.Common.{List, [], ◌∷◌, ap, arith, rules, ◌≡◌, refl, true, false, sym, subst}
-use Rattle.std.specs.Prelude.{not, ◌&&◌, Contains}
+use Rattle.std.proofs.Common.{List, [], ◌∷◌, ap, rules, ◌≡◌, true, false, sym, subst}
+use Rattle.std.specs.Prelude.{Contains}
 use Rattle.gix_hash.specs.Id.{id_of}
 use Rattle.gix_traverse_commit_known.specs.Known.{turns_of}
 use Rattle.gix_traverse_commit_known.specs.Nodes.{is_hidden, is_met}
-use Rattle.gix_traverse_graph.specs.Sorting.{in_time}
-use Rattle.gix_traverse_commit_known.specs.Timely.{keep_since, turn_of, LetsWait}
-use Rattle.gix_traverse_commit_known.specs.Ending.{times_waiting}
+use Rattle.gix_traverse_commit_known.specs.Timely.{LetsWait}
+use Rattle.gix_traverse_commit_known.specs.declared.nodes.Marks.{Marks}
 use Rattle.gix_traverse_commit_known.specs.declared.waiting.Turn.{Turn}
-use Rattle.gix_traverse_commit_known.proofs.Ending.{gains_met, gains_none, gains_same}
-use Rattle.gix_traverse_commit_known.proofs.Keeping.{met_itself, met_more}
-use Rattle.gix_traverse_commit_known.proofs.Timely.{all_pass, joins_same}
 use Rattle.gix_hash.specs.declared.object_id.ObjectId.{ObjectId}
 use Rattle.gix_traverse_commit_known.specs.Meeting.{accepted, fresh}
-use Rattle.gix_traverse_commit_known.proofs.Awaiting.{fresh_accepted, hidden_out, met_out, refused_out, waits_none, waits_one}
-use Rattle.gix_traverse_commit_known.proofs.Queueing.{queues_same, some_none}
+use Rattle.gix_traverse_commit_known.proofs.Awaiting.{fresh_accepted, hidden_out, met_out, refused_out}
+use Rattle.gix_traverse_commit.proofs.Awaited.{awaits_met, awaits_none, waits_out}
 use Rattle.gix_traverse_commit.proofs.simple.timed.await_parent.Goals as goal
 
-pub returns-then-accept-clause-waits : goal.returns-then-accept-clause-waits
-returns-then-accept-clause-waits g c = λ honest sure commits told.
-    let accepts = g.P.Accept.accepts c.args.predicate.now in
+pub returns-then-marks-clause-some : goal.returns-then-marks-clause-some
+returns-then-marks-clause-some g c = awaits_none c.args.known.now (c.args.id ∷ [])
+
+pub returns-then-marks-2-clause-some : goal.returns-then-marks-2-clause-some
+returns-then-marks-2-clause-some g c = awaits_none c.args.known.now (c.args.id ∷ [])
+
+pub returns-then-accept-clause-some : goal.returns-then-accept-clause-some
+returns-then-accept-clause-some g c =
     let m : is_met c.args.known.now.nodes c.args.id ≡ false = search rules in
-    let h : is_hidden c.args.known.now.nodes c.args.id ≡ false = search rules in
-    let a : accepts (id_of c.args.id) ≡ true = search rules in
-    let t = in_time c.args.since (commits c.args.id).time in
-    joins_same t (not (is_met c.args.known.now.nodes c.args.id) && keep_since c.args.since commits (is_hidden c.args.known.now.nodes) accepts c.args.id) (turns_of c.args.known.now) (turn_of commits c.args.id) (turn_of commits c.args.id) (turns_of c.wait.new.known)
-    (all_pass (is_met c.args.known.now.nodes c.args.id) (is_hidden c.args.known.now.nodes c.args.id) (accepts (id_of c.args.id)) t m h a) refl (c.in_ok-wait.ensures.waits honest sure commits told)
+    let h : is_hidden c.args.known.now.nodes c.args.id ≡ c.marks-marks.result.hidden = ap (λ (k : Marks). k.hidden) (sym c.marks-marks.ensures) in
+    c.in_ok-wait.ensures.some m h
 
-pub returns-then-marks-clause-left : goal.returns-then-marks-clause-left
-returns-then-marks-clause-left g c = gains_none c.args.known.now.nodes (times_waiting (turns_of c.args.known.now))
-
-pub returns-then-marks-2-clause-left : goal.returns-then-marks-2-clause-left
-returns-then-marks-2-clause-left g c = gains_none c.args.known.now.nodes (times_waiting (turns_of c.args.known.now))
-
-pub returns-then-accept-clause-left : goal.returns-then-accept-clause-left
-returns-then-accept-clause-left g c =
-    let m : is_met c.args.known.now.nodes c.args.id ≡ false = search rules in
-    gains_met c.args.known.now.nodes c.wait.new.known.nodes (times_waiting (turns_of c.args.known.now)) (times_waiting (turns_of c.wait.new.known))
-    (λ x h. met_more (is_met c.args.known.now.nodes) (is_met c.wait.new.known.nodes) c.args.id x c.in_ok-wait.ensures.met h) c.args.id m
-    (met_itself (is_met c.args.known.now.nodes) (is_met c.wait.new.known.nodes) c.args.id c.in_ok-wait.ensures.met) c.in_ok-wait.ensures.once
-
-pub returns-clause-left : goal.returns-clause-left
-returns-clause-left g c = gains_same c.args.known.now.nodes c.mark_met.new.known.nodes (times_waiting (turns_of c.args.known.now)) (times_waiting (turns_of c.mark_met.new.known))
-    (λ x h. met_more (is_met c.args.known.now.nodes) (is_met c.mark_met.new.known.nodes) c.args.id x c.in_ok-mark_met.ensures.met h) (λ id. let e = ap (λ (ts : List Turn). times_waiting ts id) c.in_ok-mark_met.ensures.turns in omega (arith, e))
+pub returns-clause-some : goal.returns-clause-some
+returns-clause-some g c =
+    let h : is_hidden c.args.known.now.nodes c.args.id ≡ c.marks-marks.result.hidden = ap (λ (k : Marks). k.hidden) (sym c.marks-marks.ensures) in
+    let met = c.in_ok-mark_met.ensures in
+    awaits_met c.args.known.now c.mark_met.new.known c.args.id met.queue met.turns (met.hidden h) met.met met.behind
 
 pub returns-then-marks-clause-awaits : goal.returns-then-marks-clause-awaits
 returns-then-marks-clause-awaits g c = λ honest commits told.
     let nodes = c.args.known.now.nodes in
-    let may_fail = g.F.Lookup.may_fail c.args.source.now.objects in
-    let turns = turns_of c.args.known.now in
     let h : is_hidden nodes c.args.id ≡ true = search rules in
-    subst (λ (xs : List ObjectId). LetsWait may_fail c.args.since commits (Contains xs) turns turns) (sym (hidden_out (g.P.Accept.accepts c.args.predicate.now) (is_met nodes c.args.id) (is_hidden nodes c.args.id) c.args.id h)) (waits_none may_fail c.args.since commits turns)
+    waits_out (g.F.Lookup.may_fail c.args.source.now.objects) c.args.since commits (accepted (g.P.Accept.accepts c.args.predicate.now) (fresh nodes c.args.id)) (turns_of c.args.known.now) (hidden_out (g.P.Accept.accepts c.args.predicate.now) (is_met nodes c.args.id) (is_hidden nodes c.args.id) c.args.id h)
 
 pub returns-then-marks-2-clause-awaits : goal.returns-then-marks-2-clause-awaits
 returns-then-marks-2-clause-awaits g c = λ honest commits told.
     let nodes = c.args.known.now.nodes in
-    let may_fail = g.F.Lookup.may_fail c.args.source.now.objects in
-    let turns = turns_of c.args.known.now in
     let m : is_met nodes c.args.id ≡ true = search rules in
-    subst (λ (xs : List ObjectId). LetsWait may_fail c.args.since commits (Contains xs) turns turns) (sym (met_out (g.P.Accept.accepts c.args.predicate.now) (is_met nodes c.args.id) (is_hidden nodes c.args.id) c.args.id m)) (waits_none may_fail c.args.since commits turns)
+    waits_out (g.F.Lookup.may_fail c.args.source.now.objects) c.args.since commits (accepted (g.P.Accept.accepts c.args.predicate.now) (fresh nodes c.args.id)) (turns_of c.args.known.now) (met_out (g.P.Accept.accepts c.args.predicate.now) (is_met nodes c.args.id) (is_hidden nodes c.args.id) c.args.id m)
 
 pub returns-then-accept-clause-awaits : goal.returns-then-accept-clause-awaits
 returns-then-accept-clause-awaits g c = λ honest commits told.
     let accepts = g.P.Accept.accepts c.args.predicate.now in
     let nodes = c.args.known.now.nodes in
-    let may_fail = g.F.Lookup.may_fail c.args.source.now.objects in
-    let turns = turns_of c.args.known.now in
     let m : is_met nodes c.args.id ≡ false = search rules in
     let h : is_hidden nodes c.args.id ≡ false = search rules in
     let a : accepts (id_of c.args.id) ≡ true = search rules in
-    let (time, counts, joins) = c.in_ok-wait.ensures.counted_as honest commits told in
-    subst (λ (xs : List ObjectId). LetsWait may_fail c.args.since commits (Contains xs) turns (turns_of c.wait.new.known)) (sym (fresh_accepted accepts (is_met nodes c.args.id) (is_hidden nodes c.args.id) c.args.id m h a)) (waits_one may_fail c.args.since commits c.args.id time turns (turns_of c.wait.new.known) counts joins)
+    subst (λ (xs : List ObjectId). LetsWait (g.F.Lookup.may_fail c.args.source.now.objects) c.args.since commits (Contains xs) (turns_of c.args.known.now) (turns_of c.wait.new.known)) (sym (fresh_accepted accepts (is_met nodes c.args.id) (is_hidden nodes c.args.id) c.args.id m h a)) (c.in_ok-wait.ensures.awaits honest commits told)
 
 pub returns-clause-awaits : goal.returns-clause-awaits
 returns-clause-awaits g c = λ honest commits told.
@@ -78,14 +58,5 @@ returns-clause-awaits g c = λ honest commits told.
     let may_fail = g.F.Lookup.may_fail c.args.source.now.objects in
     let turns = turns_of c.args.known.now in
     let a : accepts (id_of c.args.id) ≡ false = search rules in
-    let still = subst (λ (xs : List ObjectId). LetsWait may_fail c.args.since commits (Contains xs) turns turns) (sym (refused_out accepts (is_met nodes c.args.id) (is_hidden nodes c.args.id) c.args.id a)) (waits_none may_fail c.args.since commits turns) in
+    let still = waits_out may_fail c.args.since commits (accepted (g.P.Accept.accepts c.args.predicate.now) (fresh nodes c.args.id)) turns (refused_out accepts (is_met nodes c.args.id) (is_hidden nodes c.args.id) c.args.id a) in
     subst (λ (ts : List Turn). LetsWait may_fail c.args.since commits (Contains (accepted accepts (fresh nodes c.args.id))) turns ts) (sym c.in_ok-mark_met.ensures.turns) still
-
-pub returns-then-marks-clause-behind : goal.returns-then-marks-clause-behind
-returns-then-marks-clause-behind g c = some_none c.args.known.now c.args.known.now (c.args.id ∷ []) (queues_same c.args.known.now)
-
-pub returns-then-marks-2-clause-behind : goal.returns-then-marks-2-clause-behind
-returns-then-marks-2-clause-behind g c = some_none c.args.known.now c.args.known.now (c.args.id ∷ []) (queues_same c.args.known.now)
-
-pub returns-clause-behind : goal.returns-clause-behind
-returns-clause-behind g c = some_none c.args.known.now c.mark_met.new.known (c.args.id ∷ []) c.in_ok-mark_met.ensures.behind
