@@ -5,8 +5,8 @@ use anyhow::{Context, Result, ensure};
 use gix_object::find::Never;
 use gix_object_lines::ByteString;
 use gix_object_lines::lines::read_actor;
-use gix_ref::file::Store;
-use gix_ref::transaction::{Change, LogChange, PackedRefs, PreviousValue, RefEdit, prepare_edits};
+use gix_ref::file::{Store, Transact};
+use gix_ref::transaction::{Change, LogChange, PackedRefs, PreviousValue, RefEdit};
 use gix_ref::{Disk, Files, Folder, FullName, MemoryFiles, Part, Target};
 use gix_traverse::commit::Simple;
 use history::{Bytes, Collected, End, Kind, ObjectId, Objects, Repository, Stream, create, run};
@@ -86,8 +86,9 @@ fn add_branch<F: Files + Drop>(alloc: Global, names: F, commit: ObjectId) -> Res
     };
     let committer = Some(read_actor(b"A <a@b> 3 +0000")?);
     let mut store = Store::at(names, Vec::new(alloc)).map_err(|refused| refused.error)?;
+    let edits = vec![in alloc; edit]?;
     let mode = PackedRefs::<Never>::DeletionsOnly;
-    let prepared = prepare_edits(alloc, &mut store, vec![in alloc; edit]?, committer, mode)?;
-    prepared.commit(alloc, &mut store.files)?;
+    let prepared = store.transaction().prepare(alloc, edits, committer, mode)?;
+    prepared.commit(alloc)?;
     Ok(store.into_files())
 }

@@ -93,6 +93,7 @@ pub mod file {
     }
 
     pub use gix_ref_store::store::file::{FolderError, ReferenceExt, Refused, Store};
+    pub use gix_ref_transaction::file::{Begun, Transact, Transaction};
 }
 
 /// Packed references.
@@ -181,7 +182,7 @@ pub mod transaction {
         RefEditsExt, RefLog, SplitError, TwiceError,
     };
     pub use gix_ref_transaction::PackedRefs;
-    pub use gix_ref_transaction::transaction::{Transaction, prepare as prepare_edits};
+    pub use gix_ref_transaction::transaction::Transaction as Prepared;
 }
 
 pub use gix_ref_file::{FileError, Files, MemoryFiles, Place};

@@ -1,12 +1,12 @@
 -- What is prepared can be committed.
-use Rattle.std.proofs.Common.{◌≡◌, ⊎_elim, Bool, ℕ, true, false, ◌||◌, ◌&&◌, List, [], ◌∷◌, ◌++◌, refl, sym, ◌∙◌, ap, subst, bytes_eq, Option, Some, None, arith, Vec}
+use Rattle.std.proofs.Common.{◌≡◌, ⊎_elim, Bool, ℕ, true, false, List, [], ◌∷◌, ◌++◌, refl, sym, ◌∙◌, ap, subst, bytes_eq, Option, Some, None, arith, Vec}
 use Rattle.std.specs.Prelude.{Contains, IsTrue, IfSome, is_some}
 use Rattle.std.specs.List.{AllByRecursion, list_any, list_all}
 use Rattle.std.specs.declared.alloc.Global.{Global}
 use Rattle.std.proofs.lemmas.Bool.{and_parts, or_parts}
 use Rattle.std.proofs.lemmas.List.Elements.{Contains-append_left, Contains-append_right, Contains-append_cases}
 use Rattle.gix_ref_file.specs.Changes.{is_file_at, may_hold_file}
-use Rattle.gix_ref_file.specs.Tree.{Tree, is_path, node_at, bytes_of}
+use Rattle.gix_ref_file.specs.Tree.{Tree, is_path, bytes_of}
 use Rattle.gix_ref_edit.specs.declared.change.RefEdit.{RefEdit}
 use Rattle.gix_ref_lock.specs.Locks.{lock_of, OthersStay}
 use Rattle.gix_ref_lock.specs.PackedEdits as packed
@@ -15,15 +15,15 @@ use Rattle.gix_ref_store.specs.Places.{Base, place, log_place, packed_place}
 use Rattle.gix_ref_way.specs.Ways.{Bytes, file_at, FoldersOnlyOf, HasWay, IsAbove}
 use Rattle.gix_ref_way.proofs.Rooms.{among_first, among_rest, room_stays}
 use Rattle.gix_ref_lock.specs.Committing.{commit_paths}
-use Rattle.gix_ref_lock.specs.Contents.{act_line, place_of, lock_path_of, log_path_of}
+use Rattle.gix_ref_lock.specs.Contents.{act_line, place_of, lock_path_of}
 use Rattle.gix_ref_lock.specs.Moves.{IsNone, all_paths, lock_paths}
-use Rattle.gix_ref_lock.specs.Needs.{AreBeside, CanCommit, CanMove, CanNote, CanReplace}
+use Rattle.gix_ref_lock.specs.Needs.{CanCommit, CanMove, CanNote, CanReplace}
 use Rattle.gix_ref_lock.specs.declared.act.Move.{Move}
 use Rattle.gix_ref_transaction.specs.Locking.{AreHeld, HaveRoom, RecordsHeld}
 use Rattle.gix_ref_transaction.specs.Paths.{edit_paths, has_twice, name_paths, places_of}
 use Rattle.gix_ref_transaction.specs.Plans.{AllPlanned, KeepsFiles}
 use Rattle.gix_ref_transaction.specs.Rollback.{MoreFilesAt, SameFilesBut, all_locks, packed_locks}
-use Rattle.gix_ref_transaction.proofs.Lockings.{own_paths, moves_locks, locks_among, locks_of, none_apart, places_among}
+use Rattle.gix_ref_transaction.proofs.Lockings.{own_paths, moves_locks, locks_among, none_apart, places_among}
 
 -- ---- the paths of a transaction are those of its edits
 pub plans_paths : (b : Base) (gone : Bool) (edits : List RefEdit) (moves : List Move) → AllPlanned b gone edits moves → all_paths moves ≡ name_paths b edits

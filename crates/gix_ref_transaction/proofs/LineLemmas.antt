@@ -1,11 +1,11 @@
 -- Which lines logs get, and why one can't be made.
-use Rattle.std.proofs.Common.{◌≡◌, ◌⊎◌, inl, inr, refl, sym, ◌∙◌, ap, subst, ℕ, Bool, true, false, List, [], Option, Some, None, Vec}
+use Rattle.std.proofs.Common.{◌≡◌, refl, sym, ap, subst, ℕ, Bool, true, false, [], Option, Some, None, Vec}
 use Rattle.std.specs.Prelude.{Ok, ◌&&◌, not}
 use Rattle.std.specs.declared.alloc.Global.{Global}
-use Rattle.gix_hash.specs.Id.{Id, id_of, null_id}
+use Rattle.gix_hash.specs.Id.{Id, null_id}
 use Rattle.gix_hash.specs.Order.{id_eq}
 use Rattle.gix_hash.specs.declared.kind.Kind.{Kind}
-use Rattle.gix_ref_name.specs.Targets.{Points, ToObject, ToName, target_view}
+use Rattle.gix_ref_name.specs.Targets.{ToObject, ToName, target_view}
 use Rattle.gix_ref_name.specs.declared.target.Target.{Target}
 use Rattle.gix_ref_edit.specs.declared.change.Change.{Change}
 use Rattle.gix_ref_edit.specs.declared.change.Change.TheVariants.{Update, Delete}
@@ -13,10 +13,9 @@ use Rattle.gix_ref_edit.specs.declared.change.PreviousValue.{PreviousValue}
 use Rattle.gix_ref_edit.specs.declared.log.LogChange.{LogChange}
 use Rattle.gix_ref_edit.specs.declared.log.RefLog.{RefLog}
 use Rattle.gix_ref_lock.specs.declared.act.LogError.{LogError}
-use Rattle.gix_ref_store.specs.Finds as finds
-use Rattle.gix_ref_store.specs.Finds.{TellsState, state_of}
-use Rattle.gix_ref_store.specs.Follows.{Followed, FollowFault, IsGiven, follow, follow_from, MayTell}
-use Rattle.gix_ref_store.specs.RefStates.{RefState, Absent}
+use Rattle.gix_ref_store.specs.Finds.{TellsState}
+use Rattle.gix_ref_store.specs.Follows.{Followed, FollowFault, IsGiven, follow, MayTell}
+use Rattle.gix_ref_store.specs.RefStates.{RefState}
 use Rattle.gix_ref_store.specs.declared.reference.Reference.{Reference}
 use Rattle.gix_ref_store.specs.declared.store.file.find.Error.TheVariants as find
 use Rattle.gix_ref_store.specs.declared.store.file.find.ExistingError.TheVariants as existing

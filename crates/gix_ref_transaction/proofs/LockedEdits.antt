@@ -5,7 +5,7 @@ use Rattle.std.specs.List.{AllByRecursion, list_all, list_any}
 use Rattle.std.proofs.lemmas.Bool.{and_parts, or_parts}
 use Rattle.std.proofs.lemmas.List.Elements.{Contains-append_right}
 use Rattle.gix_ref_file.specs.Changes.{is_file_at}
-use Rattle.gix_ref_file.specs.Tree.{Tree, bytes_of, is_path, node_at}
+use Rattle.gix_ref_file.specs.Tree.{Tree, bytes_of, is_path}
 use Rattle.gix_ref_edit.specs.declared.change.RefEdit.{RefEdit}
 use Rattle.gix_ref_lock.specs.Locks.{lock_of, OthersStay}
 use Rattle.gix_ref_lock.specs.PackedEdits as packed

@@ -1,5 +1,5 @@
 -- The paths of edits, and locks of them that can be made while others are made.
-use Rattle.std.proofs.Common.{◌≡◌, ◌≢◌, ⊎_elim, inl, inr, Bool, true, false, List, [], ◌∷◌, ◌++◌, refl, sym, ◌∙◌, ap, subst, append-nil, Option, Some, None, arith}
+use Rattle.std.proofs.Common.{◌≡◌, ◌≢◌, ⊎_elim, Bool, true, false, List, [], ◌∷◌, ◌++◌, refl, sym, ◌∙◌, ap, subst, append-nil, Option, Some, None, arith}
 use Rattle.std.specs.Prelude.{Contains, IsTrue, is_some}
 use Rattle.std.specs.List.{AllByRecursion, list_all}
 use Rattle.std.proofs.lemmas.Bool.{and_parts}
@@ -12,7 +12,7 @@ use Rattle.gix_ref_store.specs.Places.{Base, place, log_place}
 use Rattle.gix_ref_way.specs.Ways.{Bytes, file_at, FoldersOnlyOf, IsAbove}
 use Rattle.gix_ref_way.proofs.Rooms.{among_first, among_rest, room_stays}
 use Rattle.gix_ref_lock.specs.Contents.{place_of, lock_path_of}
-use Rattle.gix_ref_lock.specs.Moves.{IsNone, Once, all_paths, lock_paths}
+use Rattle.gix_ref_lock.specs.Moves.{IsNone, Once, lock_paths}
 use Rattle.gix_ref_lock.specs.Needs.{AreBeside}
 use Rattle.gix_ref_lock.specs.declared.act.Move.{Move}
 use Rattle.gix_ref_transaction.specs.Locking.{ArePaths, IsLockable}

@@ -1,6 +1,6 @@
 -- The files of names that may have a record are in the shared folder, at the path of the record's
 -- name.
-use Rattle.std.proofs.Common.{◌≡◌, refl, sym, ◌∙◌, ap, subst, ℕ, Bool, true, false, cond, ◌||◌, [], ◌∷◌, ◌++◌, take, drop, codes, Option, Some, None}
+use Rattle.std.proofs.Common.{◌≡◌, refl, sym, ◌∙◌, ap, subst, Bool, true, false, cond, ◌||◌, ◌++◌, take, drop, codes, Option, Some, None}
 use Rattle.std.proofs.lemmas.Bool.{or_parts}
 use Rattle.std.proofs.lemmas.Slice.Eq.{bytes_eq-Decides}
 use Rattle.gix_object_lines.specs.NameTest.{begins, is_capitals}

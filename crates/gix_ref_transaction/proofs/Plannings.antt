@@ -1,6 +1,6 @@
 -- Edits that are planned, one after another.
-use Rattle.std.proofs.Common.{◌≡◌, ◌≢◌, inl, inr, refl, sym, ◌∙◌, ap, subst, Bool, true, false, cond, List, [], ◌∷◌, ◌++◌, append_assoc, append-nil, length, arith, ℕ, Vec, Option, Some, None}
-use Rattle.std.specs.Prelude.{◌⊎◌, Contains, Result, Ok, Err, IfOk, IfErr, IfSome, OnOk, is_some, option_map, option_copied}
+use Rattle.std.proofs.Common.{◌≡◌, ◌≢◌, refl, sym, ◌∙◌, ap, subst, Bool, true, false, cond, List, [], ◌∷◌, ◌++◌, append_assoc, append-nil, length, arith, ℕ, Vec, Option, Some, None}
+use Rattle.std.specs.Prelude.{Contains, Result, Ok, Err, IfOk, IfSome, OnOk, is_some, option_map, option_copied}
 use Rattle.std.proofs.lemmas.List.Elements.{Contains-append_right}
 use Rattle.std.specs.Borrow.{Bor}
 use Rattle.std.specs.declared.alloc.Global.{Global}
@@ -31,7 +31,7 @@ use Rattle.gix_ref_lock.specs.Contents.{lock_path_of}
 use Rattle.gix_ref_lock.specs.Moments.{SameButLocks}
 use Rattle.gix_ref_lock.specs.declared.act.Act.{Act}
 use Rattle.gix_ref_lock.specs.declared.act.Move.{Move}
-use Rattle.gix_ref_transaction.specs.Plans.{IsTested, HoldsText, KeepsFiles, AllTested, AllPlanned, AllHold, AreSplit}
+use Rattle.gix_ref_transaction.specs.Plans.{IsTested, HoldsText, KeepsFiles, AllTested, AllPlanned, AllHold}
 use Rattle.gix_ref_transaction.specs.LogLines.{Logging, AllLined, IsLineOf, has_log, line_in, logging}
 use Rattle.gix_ref_transaction.specs.Causes.{EditFault, SomeEditFault}
 use Rattle.gix_ref_transaction.proofs.PathEnds.{place_free, log_place_free}
@@ -138,9 +138,6 @@ pub tested_alike : (one other : Bytes → RefState) → ((name : Bytes) → one 
 tested_alike one other same [] all = tt
 tested_alike one other same (e ∷ edits) all = (subst (IsTested e) (same e.name) all.0, tested_alike one other same edits all.1)
 
-pub split_alike : (one other : Bytes → RefState) → ((name : Bytes) → one name ≡ other name) → (asked edits : List RefEdit) → AreSplit one asked edits → AreSplit other asked edits
-split_alike one other same asked edits split = subst (λ (read : Bytes → RefState). AreSplit read asked edits) (λ i name. same name i) split
-
 -- ---- a lock that was made
 pub on_held : (P Q : Type 0) (r : Result Lock PrepareError) (made : Result (Option Lock) FileError) → IfOk r (λ lock. made ≡ Ok (Some lock)) → (P → Q) → IfOk made (λ found. IfSome found (λ lock. P)) → OnOk r Q
 on_held P Q (Err e) made is then taken = tt
@@ -151,11 +148,6 @@ pub given_reads : (b : Base) (tree : Tree) (records : Option Buffer) (lent : Opt
     → (name : Bytes) → state_among b tree (records_in lent) name ≡ ref_state b tree name
 given_reads b tree records None is keeps name = none_reads b tree name (subst (λ (r : Option Buffer). KeepsFile b.kind (packed_text_in b tree) (option_map kept r)) (sym is) keeps)
 given_reads b tree records (Some lent) is keeps name = kept_reads b tree (kept lent.now) name (subst (λ (r : Option Buffer). KeepsFile b.kind (packed_text_in b tree) (option_map kept r)) (sym is) keeps)
-
--- ---- outcomes
-pub ok_three : {T E : Type 0} (P Q R : T → Type 0) (r : Result T E) → ((t : T) → P t → Q t → R t) → IfOk r P → IfOk r Q → IfOk r R
-ok_three P Q R (Ok t) f p q = f t p q
-ok_three P Q R (Err e) f p q = tt
 
 -- if a lock is made that didn't exist, and then written
 pub keeps_but : (lock place : Bytes) (old mid new : Tree) → lock ≡ lock_of place → file_at old (lock_of place) ≡ None → KeepsFiles old mid → OthersStay lock mid new → KeepsFiles old new
@@ -205,12 +197,3 @@ module _ (options other : Options) (b base : Base) (old x : Tree) (records : Lis
 
   pub some_fault_alike : (may : Type 0) (edits : List RefEdit) (error : PrepareError) → SomeEditFault (logging other (state_among base x records) committer) base x may edits error → SomeEditFault (logging options (state_among b old records) committer) b old may edits error
   some_fault_alike may edits error (edit, among, full, fault) = (edit, among, full, fault_alike options other b base old x records committer edit may error same full opts bases fault)
-
--- ---- outcomes that say four things
-pub ok_four : {T E : Type 0} (P Q R S : T → Type 0) (r : Result T E) → ((t : T) → P t → Q t → R t → S t) → IfOk r P → IfOk r Q → IfOk r R → IfOk r S
-ok_four P Q R S (Ok t) f p q w = f t p q w
-ok_four P Q R S (Err e) f p q w = tt
-
-pub ok_five : {T E : Type 0} (P Q R S U V : T → Type 0) (r : Result T E) → ((t : T) → P t → Q t → R t → S t → U t → V t) → IfOk r P → IfOk r Q → IfOk r R → IfOk r S → IfOk r U → IfOk r V
-ok_five P Q R S U V (Ok t) f p q w x y = f t p q w x y
-ok_five P Q R S U V (Err e) f p q w x y = tt

@@ -1,8 +1,10 @@
 -- Why edits aren't made ready, or their packed records aren't opened.
-use Rattle.std.proofs.Common.{◌≡◌, ◌∙◌, true, false, refl, sym, subst, ℕ, Bool, List}
+use Rattle.std.proofs.Common.{◌≡◌, ◌∙◌, true, false, sym, subst, ℕ, Bool, List}
+use Rattle.std.specs.Prelude.{Result, Ok, Err, IfErr, IsTrue, OnOk}
 use Rattle.std.specs.List.{list_all}
 use Rattle.gix_hash.specs.Id.{Id}
 use Rattle.gix_ref_file.specs.Tree.{Tree, is_path}
+use Rattle.gix_ref_edit.specs.Names.{AllOnce, names_of}
 use Rattle.gix_ref_edit.specs.declared.change.RefEdit.{RefEdit}
 use Rattle.gix_ref_edit.specs.declared.ext.PreProcessError.{PreProcessError}
 use Rattle.gix_ref_edit.specs.declared.ext.PreProcessError.TheVariants.{Split, Twice}
@@ -20,9 +22,10 @@ use Rattle.gix_ref_way.specs.Ways.{Bytes}
 use Rattle.gix_ref_transaction.specs.Causes.{IfUnresolved, NotAllowed, OpenFault, ReadyFault, Unresolved}
 use Rattle.gix_ref_transaction.specs.Errors.{Counts, IsOfRecords, of_opening, of_splitting}
 use Rattle.gix_ref_transaction.specs.Found.{points_at}
-use Rattle.gix_ref_transaction.specs.Locking.{AreLockable}
-use Rattle.gix_ref_transaction.specs.Paths.{edit_paths}
+use Rattle.gix_ref_transaction.specs.Locking.{AreLockable, are_known}
+use Rattle.gix_ref_transaction.specs.Paths.{edit_paths, has_twice}
 use Rattle.gix_ref_transaction.specs.Plans.{AreSplit}
+use Rattle.gix_ref_transaction.specs.Preparing.{AreReady}
 use Rattle.gix_ref_transaction.specs.declared.error.PrepareError.{PrepareError}
 use Rattle.gix_ref_transaction.specs.declared.error.PrepareError.TheVariants as fault
 use Rattle.gix_ref_transaction.proofs.Counting.{counts_other}
@@ -51,6 +54,23 @@ open_resolves read why asked opening.Memory = tt
 open_resolves read why asked opening.Io = tt
 open_resolves read why asked opening.HeaderParsing = tt
 open_resolves read why asked (opening.Iter number) = tt
+
+-- what is said of an error, some of it under a premise
+pub err_three : {T E : Type 0} (H K : Type 0) (P Q R S : E → Type 0) (r : Result T E) → ((e : E) → P e → (H → Q e) → (H → K → R e) → S e)
+    → IfErr r P → (H → IfErr r Q) → (H → K → IfErr r R) → IfErr r S
+err_three H K P Q R S (Ok x) f p q w = tt
+err_three H K P Q R S (Err e) f p q w = f e p q w
+
+-- ---- edits are ready
+pub are_ready : {T E : Type 0} (b : Base) (composes : Bool) (edits given : List RefEdit) (r : Result T E) → given ≡ edits → AllOnce (names_of edits)
+    → OnOk r (IsTrue (are_known composes given)) → OnOk r (has_twice (edit_paths b given) ≡ false) → OnOk r (IsTrue (list_all is_path (edit_paths b given))) → OnOk r (AreReady b composes edits)
+are_ready b composes edits given (Ok x) is once known apart paths = record {
+  once = once;
+  known = subst (λ (es : List RefEdit). IsTrue (are_known composes es)) is known;
+  apart = subst (λ (es : List RefEdit). has_twice (edit_paths b es) ≡ false) is apart;
+  paths = subst (λ (es : List RefEdit). IsTrue (list_all is_path (edit_paths b es))) is paths;
+}
+are_ready b composes edits given (Err e) is once known apart paths = tt
 
 -- ---- edits aren't ready
 module _ (read : Bytes → RefState) (b : Base) (composes : Bool) (tree : Tree) (may : Type 0) (asked : List RefEdit) where

@@ -1,7 +1,7 @@
 -- What all names read as while a transaction is committed, and afterwards.
 use Rattle.std.proofs.Common.{◌≡◌, ◌≢◌, ◌⊎◌, inl, inr, ⊎_elim, refl, sym, ◌∙◌, ap, subst, Bool, true, false, cond, List, [], ◌∷◌, Option, Some, None}
-use Rattle.std.specs.Prelude.{is_some, IsSome, unwrap_or}
-use Rattle.std.specs.List.{AllByRecursion, AllZip}
+use Rattle.std.specs.Prelude.{IsSome, unwrap_or}
+use Rattle.std.specs.List.{AllByRecursion}
 use Rattle.gix_object_lookup.specs.Table.{Table}
 use Rattle.gix_object_lines.specs.NameTest.{is_full_name}
 use Rattle.gix_ref_file.specs.Tree.{Tree}
@@ -9,12 +9,12 @@ use Rattle.gix_ref_edit.specs.declared.change.RefEdit.{RefEdit}
 use Rattle.gix_ref_format.specs.Lookup.{packed_key}
 use Rattle.gix_ref_format.specs.Edited.{Line}
 use Rattle.gix_ref_store.specs.Places.{Base, place, packed_place}
-use Rattle.gix_ref_store.specs.RefStates.{RefState, Absent, ref_state, read_by, told_by, records_of, packed_text_in}
+use Rattle.gix_ref_store.specs.RefStates.{Absent, ref_state, read_by, told_by, records_of, packed_text_in}
 use Rattle.gix_ref_lock.specs.PackedEdits.{place_of as packed_place_of, lock_path_of as packed_lock_of}
 use Rattle.gix_ref_lock.specs.declared.packed.Transaction.{Transaction as Packed}
 use Rattle.gix_ref_way.specs.Ways.{Bytes, file_at}
 use Rattle.gix_ref_lock.specs.Contents.{contents, place_of, lock_path_of, moved, IsBetween}
-use Rattle.gix_ref_lock.specs.Committing.{commit_paths, packed_end, PackedStays, PackedIsNew, Shows, StaysYet, FileStays, EachOf, OnTheWay, IsCommitted}
+use Rattle.gix_ref_lock.specs.Committing.{commit_paths, PackedStays, PackedIsNew, Shows, StaysYet, FileStays, OnTheWay, IsCommitted}
 use Rattle.gix_ref_lock.specs.Moments.{SameButLocks}
 use Rattle.gix_ref_lock.specs.Moves.{IsNone, Once, all_paths}
 use Rattle.gix_ref_lock.specs.declared.act.Move.{Move}

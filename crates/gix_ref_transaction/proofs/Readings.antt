@@ -1,5 +1,5 @@
 -- What names read as on the way, by their own files and by packed records.
-use Rattle.std.proofs.Common.{◌≡◌, ◌≢◌, ◌⊎◌, inl, inr, ⊎_elim, refl, sym, ◌∙◌, ap, subst, ℕ, Bool, true, false, cond, ◌||◌, ◌&&◌, List, [], ◌∷◌, bytes_eq, Option, Some, None, Vec}
+use Rattle.std.proofs.Common.{◌≡◌, ◌⊎◌, inl, inr, ⊎_elim, refl, sym, ◌∙◌, ap, subst, ℕ, Bool, true, false, cond, List, [], ◌∷◌, bytes_eq, Option, Some, None, Vec}
 use Rattle.std.specs.Prelude.{is_some, IsSome, option_map, option_and_then, unwrap_or}
 use Rattle.std.specs.List.{list_any}
 use Rattle.std.specs.declared.alloc.Global.{Global}
@@ -31,13 +31,13 @@ use Rattle.gix_ref_store.specs.RefStates.{RefState, Stands, Absent, Faulty, InRe
 use Rattle.gix_ref_lock.specs.Records.{records_in}
 use Rattle.gix_ref_lock.specs.declared.packed.Transaction.{Transaction}
 use Rattle.gix_ref_way.specs.Ways.{Bytes, file_at}
-use Rattle.gix_ref_lock.specs.Contents.{contents, lock_path_of, updated, moved, IsBetween}
+use Rattle.gix_ref_lock.specs.Contents.{contents, lock_path_of, moved, IsBetween}
 use Rattle.gix_ref_lock.specs.Committing.{Shows, StaysYet, FileStays}
 use Rattle.gix_ref_lock.specs.declared.act.Act.{Act}
 use Rattle.gix_ref_lock.specs.declared.act.Move.{Move}
 use Rattle.gix_ref_lock.specs.declared.act.Act.TheVariants.{Put, Note, Pack, Remove, Forget}
-use Rattle.gix_ref_transaction.specs.Plans.{HoldsText, IsActOf, IsPlanOf, IsUpdateBy, IsDeletionBy, IsPut, is_packed_alone}
-use Rattle.gix_ref_transaction.specs.Reads.{ReadsChanged, ReadsUpdated, ReadsDeleted, IsPeeledOf, IsReadBack}
+use Rattle.gix_ref_transaction.specs.Plans.{HoldsText, IsActOf, IsPlanOf, IsUpdateBy, IsPut, is_packed_alone}
+use Rattle.gix_ref_transaction.specs.Reads.{ReadsChanged, ReadsUpdated, IsPeeledOf, IsReadBack}
 use Rattle.gix_ref_transaction.specs.Repacking.{SaysOfRecord, SaysByKey, ChangesRecord, UpdatesRecord, HoldsRecords, changes_record, changes_records, changes_tree, removal_line}
 use Rattle.gix_ref_transaction.proofs.KeyLines.{IsSaid}
 use Rattle.gix_ref_transaction.proofs.PathKeys.{key_again}

@@ -1,6 +1,6 @@
 -- The hash function of packed records: of those that are read, of those that edits say, and so of
 -- those that are written.
-use Rattle.std.proofs.Common.{◌≡◌, refl, sym, ◌∙◌, ap, subst, arith, ℕ, ◌+◌, Bool, true, false, cond, ◌&&◌, ◌==◌, length, take, drop, codes, List, [], ◌∷◌, ◌++◌, bytes_eq, Option, Some, None, option_map}
+use Rattle.std.proofs.Common.{◌≡◌, refl, sym, ◌∙◌, ap, subst, arith, ℕ, ◌+◌, Bool, true, false, cond, ◌&&◌, take, drop, codes, List, [], ◌∷◌, ◌++◌, bytes_eq, Option, Some, None, option_map}
 use Rattle.std.specs.Prelude.{IfSome, is_some, option_and_then}
 use Rattle.std.specs.Option.{option_to_list}
 use Rattle.std.specs.List.{AllByRecursion}
@@ -24,7 +24,7 @@ use Rattle.gix_ref_edit.specs.declared.log.RefLog.TheVariants.{AndReference, Onl
 use Rattle.gix_ref_format.specs.Ids.{id_from_hex}
 use Rattle.gix_ref_format.specs.Lines.{lines as lines_of, cut_line}
 use Rattle.gix_ref_format.specs.Lookup.{packed_key}
-use Rattle.gix_ref_format.specs.Packed.{Record, Item, Good, Bad, BadHeader, items, item_of, items_behind_header, header_line, is_headed, next_number, packed_items, packed_records, peel_behind, peel_line, peel_text, record_line, record_text, with_item, all_good, without_peel}
+use Rattle.gix_ref_format.specs.Packed.{Record, Item, Good, Bad, BadHeader, items, item_of, items_behind_header, header_line, is_headed, next_number, packed_items, packed_records, peel_behind, peel_line, peel_text, record_line, record_text, all_good, without_peel}
 use Rattle.gix_ref_format.specs.PackedBuffer.{KeepsFile, hit}
 use Rattle.gix_ref_format.specs.PackedKept.{kept}
 use Rattle.gix_ref_format.specs.declared.packed.Header.{Header}
@@ -32,11 +32,11 @@ use Rattle.gix_ref_format.specs.declared.packed.buffer.Buffer.{Buffer}
 use Rattle.gix_ref_format.proofs.IdLemmas.{id_from_hex-tells}
 use Rattle.gix_ref_format.specs.Edited.{Line, line_at, under, Ascend, ComesBefore, IsEdited}
 use Rattle.gix_ref_format.specs.Written.{AllHaveKind, HasKind}
-use Rattle.gix_ref_store.specs.Peels.{TagNames, LeadsOver, PeelsTo}
+use Rattle.gix_ref_store.specs.Peels.{TagNames, LeadsOver}
 use Rattle.gix_ref_lock.specs.Records.{records_in}
 use Rattle.gix_ref_way.specs.Ways.{Bytes}
 use Rattle.gix_ref_transaction.specs.Reads.{AllGiveKind, GivesKind, IsOfKind}
-use Rattle.gix_ref_transaction.specs.Repacking.{SaysOfRecord, SaysByKey, SayOfRecords, UpdatesRecord, TellsPeeled, removal_line}
+use Rattle.gix_ref_transaction.specs.Repacking.{SaysOfRecord, SaysByKey, SayOfRecords, UpdatesRecord, TellsPeeled}
 
 inner : {A : Type 0} {r s : A} → Some r ≡ Some s → r ≡ s
 inner e = cc

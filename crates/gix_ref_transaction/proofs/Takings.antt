@@ -1,6 +1,6 @@
 -- The lock of one file, taken and given back.
-use Rattle.std.proofs.Common.{◌≡◌, ◌≢◌, ◌<◌, ◌⊎◌, ⊎_elim, inl, inr, Bool, true, false, List, [], ◌∷◌, ◌++◌, length, refl, sym, ◌∙◌, ap, subst, Option, Some, None, arith, codes}
-use Rattle.std.specs.Prelude.{Contains, IsTrue, is_some, bytes_eq, IfSome, Err, IsErrOf}
+use Rattle.std.proofs.Common.{◌≡◌, ◌≢◌, ◌<◌, ◌⊎◌, ⊎_elim, inl, inr, Bool, true, false, List, [], ◌∷◌, length, refl, sym, ◌∙◌, ap, subst, Option, Some, None, arith}
+use Rattle.std.specs.Prelude.{Contains, IsTrue, bytes_eq, IfSome, Err, IsErrOf}
 use Rattle.std.proofs.lemmas.Slice.Eq.{bytes_eq-Decides}
 use Rattle.std.proofs.lemmas.List.Elements.{Contains-push_cases}
 use Rattle.gix_ref_file.specs.Changes.{may_hold_file}
@@ -8,14 +8,19 @@ use Rattle.gix_ref_file.specs.History.{History, Adds}
 use Rattle.gix_ref_file.specs.Tree.{Tree, Node, file, folder, node_at, bytes_of, is_folder}
 use Rattle.gix_ref_file.specs.declared.files.FileError.{FileError}
 use Rattle.gix_ref_file.specs.declared.files.FileError.TheVariants as file_case
+use Rattle.gix_ref_file.proofs.Histories.{adds_weaker}
 use Rattle.gix_ref_lock.specs.Locks.{lock_of, OthersStay, KeepsHeld}
+use Rattle.gix_ref_lock.specs.Moments.{SameButLocks}
+use Rattle.gix_ref_lock.proofs.FileMoves.{now_of, same_now}
+use Rattle.gix_ref_lock.proofs.LockPaths.{locks_joined, one_lock, same_files}
 use Rattle.gix_ref_lock.specs.declared.lock.Lock.{Lock}
 use Rattle.gix_ref_way.specs.Ways.{Bytes, file_at, FoldersOnlyOf, IsAbove, SameFiles, SameFolders}
 use Rattle.gix_ref_way.proofs.FoldersMade.{above_shorter}
-use Rattle.gix_ref_way.proofs.Rooms.{only_now, onlys_same, room_stays}
+use Rattle.gix_ref_way.proofs.Rooms.{only_now, onlys_joined, onlys_same, room_stays}
 use Rattle.gix_ref_transaction.specs.Errors.{TakeFault, of_file}
 use Rattle.gix_ref_transaction.specs.Plans.{KeepsFiles}
 use Rattle.gix_ref_transaction.specs.declared.error.PrepareError.TheVariants as fault
+use Rattle.gix_ref_transaction.proofs.Plannings.{keeps_joined, keeps_same}
 
 -- the errors of two outcomes
 pub err_same : {T E : Type 0} (a b : E) → IsErrOf {T = T} {E = E} (Err a) b → a ≡ b
@@ -89,3 +94,17 @@ still_room place old new same may = room_stays place [] old.tree new.tree may (o
 -- of a lock that was found
 pub found_so : (P : Lock → Type 0) (found : Option Lock) (lock : Lock) → found ≡ Some lock → IfSome found P → P lock
 found_so P found lock is h = subst (λ f. IfSome f P) is h
+
+-- ---- room is made for a file, and then its lock
+module _ (place : Bytes) (old mid new : History) where
+  pub lock_moments : Adds (SameFiles old.tree) old mid → Adds (OthersStay (lock_of place) mid.tree) mid new → Adds (SameButLocks old.tree) old new
+  lock_moments cleared stays = locks_joined old mid new (adds_weaker old mid cleared (same_files old.tree)) (adds_weaker mid new stays (one_lock place (lock_of place) refl mid.tree))
+
+  pub lock_folders : Adds (FoldersOnlyOf (place ∷ []) old.tree) old mid → Adds (SameFolders mid.tree) mid new → Adds (FoldersOnlyOf (place ∷ []) old.tree) old new
+  lock_folders cleared stays = onlys_joined (place ∷ []) old mid new cleared (onlys_same (place ∷ []) mid new stays)
+
+  pub lock_keeps : Adds (SameFiles old.tree) old mid → Adds (OthersStay (lock_of place) mid.tree) mid new → Adds (KeepsHeld (lock_of place) mid.tree) mid new → KeepsFiles old.tree new.tree
+  lock_keeps cleared stays fresh =
+      let stay = now_of (OthersStay (lock_of place) mid.tree) mid new (λ path apart. refl) stays in
+      let held = now_of (KeepsHeld (lock_of place) mid.tree) mid new (λ some. refl) fresh in
+      keeps_joined old.tree mid.tree new.tree (keeps_same old.tree mid.tree (same_now old mid cleared)) (fresh_keeps (lock_of place) mid.tree new.tree stay held)

@@ -4,10 +4,10 @@ use Rattle.std.proofs.lemmas.List.Elements.{Contains-append_right}
 use Rattle.std.specs.Prelude.{Contains}
 use Rattle.gix_hash.specs.Id.{Id, id_of}
 use Rattle.gix_object_lookup.specs.Table.{Table}
-use Rattle.gix_ref_name.specs.Targets.{Points, ToObject, ToName, target_view}
+use Rattle.gix_ref_name.specs.Targets.{Points, ToObject, target_view}
 use Rattle.gix_ref_name.specs.declared.target.Target.{Target}
 use Rattle.gix_ref_edit.specs.declared.change.Change.{Change}
-use Rattle.gix_ref_edit.specs.declared.change.Change.TheVariants.{Update, Delete}
+use Rattle.gix_ref_edit.specs.declared.change.Change.TheVariants.{Update}
 use Rattle.gix_ref_edit.specs.declared.change.PreviousValue.{PreviousValue}
 use Rattle.gix_ref_edit.specs.declared.change.RefEdit.{RefEdit}
 use Rattle.gix_ref_edit.specs.declared.log.LogChange.{LogChange}
@@ -23,7 +23,7 @@ use Rattle.gix_ref_store.specs.declared.store.file.follow.Error.TheVariants as f
 use Rattle.gix_ref_store.specs.declared.store.file.peel.Error.{Error}
 use Rattle.gix_ref_store.specs.declared.store.file.peel.Error.TheVariants.{FollowToObject, Find, NotFound, Memory}
 use Rattle.gix_ref_way.specs.Ways.{Bytes}
-use Rattle.gix_ref_transaction.specs.Resolving.{GivesUp, ResolveFault, TargetFault, ChangeFault, SomeChangeFault, IfUnresolved}
+use Rattle.gix_ref_transaction.specs.Resolving.{GivesUp, ResolveFault, TargetFault, ChangeFault, IfUnresolved}
 use Rattle.gix_ref_transaction.specs.declared.repacking.error.RepackError.{RepackError}
 use Rattle.gix_ref_transaction.specs.declared.repacking.error.RepackError.TheVariants as repack
 use Rattle.gix_ref_transaction.proofs.RecordLines.{ends_id}

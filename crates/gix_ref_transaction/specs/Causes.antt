@@ -1,5 +1,5 @@
 -- Why a transaction isn't prepared.
-use Rattle.std.specs.Prelude.{ℕ, ◌≡◌, ◌⊎◌, Bool, true, false, List, Option, Some, None, option_map, Ok, Err, Contains, IsTrue}
+use Rattle.std.specs.Prelude.{◌≡◌, ◌⊎◌, Bool, true, false, List, Option, Some, None, option_map, Ok, Contains, IsTrue}
 use Rattle.std.specs.List.{list_all}
 use Rattle.bstr.specs.BStr.{bstr_bytes}
 use Rattle.gix_hash.specs.Id.{Id}

@@ -1,5 +1,6 @@
 pub mod Alike
 pub mod Asked
+pub mod Begun
 pub mod Causes
 pub mod Errors
 pub mod Found
@@ -9,6 +10,7 @@ pub mod Modes
 pub mod Parts
 pub mod Paths
 pub mod Plans
+pub mod Preparing
 pub mod Reads
 pub mod RecordsRollback
 pub mod Repacking

@@ -1,5 +1,5 @@
 -- What edits need so that their locks can be made, and so that they can then be committed.
-use Rattle.std.specs.Prelude.{◌≡◌, Bool, true, false, ◌&&◌, List, None, Option, Some, IsTrue}
+use Rattle.std.specs.Prelude.{◌≡◌, Bool, true, ◌&&◌, List, None, Option, Some, IsTrue}
 use Rattle.std.specs.List.{AllByRecursion, list_all}
 use Rattle.gix_ref_file.specs.Tree.{Tree, is_path, node_at}
 use Rattle.gix_ref_file.specs.Changes.{is_file_at, may_hold_file}

@@ -1,6 +1,6 @@
 -- What a transaction makes of each edit before it changes anything: the reference passes the edit's
 -- test, and its lock has the new text.
-use Rattle.std.specs.Prelude.{ℕ, ◌≡◌, ◌&&◌, Bool, true, false, is_some, List, Option, Some, None, Ok, option_map, IsTrue}
+use Rattle.std.specs.Prelude.{ℕ, ◌≡◌, ◌&&◌, Bool, true, false, is_some, List, Option, Some, Ok, option_map, IsTrue}
 use Rattle.std.specs.List.{AllByRecursion, AllZip}
 use Rattle.gix_object_lines.specs.NameTest.{is_full_name}
 use Rattle.gix_ref_file.specs.Tree.{Tree}

@@ -4,6 +4,7 @@
 
 mod asked;
 mod error;
+pub mod file;
 mod finder;
 mod known;
 mod lines;

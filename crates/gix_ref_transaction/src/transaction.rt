@@ -1,6 +1,6 @@
 //! Transactions: prepared, and then committed or rolled back.
 
-ghost use Rattle.std.specs.Prelude.{◌≡◌, ◌≤◌, ◌⊎◌, ◌≢◌, ℕ, [], Bool, true, false, None, Option, option_map, Ok, IfErr, IfOk, IfSome, IsErrOf, IsTrue, OnOk};
+ghost use Rattle.std.specs.Prelude.{◌≡◌, ◌≤◌, ◌⊎◌, ◌≢◌, ℕ, [], Bool, List, true, false, None, Option, option_map, Ok, IfErr, IfOk, IfSome, IsErrOf, IsTrue, OnOk};
 ghost use Rattle.std.specs.List.{AllByRecursion, list_all};
 ghost use Rattle.gix_object_lookup.specs.Table.{Table};
 ghost use Rattle.gix_ref_file.specs.History.{Adds, HasRisen};
@@ -8,12 +8,11 @@ ghost use Rattle.gix_ref_file.specs.Tree.{Tree, is_path};
 ghost use Rattle.gix_ref_file.specs.Changes.{may_hold_file};
 ghost use Rattle.gix_ref_file.specs.Calls.{Achieves, HasFault, Passes};
 ghost use Rattle.gix_ref_way.specs.Ways.{FoldersOnlyOf, SameFolders, file_at};
-ghost use Rattle.gix_ref_edit.specs.Names.{AllOnce, names_of};
 ghost use Rattle.gix_ref_format.specs.PackedBuffer.{KeepsFile};
 ghost use Rattle.gix_ref_format.specs.PackedKept.{kept};
 ghost use Rattle.gix_ref_store.specs.Lookups.{reads_with};
 ghost use Rattle.gix_ref_store.specs.Places.{Base, place};
-ghost use Rattle.gix_ref_store.specs.RefStates.{packed_text_in, ref_state};
+ghost use Rattle.gix_ref_store.specs.RefStates.{packed_text_in};
 ghost use Rattle.gix_ref_store.specs.Stores.{base_of};
 ghost use Rattle.gix_ref_lock.specs.declared.lock.GivenBack.TheVariants as given;
 ghost use Rattle.gix_ref_lock.specs.Contents.{lock_path_of, place_of};
@@ -22,17 +21,17 @@ ghost use Rattle.gix_ref_lock.specs.Moves.{LocksHeld, Once, lock_paths};
 ghost use Rattle.gix_ref_lock.specs.Needs.{AreBeside, CanCommit, IsOutOfMemory, log_paths};
 ghost use Rattle.gix_ref_lock.specs.Committing.{IsCommitted, OnTheWay, commit_paths};
 ghost use Rattle.gix_ref_transaction.specs.Modes.{objects_in, removes};
-ghost use Rattle.gix_ref_transaction.specs.Repacking.{AreRepacked};
 ghost use Rattle.gix_ref_transaction.specs.Resolving.{PackFault, SomeChangeFault};
 ghost use Rattle.gix_ref_transaction.specs.Alike.{ReadsAlike};
-ghost use Rattle.gix_ref_transaction.specs.Causes.{GivenFault, IfUnresolved, LockFault, NotAllowed, PrepareFault, ReadyFault, SomeEditFault, Unresolved};
-ghost use Rattle.gix_ref_transaction.specs.Errors.{Counts, IsAfter, IsOfRecords, IsQuiet, MayBeLeft};
-ghost use Rattle.gix_ref_transaction.specs.Locking.{AreHeld, AreRecordsLockable, HaveRoom, IsLockable, RecordsHeld, are_known};
+ghost use Rattle.gix_ref_transaction.specs.Causes.{IfUnresolved, NotAllowed, ReadyFault, SomeEditFault, Unresolved};
+ghost use Rattle.gix_ref_transaction.specs.Errors.{Counts, IsAfter, IsQuiet, MayBeLeft};
+ghost use Rattle.gix_ref_transaction.specs.Locking.{AreHeld, IsLockable, RecordsHeld, are_known};
 ghost use Rattle.gix_ref_transaction.specs.LogLines.{AllLined, logging};
 ghost use Rattle.gix_ref_transaction.specs.Paths.{edit_paths, has_twice, name_paths, places_of};
-ghost use Rattle.gix_ref_transaction.specs.Plans.{AllHold, AllPlanned, AllTested, AreSplit, FoldersOfEdits, KeepsFiles};
+ghost use Rattle.gix_ref_transaction.specs.Plans.{AllHold, AllPlanned, AllTested, AreSplit, KeepsFiles};
+ghost use Rattle.gix_ref_transaction.specs.Preparing.{AreReady, FailsToPrepare, FoldersFor, GivenCause, IsPacked, IsPrepared, KeepsReferences, LeavesUnprepared, asked_of, asked_with};
 ghost use Rattle.gix_ref_transaction.specs.Reads.{AllGiveKind, AllReadBack, IsAsPrepared, prepared_of, ReadsEdited, ReadsOnWay};
-ghost use Rattle.gix_ref_transaction.specs.Rollback.{AllGone, FailsForMemory, FailsStaying, IsRolledBack, MoreFilesAt, PackedGone, SameFilesBut, all_locks, of_giving, packed_locks};
+ghost use Rattle.gix_ref_transaction.specs.Rollback.{AllGone, FailsForMemory, FailsStaying, MoreFilesAt, PackedGone, SameFilesBut, all_locks, of_giving, packed_locks};
 ghost use Rattle.gix_ref_transaction.specs.Rollback as rolls;
 ghost use Rattle.gix_ref_transaction.specs.declared.error.PrepareError.TheVariants.{Io, LockAcquire};
 
@@ -88,79 +87,25 @@ pub fn prepare<F: Files, O: FindInto>(
     committer: Option<ActorRef<'_>>,
     packed_refs: PackedRefs<'_, O>,
 ) -> Result<Transaction, PrepareError>
-    ensures honest { F.is_honest store.old.files → F.is_honest store.new.files }
-    ensures base { base_of store.new ≡ base_of store.old }
-    ensures options { store.new.options ≡ store.old.options }
-    ensures moments { Passes F.is_honest F.history store.old.files store.new.files SameButLocks }
-    ensures alike { Passes F.is_honest F.history store.old.files store.new.files
-        (ReadsAlike (base_of store.old)) }
-    ensures folders { F.is_honest store.old.files → let tree = (F.history store.old.files).tree in
-        Adds (FoldersOfEdits (ref_state (base_of store.old) tree) (base_of store.old) edits.items tree)
-        (F.history store.old.files) (F.history store.new.files) }
-    ensures split { F.is_honest store.old.files → let tree = (F.history store.old.files).tree in
-        IfOk result (λ t. AreSplit (ref_state (base_of store.old) tree) edits.items t.edits.items) }
-    ensures once { IfOk result (λ t. AllOnce (names_of t.edits.items)) }
-    ensures known { IfOk result (λ t.
-        IsTrue (are_known store.old.options.precompose_unicode t.edits.items)) }
-    ensures apart { IfOk result (λ t.
-        has_twice (edit_paths (base_of store.old) t.edits.items) ≡ false) }
-    ensures tested { F.is_honest store.old.files → let tree = (F.history store.old.files).tree in
-        IfOk result (λ t. AllTested (ref_state (base_of store.old) tree) t.edits.items) }
+    ensures keeps { KeepsReferences F.is_honest F.history F.failures
+        (asked_of F.history store.old committer.entry edits.items) store.old store.new }
+    ensures unfailed { IfOk result (λ _. F.failures store.new.files ≡ F.failures store.old.files) }
+    ensures ready { IfOk result (λ t.
+        AreReady (base_of store.old) store.old.options.precompose_unicode t.edits.items) }
     ensures planned { IfOk result (λ t. AllPlanned (base_of store.old) (removes packed_refs.entry)
         t.edits.items t.moves.items) }
-    ensures texts { F.is_honest store.old.files → let tree = (F.history store.new.files).tree in
-        IfOk result (λ t. AllHold tree t.edits.items t.moves.items) }
-    ensures lines { F.is_honest store.old.files → let tree = (F.history store.old.files).tree in
-        let b = base_of store.old in
-        let l = logging store.old.options (ref_state (base_of store.old) tree) committer.entry in
-        IfOk result (λ t. AllLined l b tree t.edits.items t.moves.items) }
-    // Each file but its own locks is as before, and these exist.
-    ensures locked { F.is_honest store.old.files → IfOk result (λ t.
-        SameFilesBut (all_locks t.packed t.moves.items) (F.history store.old.files).tree
-        (F.history store.new.files).tree) }
-    ensures held { F.is_honest store.old.files → IfOk result (λ t.
-        AreHeld t.packed t.moves.items (F.history store.new.files).tree) }
-    // It can be committed, if the logs and packed records have room.
-    ensures room { F.is_honest store.old.files → let tree = (F.history store.old.files).tree in
-        IfOk result (λ t. HaveRoom (base_of store.old) tree t.edits.items
-        → CanCommit t.packed t.moves.items (F.history store.new.files).tree) }
-    ensures repacked { F.is_honest store.old.files → IfSome (objects_in packed_refs.entry) O.is_honest
-        → let b = base_of store.old in let old = (F.history store.old.files).tree in
-        IfOk result (λ t. AreRepacked b (option_map O.table (objects_in packed_refs.entry)) old
-        (F.history store.new.files).tree t.edits.items t.packed) }
-    // What is prepared can be committed as its edits say, if their ids are of the store's hash
-    // function.
-    ensures prepared { F.is_honest store.old.files → IfSome (objects_in packed_refs.entry) O.is_honest
-        → let b = base_of store.old in let old = (F.history store.old.files).tree in
-        IfOk result (λ t. AllGiveKind b.kind t.edits.items
-        → IsAsPrepared b (option_map O.table (objects_in packed_refs.entry))
-        (removes packed_refs.entry) old
+    ensures prepared { F.is_honest store.old.files → IfOk result (λ t. IsPrepared
+        (asked_of F.history store.old committer.entry edits.items)
         (F.history store.new.files).tree (prepared_of t.edits.items t.moves.items t.packed)) }
-    ensures later { F.failures store.old.files ≤ F.failures store.new.files }
-    ensures unfailed { IfOk result (λ _. F.failures store.new.files ≡ F.failures store.old.files) }
-    // `Io` counts a failure, and errors for which no change failed count none.
-    ensures counted { F.is_honest store.old.files
-        → IfErr result (Counts (F.failures store.old.files) (F.failures store.new.files)) }
-    ensures memory { IfErr result (λ error. IsQuiet error
-        → F.failures store.new.files ≡ F.failures store.old.files) }
-    // Packed records aren't locked only if they can't be, or if a call of the files failed.
-    ensures records { F.is_honest store.old.files
-        → AreRecordsLockable (base_of store.old) (F.history store.old.files).tree
-        → IfErr result (λ error. IsOfRecords error
-        → HasFault F.failures F.reading_may_fail store.old.files store.new.files) }
-    // After an error no lock is left, unless a failure was counted or memory was wanting.
-    ensures rolled_back { F.is_honest store.old.files → IfErr result (λ error.
-        IsRolledBack (F.failures store.old.files) (F.failures store.new.files)
-        (F.history store.old.files).tree (F.history store.new.files).tree error) }
-    ensures causes { F.is_honest store.old.files → let tree = (F.history store.old.files).tree in
-        let b = base_of store.old in let composes = store.old.options.precompose_unicode in
-        let l = logging store.old.options (ref_state (base_of store.old) tree) committer.entry in
-        IfErr result (PrepareFault l b composes tree F.reading_may_fail edits.items) }
-    // No object is found only if one is missing.
-    ensures resolves { F.is_honest store.old.files → IfSome (objects_in packed_refs.entry) O.is_honest
-        → let tree = (F.history store.old.files).tree in
-        let why = PackFault F.reading_may_fail O.may_fail O.table (objects_in packed_refs.entry) in
-        IfErr result (IfUnresolved (ref_state (base_of store.old) tree) why edits.items) }
+    ensures packed { F.is_honest store.old.files → IfSome (objects_in packed_refs.entry) O.is_honest
+        → IfOk result (λ t. IsPacked (base_of store.old)
+        (option_map O.table (objects_in packed_refs.entry)) (removes packed_refs.entry)
+        (F.history store.old.files).tree (F.history store.new.files).tree
+        (prepared_of t.edits.items t.moves.items t.packed)) }
+    ensures failed { IfErr result (LeavesUnprepared F.is_honest F.history F.failures
+        F.reading_may_fail (IfSome (objects_in packed_refs.entry) O.is_honest)
+        (PackFault F.reading_may_fail O.may_fail O.table (objects_in packed_refs.entry))
+        (asked_of F.history store.old committer.entry edits.items) store.old store.new) }
 {
     let records = store.open_packed_buffer(alloc)?;
     prepare_with(
@@ -189,76 +134,34 @@ pub fn prepare_with<F: Files, O: FindInto>(
     ensures moments { Passes F.is_honest F.history store.old.files store.new.files SameButLocks }
     ensures alike { Passes F.is_honest F.history store.old.files store.new.files
         (ReadsAlike (base_of store.old)) }
-    ensures folders { F.is_honest store.old.files → let tree = (F.history store.old.files).tree in
-        Adds (FoldersOfEdits (reads_with store.old tree packed.entry) (base_of store.old) edits.items tree)
-        (F.history store.old.files) (F.history store.new.files) }
-    ensures split { F.is_honest store.old.files → let tree = (F.history store.old.files).tree in
-        IfOk result (λ t. AreSplit (reads_with store.old tree packed.entry) edits.items t.edits.items) }
-    ensures once { IfOk result (λ t. AllOnce (names_of t.edits.items)) }
-    ensures known { IfOk result (λ t.
-        IsTrue (are_known store.old.options.precompose_unicode t.edits.items)) }
-    ensures apart { IfOk result (λ t.
-        has_twice (edit_paths (base_of store.old) t.edits.items) ≡ false) }
-    ensures tested { F.is_honest store.old.files → let tree = (F.history store.old.files).tree in
-        IfOk result (λ t. AllTested (reads_with store.old tree packed.entry) t.edits.items) }
+    ensures folders { Passes F.is_honest F.history store.old.files store.new.files
+        (FoldersFor (asked_with F.history store.old packed.entry committer.entry edits.items)) }
+    ensures ready { IfOk result (λ t.
+        AreReady (base_of store.old) store.old.options.precompose_unicode t.edits.items) }
     ensures planned { IfOk result (λ t. AllPlanned (base_of store.old) (removes packed_refs.entry)
         t.edits.items t.moves.items) }
-    ensures texts { F.is_honest store.old.files → let tree = (F.history store.new.files).tree in
-        IfOk result (λ t. AllHold tree t.edits.items t.moves.items) }
-    ensures lines { F.is_honest store.old.files → let tree = (F.history store.old.files).tree in
-        let b = base_of store.old in
-        let l = logging store.old.options (reads_with store.old tree packed.entry) committer.entry in
-        IfOk result (λ t. AllLined l b tree t.edits.items t.moves.items) }
-    // Each file but its own locks is as before, and these exist.
-    ensures locked { F.is_honest store.old.files → IfOk result (λ t.
-        SameFilesBut (all_locks t.packed t.moves.items) (F.history store.old.files).tree
-        (F.history store.new.files).tree) }
-    ensures held { F.is_honest store.old.files → IfOk result (λ t.
-        AreHeld t.packed t.moves.items (F.history store.new.files).tree) }
-    // It can be committed, if the logs and packed records have room.
-    ensures room { F.is_honest store.old.files → let tree = (F.history store.old.files).tree in
-        IfOk result (λ t. HaveRoom (base_of store.old) tree t.edits.items
-        → CanCommit t.packed t.moves.items (F.history store.new.files).tree) }
-    ensures repacked { F.is_honest store.old.files → IfSome (objects_in packed_refs.entry) O.is_honest
-        → let b = base_of store.old in let old = (F.history store.old.files).tree in
-        KeepsFile b.kind (packed_text_in b old) (option_map (λ buffer. kept buffer.now) packed.entry)
-        →
-        IfOk result (λ t. AreRepacked b (option_map O.table (objects_in packed_refs.entry)) old
-        (F.history store.new.files).tree t.edits.items t.packed) }
-    // What is prepared can be committed as its edits say, if their ids are of the store's hash
-    // function.
-    ensures prepared { F.is_honest store.old.files → IfSome (objects_in packed_refs.entry) O.is_honest
-        → let b = base_of store.old in let old = (F.history store.old.files).tree in
-        KeepsFile b.kind (packed_text_in b old) (option_map (λ buffer. kept buffer.now) packed.entry)
-        →
-        IfOk result (λ t. AllGiveKind b.kind t.edits.items
-        → IsAsPrepared b (option_map O.table (objects_in packed_refs.entry))
-        (removes packed_refs.entry) old
+    ensures prepared { F.is_honest store.old.files → IfOk result (λ t. IsPrepared
+        (asked_with F.history store.old packed.entry committer.entry edits.items)
         (F.history store.new.files).tree (prepared_of t.edits.items t.moves.items t.packed)) }
+    ensures packed { F.is_honest store.old.files → IfSome (objects_in packed_refs.entry) O.is_honest
+        → let b = base_of store.old in let old = (F.history store.old.files).tree in
+        KeepsFile b.kind (packed_text_in b old) (option_map (λ buffer. kept buffer.now) packed.entry)
+        → IfOk result (λ t. IsPacked b (option_map O.table (objects_in packed_refs.entry))
+        (removes packed_refs.entry) old (F.history store.new.files).tree
+        (prepared_of t.edits.items t.moves.items t.packed)) }
     ensures later { F.failures store.old.files ≤ F.failures store.new.files }
     ensures unfailed { IfOk result (λ _. F.failures store.new.files ≡ F.failures store.old.files) }
-    // `Io` counts a failure, and errors for which no change failed count none.
-    ensures counted { F.is_honest store.old.files
-        → IfErr result (Counts (F.failures store.old.files) (F.failures store.new.files)) }
+    // Errors for which no change failed count none.
     ensures memory { IfErr result (λ error. IsQuiet error
         → F.failures store.new.files ≡ F.failures store.old.files) }
-    // Packed records aren't locked only if they can't be, or if a call of the files failed.
-    ensures records { F.is_honest store.old.files
-        → AreRecordsLockable (base_of store.old) (F.history store.old.files).tree
-        → IfErr result (λ error. IsOfRecords error
-        → HasFault F.failures F.reading_may_fail store.old.files store.new.files) }
-    // After an error no lock is left, unless a failure was counted or memory was wanting.
-    ensures rolled_back { F.is_honest store.old.files → IfErr result (λ error.
-        IsRolledBack (F.failures store.old.files) (F.failures store.new.files)
-        (F.history store.old.files).tree (F.history store.new.files).tree error) }
-    ensures causes { F.is_honest store.old.files → let tree = (F.history store.old.files).tree in
-        let b = base_of store.old in let composes = store.old.options.precompose_unicode in
-        let l = logging store.old.options (reads_with store.old tree packed.entry) committer.entry in
-        IfErr result (GivenFault l b composes tree F.reading_may_fail edits.items) }
+    ensures failed { F.is_honest store.old.files → IfErr result (FailsToPrepare GivenCause
+        (asked_with F.history store.old packed.entry committer.entry edits.items)
+        (F.failures store.old.files) (F.failures store.new.files) F.reading_may_fail
+        (F.history store.new.files).tree) }
     // No object is found only if one is missing.
     ensures resolves { F.is_honest store.old.files → IfSome (objects_in packed_refs.entry) O.is_honest
-        → let tree = (F.history store.old.files).tree in
-        let why = PackFault F.reading_may_fail O.may_fail O.table (objects_in packed_refs.entry) in
+        → let why = PackFault F.reading_may_fail O.may_fail O.table (objects_in packed_refs.entry) in
+        let tree = (F.history store.old.files).tree in
         IfErr result (IfUnresolved (reads_with store.old tree packed.entry) why edits.items) }
 {
     let mut edits = edits;
@@ -276,12 +179,8 @@ fn ready<F: Files>(
     ensures split { F.is_honest store.now.files → let tree = (F.history store.now.files).tree in
         OnOk result (AreSplit (reads_with store.now tree packed.entry) edits.old.items
         edits.new.items) }
-    ensures once { OnOk result (AllOnce (names_of edits.new.items)) }
-    ensures known { OnOk result
-        (IsTrue (are_known store.now.options.precompose_unicode edits.new.items)) }
-    ensures apart { OnOk result (has_twice (edit_paths (base_of store.now) edits.new.items) ≡ false) }
-    ensures paths { OnOk result
-        (IsTrue (list_all is_path (edit_paths (base_of store.now) edits.new.items))) }
+    ensures ready { OnOk result
+        (AreReady (base_of store.now) store.now.options.precompose_unicode edits.new.items) }
     ensures failed { F.is_honest store.now.files → let tree = (F.history store.now.files).tree in
         IfErr result (ReadyFault (reads_with store.now tree packed.entry) (base_of store.now)
         store.now.options.precompose_unicode tree F.reading_may_fail edits.old.items) }
@@ -320,57 +219,36 @@ fn locked<F: Files, O: FindInto>(
     committer: Option<ActorRef<'_>>,
     packed_refs: &PackedRefs<'_, O>,
 ) -> Result<Transaction, PrepareError>
-    requires once { has_twice (edit_paths (base_of store.old) edits.items) ≡ false }
-    requires paths { IsTrue (list_all is_path (edit_paths (base_of store.old) edits.items)) }
+    requires { AreReady (base_of store.old) store.old.options.precompose_unicode edits.items }
     ensures honest { F.is_honest store.old.files → F.is_honest store.new.files }
     ensures base { base_of store.new ≡ base_of store.old }
     ensures options { store.new.options ≡ store.old.options }
-    ensures later { F.failures store.old.files ≤ F.failures store.new.files }
-    ensures unfailed { IfOk result (λ _. F.failures store.new.files ≡ F.failures store.old.files) }
-    ensures counted { F.is_honest store.old.files
-        → IfErr result (Counts (F.failures store.old.files) (F.failures store.new.files)) }
-    ensures memory { IfErr result (λ error. IsQuiet error
-        → F.failures store.new.files ≡ F.failures store.old.files) }
-    ensures records { F.is_honest store.old.files
-        → AreRecordsLockable (base_of store.old) (F.history store.old.files).tree
-        → IfErr result (λ error. IsOfRecords error
-        → HasFault F.failures F.reading_may_fail store.old.files store.new.files) }
-    ensures rolled_back { F.is_honest store.old.files → IfErr result (λ error.
-        IsRolledBack (F.failures store.old.files) (F.failures store.new.files)
-        (F.history store.old.files).tree (F.history store.new.files).tree error) }
     ensures moments { Passes F.is_honest F.history store.old.files store.new.files SameButLocks }
     ensures folders { Passes F.is_honest F.history store.old.files store.new.files
         (FoldersOnlyOf (places_of (base_of store.old) edits.items)) }
-    ensures locked { F.is_honest store.old.files → IfOk result (λ t.
-        SameFilesBut (all_locks t.packed t.moves.items) (F.history store.old.files).tree
-        (F.history store.new.files).tree) }
-    ensures held { F.is_honest store.old.files → IfOk result (λ t.
-        AreHeld t.packed t.moves.items (F.history store.new.files).tree) }
-    ensures room { F.is_honest store.old.files → let tree = (F.history store.old.files).tree in
-        IfOk result (λ t. HaveRoom (base_of store.old) tree edits.items
-        → CanCommit t.packed t.moves.items (F.history store.new.files).tree) }
     ensures edits { IfOk result (λ t. t.edits ≡ edits) }
-    ensures tested { F.is_honest store.old.files → let tree = (F.history store.old.files).tree in
-        IfOk result (λ t. AllTested (reads_with store.old tree packed.entry) t.edits.items) }
     ensures planned { IfOk result (λ t. AllPlanned (base_of store.old) (removes packed_refs.now)
         t.edits.items t.moves.items) }
-    ensures texts { F.is_honest store.old.files → let tree = (F.history store.new.files).tree in
-        IfOk result (λ t. AllHold tree t.edits.items t.moves.items) }
-    ensures lines { F.is_honest store.old.files → let tree = (F.history store.old.files).tree in
-        let b = base_of store.old in
-        let l = logging store.old.options (reads_with store.old tree packed.entry) committer.entry in
-        IfOk result (λ t. AllLined l b tree t.edits.items t.moves.items) }
-    ensures back { IfOk result (λ t. let kind = (base_of store.old).kind in
-        AllGiveKind kind t.edits.items → AllReadBack kind t.edits.items) }
-    ensures repacked { F.is_honest store.old.files → IfSome (objects_in packed_refs.now) O.is_honest
+    ensures prepared { (asked : List RefEdit) → F.is_honest store.old.files
+        → let a = asked_with F.history store.old packed.entry committer.entry asked in
+        AreSplit a.lines.read asked edits.items
+        → IfOk result (λ t. IsPrepared a (F.history store.new.files).tree
+        (prepared_of t.edits.items t.moves.items t.packed)) }
+    ensures packed { F.is_honest store.old.files → IfSome (objects_in packed_refs.now) O.is_honest
         → let b = base_of store.old in let old = (F.history store.old.files).tree in
         KeepsFile b.kind (packed_text_in b old) (option_map (λ buffer. kept buffer.now) packed.entry)
-        → IfOk result (λ t. AreRepacked b (option_map O.table (objects_in packed_refs.now)) old
-        (F.history store.new.files).tree t.edits.items t.packed) }
-    ensures causes { F.is_honest store.old.files → let tree = (F.history store.old.files).tree in
-        let b = base_of store.old in
-        let l = logging store.old.options (reads_with store.old tree packed.entry) committer.entry in
-        IfErr result (LockFault l b tree F.reading_may_fail edits.items) }
+        → IfOk result (λ t. IsPacked b (option_map O.table (objects_in packed_refs.now))
+        (removes packed_refs.now) old (F.history store.new.files).tree
+        (prepared_of t.edits.items t.moves.items t.packed)) }
+    ensures later { F.failures store.old.files ≤ F.failures store.new.files }
+    ensures unfailed { IfOk result (λ _. F.failures store.new.files ≡ F.failures store.old.files) }
+    ensures memory { IfErr result (λ error. IsQuiet error
+        → F.failures store.new.files ≡ F.failures store.old.files) }
+    ensures failed { (asked : List RefEdit) → F.is_honest store.old.files
+        → let a = asked_with F.history store.old packed.entry committer.entry asked in
+        AreSplit a.lines.read asked edits.items → IfErr result (FailsToPrepare GivenCause a
+        (F.failures store.old.files) (F.failures store.new.files) F.reading_may_fail
+        (F.history store.new.files).tree) }
     ensures resolves { F.is_honest store.old.files → IfSome (objects_in packed_refs.now) O.is_honest
         → let why = PackFault F.reading_may_fail O.may_fail O.table (objects_in packed_refs.now) in
         IfErr result (Unresolved (SomeChangeFault why edits.items)) }

@@ -15,7 +15,7 @@ use gix_ref_fuse::Fuse;
 use gix_ref_store::Options;
 use gix_ref_store::store::file::Store;
 use gix_ref_transaction::PackedRefs;
-use gix_ref_transaction::transaction::prepare;
+use gix_ref_transaction::file::Transact;
 use std::alloc::Global;
 
 /// Adds the result of edits of which only deletions reach packed records, and the files that they
@@ -94,17 +94,18 @@ fn put_tried<O: FindInto>(
         email: BStr::new(b"b"),
         time: BStr::new(b"1 +0000"),
     };
-    let prepared = match prepare(alloc, store, edits, Some(committer), mode) {
+    let begun = store.transaction();
+    let prepared = match begun.prepare(alloc, edits, Some(committer), mode) {
         Ok(prepared) => prepared,
         Err(error) => return page.name(error),
     };
     if operation.ends_with("-rollback") {
-        return match prepared.rollback(alloc, &mut store.files) {
+        return match prepared.rollback(alloc) {
             Ok(edits) => page.put_between("rolled back ", edits.len(), ""),
             Err(error) => page.name(error),
         };
     }
-    match prepared.commit(alloc, &mut store.files) {
+    match prepared.commit(alloc) {
         Ok(edits) => page.put_between("made ", edits.len(), ""),
         Err(error) => page.name(error),
     }

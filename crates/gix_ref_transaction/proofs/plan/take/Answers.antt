@@ -4,16 +4,16 @@ use Rattle.std.proofs.lemmas.Result.{err_from_is_err_and}
 use Rattle.gix_ref_file.specs.History.{HasRisen}
 use Rattle.gix_ref_file.specs.Tree.{is_path, bytes_of}
 use Rattle.gix_ref_file.proofs.Histories.{adds_weaker}
-use Rattle.gix_ref_lock.specs.Locks.{lock_of, OthersStay, KeepsHeld, IsTaken}
+use Rattle.gix_ref_lock.specs.Locks.{lock_of, OthersStay, IsTaken}
 use Rattle.gix_ref_lock.proofs.FileMoves.{now_of, same_now}
-use Rattle.gix_ref_lock.proofs.LockPaths.{locks_joined, one_lock, same_files}
-use Rattle.gix_ref_way.proofs.Rooms.{only_now, onlys_joined, onlys_same}
+use Rattle.gix_ref_lock.proofs.LockPaths.{same_files}
+use Rattle.gix_ref_way.proofs.Rooms.{only_now}
 use Rattle.gix_ref_transaction.specs.Errors.{of_file}
 use Rattle.gix_ref_transaction.specs.declared.error.PrepareError.TheVariants.{LockAcquire}
 use Rattle.gix_ref_transaction.proofs.Counting.{counts_file, file_memory}
-use Rattle.gix_ref_transaction.proofs.Plannings.{keeps_same, keeps_joined}
+use Rattle.gix_ref_transaction.proofs.Plannings.{keeps_same}
 use Rattle.gix_ref_transaction.proofs.Rollbacks.{same_more, trees_more, more_after, untaken}
-use Rattle.gix_ref_transaction.proofs.Takings.{blamed, err_same, file_no_lock, file_take, found_so, fresh_keeps, still_free, still_room}
+use Rattle.gix_ref_transaction.proofs.Takings.{blamed, err_same, file_no_lock, file_take, found_so, lock_folders, lock_keeps, lock_moments, still_free, still_room}
 use Rattle.gix_ref_transaction.proofs.plan.take.Goals as goal
 
 -- ---- no room
@@ -58,31 +58,15 @@ returns-in_err-clear-clause-failed g c =
 -- ---- the lock can't be made
 pub returns-in_err-made-clause-moments : goal.returns-in_err-made-clause-moments
 returns-in_err-made-clause-moments g c = λ honest.
-    let old = g.F.Files.history c.args.files.now in
-    let mid = g.F.Files.history c.clear.new.files in
-    let new = g.F.Files.history c.acquire.new.files in
-    let place = c.args.place.now in
-    locks_joined old mid new (adds_weaker old mid (c.clear.ensures.moments honest) (same_files old.tree))
-    (adds_weaker mid new (c.acquire.ensures.moments (c.clear.ensures.honest honest)) (one_lock place (lock_of place) refl mid.tree))
+    lock_moments c.args.place.now (g.F.Files.history c.args.files.now) (g.F.Files.history c.clear.new.files) (g.F.Files.history c.acquire.new.files) (c.clear.ensures.moments honest) (c.acquire.ensures.moments (c.clear.ensures.honest honest))
 
 pub returns-in_err-made-clause-folders : goal.returns-in_err-made-clause-folders
 returns-in_err-made-clause-folders g c = λ honest.
-    let old = g.F.Files.history c.args.files.now in
-    let mid = g.F.Files.history c.clear.new.files in
-    let new = g.F.Files.history c.acquire.new.files in
-    let paths = c.args.place.now ∷ [] in
-    onlys_joined paths old mid new (c.clear.ensures.folders honest) (onlys_same paths mid new (c.acquire.ensures.folders (c.clear.ensures.honest honest)))
+    lock_folders c.args.place.now (g.F.Files.history c.args.files.now) (g.F.Files.history c.clear.new.files) (g.F.Files.history c.acquire.new.files) (c.clear.ensures.folders honest) (c.acquire.ensures.folders (c.clear.ensures.honest honest))
 
 pub returns-in_err-made-clause-keeps : goal.returns-in_err-made-clause-keeps
 returns-in_err-made-clause-keeps g c = λ honest.
-    let old = g.F.Files.history c.args.files.now in
-    let mid = g.F.Files.history c.clear.new.files in
-    let new = g.F.Files.history c.acquire.new.files in
-    let lock = lock_of c.args.place.now in
-    let then = c.clear.ensures.honest honest in
-    let stay = now_of (OthersStay lock mid.tree) mid new (λ path apart. refl) (c.acquire.ensures.moments then) in
-    let held = now_of (KeepsHeld lock mid.tree) mid new (λ some. refl) (c.acquire.ensures.fresh then) in
-    keeps_joined old.tree mid.tree new.tree (keeps_same old.tree mid.tree (same_now old mid (c.clear.ensures.moments honest))) (fresh_keeps lock mid.tree new.tree stay held)
+    lock_keeps c.args.place.now (g.F.Files.history c.args.files.now) (g.F.Files.history c.clear.new.files) (g.F.Files.history c.acquire.new.files) (c.clear.ensures.moments honest) (c.acquire.ensures.moments (c.clear.ensures.honest honest)) (c.acquire.ensures.fresh (c.clear.ensures.honest honest))
 
 pub returns-in_err-made-clause-rolled_back : goal.returns-in_err-made-clause-rolled_back
 returns-in_err-made-clause-rolled_back g c = λ honest.
@@ -121,31 +105,15 @@ returns-in_err-made-clause-failed g c =
 -- ---- it exists already
 pub returns-in-None-clause-moments : goal.returns-in-None-clause-moments
 returns-in-None-clause-moments g c = λ honest.
-    let old = g.F.Files.history c.args.files.now in
-    let mid = g.F.Files.history c.clear.new.files in
-    let new = g.F.Files.history c.acquire.new.files in
-    let place = c.args.place.now in
-    locks_joined old mid new (adds_weaker old mid (c.clear.ensures.moments honest) (same_files old.tree))
-    (adds_weaker mid new (c.acquire.ensures.moments (c.clear.ensures.honest honest)) (one_lock place (lock_of place) refl mid.tree))
+    lock_moments c.args.place.now (g.F.Files.history c.args.files.now) (g.F.Files.history c.clear.new.files) (g.F.Files.history c.acquire.new.files) (c.clear.ensures.moments honest) (c.acquire.ensures.moments (c.clear.ensures.honest honest))
 
 pub returns-in-None-clause-folders : goal.returns-in-None-clause-folders
 returns-in-None-clause-folders g c = λ honest.
-    let old = g.F.Files.history c.args.files.now in
-    let mid = g.F.Files.history c.clear.new.files in
-    let new = g.F.Files.history c.acquire.new.files in
-    let paths = c.args.place.now ∷ [] in
-    onlys_joined paths old mid new (c.clear.ensures.folders honest) (onlys_same paths mid new (c.acquire.ensures.folders (c.clear.ensures.honest honest)))
+    lock_folders c.args.place.now (g.F.Files.history c.args.files.now) (g.F.Files.history c.clear.new.files) (g.F.Files.history c.acquire.new.files) (c.clear.ensures.folders honest) (c.acquire.ensures.folders (c.clear.ensures.honest honest))
 
 pub returns-in-None-clause-keeps : goal.returns-in-None-clause-keeps
 returns-in-None-clause-keeps g c = λ honest.
-    let old = g.F.Files.history c.args.files.now in
-    let mid = g.F.Files.history c.clear.new.files in
-    let new = g.F.Files.history c.acquire.new.files in
-    let lock = lock_of c.args.place.now in
-    let then = c.clear.ensures.honest honest in
-    let stay = now_of (OthersStay lock mid.tree) mid new (λ path apart. refl) (c.acquire.ensures.moments then) in
-    let held = now_of (KeepsHeld lock mid.tree) mid new (λ some. refl) (c.acquire.ensures.fresh then) in
-    keeps_joined old.tree mid.tree new.tree (keeps_same old.tree mid.tree (same_now old mid (c.clear.ensures.moments honest))) (fresh_keeps lock mid.tree new.tree stay held)
+    lock_keeps c.args.place.now (g.F.Files.history c.args.files.now) (g.F.Files.history c.clear.new.files) (g.F.Files.history c.acquire.new.files) (c.clear.ensures.moments honest) (c.acquire.ensures.moments (c.clear.ensures.honest honest)) (c.acquire.ensures.fresh (c.clear.ensures.honest honest))
 
 pub returns-in-None-clause-rolled_back : goal.returns-in-None-clause-rolled_back
 returns-in-None-clause-rolled_back g c = λ honest.
@@ -169,31 +137,15 @@ returns-in-None-clause-refused g c = λ honest is can.
 -- ---- it is made
 pub returns-in-Some-clause-moments : goal.returns-in-Some-clause-moments
 returns-in-Some-clause-moments g c = λ honest.
-    let old = g.F.Files.history c.args.files.now in
-    let mid = g.F.Files.history c.clear.new.files in
-    let new = g.F.Files.history c.acquire.new.files in
-    let place = c.args.place.now in
-    locks_joined old mid new (adds_weaker old mid (c.clear.ensures.moments honest) (same_files old.tree))
-    (adds_weaker mid new (c.acquire.ensures.moments (c.clear.ensures.honest honest)) (one_lock place (lock_of place) refl mid.tree))
+    lock_moments c.args.place.now (g.F.Files.history c.args.files.now) (g.F.Files.history c.clear.new.files) (g.F.Files.history c.acquire.new.files) (c.clear.ensures.moments honest) (c.acquire.ensures.moments (c.clear.ensures.honest honest))
 
 pub returns-in-Some-clause-folders : goal.returns-in-Some-clause-folders
 returns-in-Some-clause-folders g c = λ honest.
-    let old = g.F.Files.history c.args.files.now in
-    let mid = g.F.Files.history c.clear.new.files in
-    let new = g.F.Files.history c.acquire.new.files in
-    let paths = c.args.place.now ∷ [] in
-    onlys_joined paths old mid new (c.clear.ensures.folders honest) (onlys_same paths mid new (c.acquire.ensures.folders (c.clear.ensures.honest honest)))
+    lock_folders c.args.place.now (g.F.Files.history c.args.files.now) (g.F.Files.history c.clear.new.files) (g.F.Files.history c.acquire.new.files) (c.clear.ensures.folders honest) (c.acquire.ensures.folders (c.clear.ensures.honest honest))
 
 pub returns-in-Some-clause-keeps : goal.returns-in-Some-clause-keeps
 returns-in-Some-clause-keeps g c = λ honest.
-    let old = g.F.Files.history c.args.files.now in
-    let mid = g.F.Files.history c.clear.new.files in
-    let new = g.F.Files.history c.acquire.new.files in
-    let lock = lock_of c.args.place.now in
-    let then = c.clear.ensures.honest honest in
-    let stay = now_of (OthersStay lock mid.tree) mid new (λ path apart. refl) (c.acquire.ensures.moments then) in
-    let held = now_of (KeepsHeld lock mid.tree) mid new (λ some. refl) (c.acquire.ensures.fresh then) in
-    keeps_joined old.tree mid.tree new.tree (keeps_same old.tree mid.tree (same_now old mid (c.clear.ensures.moments honest))) (fresh_keeps lock mid.tree new.tree stay held)
+    lock_keeps c.args.place.now (g.F.Files.history c.args.files.now) (g.F.Files.history c.clear.new.files) (g.F.Files.history c.acquire.new.files) (c.clear.ensures.moments honest) (c.acquire.ensures.moments (c.clear.ensures.honest honest)) (c.acquire.ensures.fresh (c.clear.ensures.honest honest))
 
 pub returns-in-Some-clause-place : goal.returns-in-Some-clause-place
 returns-in-Some-clause-place g c = found_so (λ lock. lock.place.items ≡ c.args.place.now) c.in_ok-made.made c.in-Some.lock c.in-Some.is c.in_ok-made.ensures.place

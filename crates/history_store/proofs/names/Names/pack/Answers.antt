@@ -25,7 +25,7 @@ returns-in-Err-clause-failed g c = λ r wanted asks failed.
     let peels = peels_so g.F.Files.is_honest g.F.Files.history _ (g.O.Lookup.table c.args.objects.now) self r wanted c.args.edits.items asks in
     unprepared r wanted c.args.edits.items old self.kind asks.whole.kind self.store self.root c.as_ref-records.result all g.O.Lookup.may_fail g.O.Lookup.table c.args.objects.now peels g.F.Files.reading_may_fail
     (f self.store.files) (f c.prepare_with.new.store.files) c.in-Err.error (cc (failed, c.of_preparing.ensures))
-    (c.in-Err.ensures.causes asks.whole.honest) (c.in-Err.ensures.counted asks.whole.honest) (λ can. c.in-Err.ensures.records asks.whole.honest can) (c.in-Err.ensures.resolves asks.whole.honest asks.objects)
+    (c.in-Err.ensures.failed asks.whole.honest).causes (c.in-Err.ensures.failed asks.whole.honest).counted (c.in-Err.ensures.failed asks.whole.honest).records (c.in-Err.ensures.resolves asks.whole.honest asks.objects)
 
 pub returns-in-Ok-clause-moments : goal.returns-in-Ok-clause-moments
 returns-in-Ok-clause-moments g c = λ r wanted asks.
@@ -40,7 +40,7 @@ returns-in-Ok-clause-moments g c = λ r wanted asks.
     let first = c.prepare_with.ensures.honest honest in
     let prepared = preparing r wanted c.args.edits.items old self.kind asks.whole.kind self.store self.root c.as_ref-records.result all mid (c.prepare_with.ensures.moments honest) (c.prepare_with.ensures.folders honest) in
     passing r wanted c.args.edits.items old self.kind asks.whole.kind self.store self.root c.as_ref-records.result all (g.O.Lookup.table c.args.objects.now) peels c.in-Ok.made mid
-    (c.in-Ok.ensures.split honest) c.in-Ok.ensures.planned (c.in-Ok.ensures.texts honest) (c.in-Ok.ensures.lines honest) (c.in-Ok.ensures.repacked honest asks.objects here) (c.in-Ok.ensures.locked honest)
+    (c.in-Ok.ensures.prepared honest).split c.in-Ok.ensures.planned (c.in-Ok.ensures.prepared honest).texts (c.in-Ok.ensures.prepared honest).lines (c.in-Ok.ensures.packed honest asks.objects here).repacked (c.in-Ok.ensures.prepared honest).locked
     prepared new (c.finish.ensures.moments first) (c.finish.ensures.folders first)
 
 pub returns-in-Ok-clause-failed : goal.returns-in-Ok-clause-failed
@@ -49,8 +49,8 @@ returns-in-Ok-clause-failed g c = λ r wanted asks failed.
     let old = g.F.Files.history self.store.files in
     let all = all_asked g.F.Files.is_honest g.F.Files.history _ _ self r wanted c.args.edits.items c.as_ref-records.result c.as_ref-records.ensures.value asks in
     let honest = asks.whole.honest in
-    let has_room = room r wanted c.args.edits.items old self.kind asks.whole.kind self.store self.root c.as_ref-records.result all c.in-Ok.made.edits.items (c.in-Ok.ensures.split honest) in
-    let fault = c.finish.ensures.failed (c.prepare_with.ensures.honest honest) (c.in-Ok.ensures.room honest has_room) failed in
+    let has_room = room r wanted c.args.edits.items old self.kind asks.whole.kind self.store self.root c.as_ref-records.result all c.in-Ok.made.edits.items (c.in-Ok.ensures.prepared honest).split in
+    let fault = c.finish.ensures.failed (c.prepare_with.ensures.honest honest) ((c.in-Ok.ensures.prepared honest).room has_room) failed in
     wider_fault _ _ _ _ (later_risen _ _ _ c.prepare_with.ensures.later fault)
 
 pub returns-in-Ok-clause-packed : goal.returns-in-Ok-clause-packed
@@ -67,6 +67,6 @@ returns-in-Ok-clause-packed g c = λ r wanted asks.
     let prepared = preparing r wanted c.args.edits.items old self.kind asks.whole.kind self.store self.root c.as_ref-records.result all mid (c.prepare_with.ensures.moments honest) (c.prepare_with.ensures.folders honest) in
     on_ok_weaker c.finish.result
     (λ done. packs r wanted c.args.edits.items old self.kind asks.whole.kind self.store self.root c.as_ref-records.result all (g.O.Lookup.table c.args.objects.now) peels c.in-Ok.made mid
-    (c.in-Ok.ensures.split honest) c.in-Ok.ensures.planned (c.in-Ok.ensures.texts honest) (c.in-Ok.ensures.lines honest) (c.in-Ok.ensures.repacked honest asks.objects here) (c.in-Ok.ensures.locked honest)
+    (c.in-Ok.ensures.prepared honest).split c.in-Ok.ensures.planned (c.in-Ok.ensures.prepared honest).texts (c.in-Ok.ensures.prepared honest).lines (c.in-Ok.ensures.packed honest asks.objects here).repacked (c.in-Ok.ensures.prepared honest).locked
     prepared new (c.finish.ensures.moments first) (c.finish.ensures.folders first) done)
     (c.finish.ensures.done first)

@@ -51,13 +51,13 @@ returns-in-Err-clause-failed g c = λ r may failed.
     let honest = subst g.F.Files.is_honest (sym c.refresh.ensures.files) may.whole.honest in
     unprepared_told g.F.Files.is_honest g.F.Files.history g.F.Files.failures g.F.Files.reading_may_fail c.args.self.now c.refresh.new.self c.refresh.ensures.files c.refresh.ensures.kind c.in_ok-refresh.ensures.keeps c.args.from.now c.args.to.now c.in_ok-edits.edits.items c.in_ok-edits.ensures.asks c.as_ref-records.result c.as_ref-records.ensures.value r may
     (g.F.Files.failures c.prepare_with.new.store.files) _ _ (g.met.F.Files.rooted c.refresh.new.self.store.files honest) c.in-Err.error is
-    c.in-Err.ensures.causes c.in-Err.ensures.counted c.in-Err.ensures.records (λ honest. c.in-Err.ensures.resolves honest tt)
+    (λ honest. (c.in-Err.ensures.failed honest).causes) (λ honest. (c.in-Err.ensures.failed honest).counted) (λ honest. (c.in-Err.ensures.failed honest).records) (λ honest. c.in-Err.ensures.resolves honest tt)
 
 pub returns-in-Ok-clause-moments : goal.returns-in-Ok-clause-moments
 returns-in-Ok-clause-moments g c = λ r may.
     switch_passes g.F.Files.is_honest g.F.Files.history g.F.Files.failures g.F.Files.reading_may_fail c.args.self.now c.refresh.new.self c.refresh.ensures.files c.refresh.ensures.kind c.in_ok-refresh.ensures.keeps c.args.from.now c.args.to.now c.in_ok-edits.edits.items c.in_ok-edits.ensures.asks c.as_ref-records.result c.as_ref-records.ensures.value r may
     c.prepare_with.new.store.files c.prepare_with.ensures.moments c.prepare_with.ensures.folders
-    c.in-Ok.made c.in-Ok.ensures.split c.in-Ok.ensures.planned c.in-Ok.ensures.texts c.in-Ok.ensures.lines (λ honest. c.in-Ok.ensures.repacked honest tt) c.in-Ok.ensures.locked c.prepare_with.ensures.honest
+    c.in-Ok.made (λ honest. (c.in-Ok.ensures.prepared honest).split) c.in-Ok.ensures.planned (λ honest. (c.in-Ok.ensures.prepared honest).texts) (λ honest. (c.in-Ok.ensures.prepared honest).lines) (λ honest kept. (c.in-Ok.ensures.packed honest tt kept).repacked) (λ honest. (c.in-Ok.ensures.prepared honest).locked) c.prepare_with.ensures.honest
     c.finish.new.self.store.files c.finish.ensures.moments c.finish.ensures.folders
 
 pub returns-in-Ok-clause-failed : goal.returns-in-Ok-clause-failed
@@ -65,7 +65,7 @@ returns-in-Ok-clause-failed g c = λ r may failed.
     let honest = subst g.F.Files.is_honest (sym c.refresh.ensures.files) may.whole.honest in
     uncommitted g.F.Files.is_honest g.F.Files.history g.F.Files.failures g.F.Files.reading_may_fail c.args.self.now c.refresh.new.self c.refresh.ensures.files c.refresh.ensures.kind c.in_ok-refresh.ensures.keeps c.args.from.now c.args.to.now c.in_ok-edits.edits.items c.in_ok-edits.ensures.asks c.as_ref-records.result c.as_ref-records.ensures.value r may
     c.prepare_with.new.store.files c.prepare_with.ensures.moments c.prepare_with.ensures.folders
-    c.in-Ok.made c.in-Ok.ensures.split c.in-Ok.ensures.planned c.in-Ok.ensures.texts c.in-Ok.ensures.lines (λ honest. c.in-Ok.ensures.repacked honest tt) c.in-Ok.ensures.locked c.prepare_with.ensures.honest
+    c.in-Ok.made (λ honest. (c.in-Ok.ensures.prepared honest).split) c.in-Ok.ensures.planned (λ honest. (c.in-Ok.ensures.prepared honest).texts) (λ honest. (c.in-Ok.ensures.prepared honest).lines) (λ honest kept. (c.in-Ok.ensures.packed honest tt kept).repacked) (λ honest. (c.in-Ok.ensures.prepared honest).locked) c.prepare_with.ensures.honest
     c.finish.new.self.store.files ⊥ (g.met.F.Files.rooted c.prepare_with.new.store.files (c.prepare_with.ensures.honest honest))
     (λ held can. inr (c.finish.ensures.failed held can failed)) (λ never. never) c.in-Ok.ensures.unfailed
 
@@ -75,7 +75,7 @@ returns-in-Ok-clause-switched g c = λ r may.
     on_ok_weaker c.finish.result
     (λ done. switch_names g.F.Files.is_honest g.F.Files.history g.F.Files.failures g.F.Files.reading_may_fail c.args.self.now c.refresh.new.self c.refresh.ensures.files c.refresh.ensures.kind c.in_ok-refresh.ensures.keeps c.args.from.now c.args.to.now c.in_ok-edits.edits.items c.in_ok-edits.ensures.asks c.as_ref-records.result c.as_ref-records.ensures.value r may
     c.prepare_with.new.store.files c.prepare_with.ensures.moments c.prepare_with.ensures.folders
-    c.in-Ok.made c.in-Ok.ensures.split c.in-Ok.ensures.planned c.in-Ok.ensures.texts c.in-Ok.ensures.lines (λ honest. c.in-Ok.ensures.repacked honest tt) c.in-Ok.ensures.locked c.prepare_with.ensures.honest
+    c.in-Ok.made (λ honest. (c.in-Ok.ensures.prepared honest).split) c.in-Ok.ensures.planned (λ honest. (c.in-Ok.ensures.prepared honest).texts) (λ honest. (c.in-Ok.ensures.prepared honest).lines) (λ honest kept. (c.in-Ok.ensures.packed honest tt kept).repacked) (λ honest. (c.in-Ok.ensures.prepared honest).locked) c.prepare_with.ensures.honest
     c.finish.new.self.store.files c.finish.ensures.moments c.finish.ensures.folders (λ _. done))
     (c.finish.ensures.done (c.prepare_with.ensures.honest honest))
 
@@ -87,7 +87,7 @@ returns-in-Ok-clause-keeps g c = λ r may.
     let here = file_at (g.F.Files.history c.finish.new.self.store.files).tree packed_place in
     let kept = switch_keeps g.F.Files.is_honest g.F.Files.history g.F.Files.failures g.F.Files.reading_may_fail c.args.self.now c.refresh.new.self c.refresh.ensures.files c.refresh.ensures.kind c.in_ok-refresh.ensures.keeps c.args.from.now c.args.to.now c.in_ok-edits.edits.items c.in_ok-edits.ensures.asks c.as_ref-records.result c.as_ref-records.ensures.value r may
     c.prepare_with.new.store.files c.prepare_with.ensures.moments c.prepare_with.ensures.folders
-    c.in-Ok.made c.in-Ok.ensures.split c.in-Ok.ensures.planned c.in-Ok.ensures.texts c.in-Ok.ensures.lines (λ honest. c.in-Ok.ensures.repacked honest tt) c.in-Ok.ensures.locked c.prepare_with.ensures.honest
+    c.in-Ok.made (λ honest. (c.in-Ok.ensures.prepared honest).split) c.in-Ok.ensures.planned (λ honest. (c.in-Ok.ensures.prepared honest).texts) (λ honest. (c.in-Ok.ensures.prepared honest).lines) (λ honest kept. (c.in-Ok.ensures.packed honest tt kept).repacked) (λ honest. (c.in-Ok.ensures.prepared honest).locked) c.prepare_with.ensures.honest
     c.finish.new.self.store.files c.finish.ensures.moments c.finish.ensures.folders (λ _. done) in
     subst (λ kind. FileSaysLeft kind here c.finish.new.self.packed.read c.finish.new.self.packed.gone.items) (sym c.finish.ensures.kind)
     (subst (λ (packed : Kept). FileSaysLeft c.refresh.new.self.kind here packed.read packed.gone.items) (sym c.finish.ensures.packed) kept))

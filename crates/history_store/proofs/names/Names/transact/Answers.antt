@@ -25,7 +25,7 @@ returns-in-Err-clause-failed g c = λ r moved gone asks failed.
     let keeps = all_lent self c.as_ref-records.result c.as_ref-records.ensures.value r old whole.kind asks.can.all in
     unprepared r moved gone c.args.committer c.args.edits.items asks.edits old whole.holds self.kind whole.kind self.store self.root c.as_ref-records.result whole.apart may.fit asks.tests keeps
     (f self.store.files) (f c.prepare_with.new.store.files) g.F.Files.reading_may_fail _ _ c.in-Err.error (cc (failed, c.of_preparing.ensures))
-    (c.in-Err.ensures.causes whole.honest) (c.in-Err.ensures.counted whole.honest) (λ can. c.in-Err.ensures.records whole.honest can) (c.in-Err.ensures.resolves whole.honest tt)
+    (c.in-Err.ensures.failed whole.honest).causes (c.in-Err.ensures.failed whole.honest).counted (c.in-Err.ensures.failed whole.honest).records (c.in-Err.ensures.resolves whole.honest tt)
 
 pub returns-in-Ok-clause-moments : goal.returns-in-Ok-clause-moments
 returns-in-Ok-clause-moments g c = λ r moved gone asks.
@@ -40,7 +40,7 @@ returns-in-Ok-clause-moments g c = λ r moved gone asks.
     let prepared = preparing r moved gone c.args.committer c.args.edits.items asks.edits old whole.holds self.kind whole.kind self.store self.root c.as_ref-records.result mid
     (c.prepare_with.ensures.moments whole.honest) (c.prepare_with.ensures.folders whole.honest) in
     passing r moved gone c.args.committer c.args.edits.items asks.edits old whole.holds self.kind whole.kind self.store self.root c.as_ref-records.result keeps c.in-Ok.made mid
-    (c.in-Ok.ensures.split whole.honest) c.in-Ok.ensures.planned (c.in-Ok.ensures.texts whole.honest) (c.in-Ok.ensures.lines whole.honest) (c.in-Ok.ensures.repacked whole.honest tt here) (c.in-Ok.ensures.locked whole.honest)
+    (c.in-Ok.ensures.prepared whole.honest).split c.in-Ok.ensures.planned (c.in-Ok.ensures.prepared whole.honest).texts (c.in-Ok.ensures.prepared whole.honest).lines (c.in-Ok.ensures.packed whole.honest tt here).repacked (c.in-Ok.ensures.prepared whole.honest).locked
     prepared new (c.finish.ensures.moments first) (c.finish.ensures.folders first)
 
 pub returns-in-Ok-clause-failed : goal.returns-in-Ok-clause-failed
@@ -49,8 +49,8 @@ returns-in-Ok-clause-failed g c = λ r moved gone asks failed.
     let whole = may.whole in
     let self = c.args.self.now in
     let old = g.F.Files.history self.store.files in
-    let has_room = room r moved gone c.args.committer c.args.edits.items asks.edits old whole.holds self.kind whole.kind self.store self.root c.as_ref-records.result whole.apart may.fit c.in-Ok.made.edits.items (c.in-Ok.ensures.split whole.honest) in
-    let fault = c.finish.ensures.failed (c.prepare_with.ensures.honest whole.honest) (c.in-Ok.ensures.room whole.honest has_room) failed in
+    let has_room = room r moved gone c.args.committer c.args.edits.items asks.edits old whole.holds self.kind whole.kind self.store self.root c.as_ref-records.result whole.apart may.fit c.in-Ok.made.edits.items (c.in-Ok.ensures.prepared whole.honest).split in
+    let fault = c.finish.ensures.failed (c.prepare_with.ensures.honest whole.honest) ((c.in-Ok.ensures.prepared whole.honest).room has_room) failed in
     later_risen _ _ _ c.prepare_with.ensures.later fault
 
 pub returns-in-Ok-clause-changed : goal.returns-in-Ok-clause-changed
@@ -65,11 +65,11 @@ returns-in-Ok-clause-changed g c = λ r moved gone asks.
     let first = c.prepare_with.ensures.honest whole.honest in
     let prepared = preparing r moved gone c.args.committer c.args.edits.items asks.edits old whole.holds self.kind whole.kind self.store self.root c.as_ref-records.result mid
     (c.prepare_with.ensures.moments whole.honest) (c.prepare_with.ensures.folders whole.honest) in
-    let split = c.in-Ok.ensures.split whole.honest in
-    let texts = c.in-Ok.ensures.texts whole.honest in
-    let lines = c.in-Ok.ensures.lines whole.honest in
-    let repacked = c.in-Ok.ensures.repacked whole.honest tt here in
-    let locked = c.in-Ok.ensures.locked whole.honest in
+    let split = (c.in-Ok.ensures.prepared whole.honest).split in
+    let texts = (c.in-Ok.ensures.prepared whole.honest).texts in
+    let lines = (c.in-Ok.ensures.prepared whole.honest).lines in
+    let repacked = (c.in-Ok.ensures.packed whole.honest tt here).repacked in
+    let locked = (c.in-Ok.ensures.prepared whole.honest).locked in
     on_ok_weaker c.finish.result
     (λ done. makes self c.as_ref-records.result c.as_ref-records.ensures.value r moved gone old new whole.kind asks.can.all.none
     (changed r moved gone c.args.committer c.args.edits.items asks.edits old whole.holds self.kind whole.kind self.store self.root c.as_ref-records.result keeps c.in-Ok.made mid split c.in-Ok.ensures.planned texts lines repacked locked
