@@ -1,11 +1,12 @@
 //! The rows of all stored commits.
 
-ghost use Rattle.std.specs.Prelude.{◌≡◌, Contains, IfOk, IfSome, Some, is_some};
+ghost use Rattle.std.specs.Prelude.{◌≡◌, Contains, IfOk, IfSome, Some, is_some, length};
 ghost use Rattle.std.specs.FinMap.{get};
 ghost use Rattle.gix_hash.specs.Id.{id_of};
+ghost use Rattle.gix_ref_file.specs.Tree.{part};
 ghost use Rattle.gix_traverse_graph.specs.Rows.{AreRows};
 ghost use Rattle.gix_traverse_commit_known.specs.Told.{rows_of as graph_rows};
-ghost use Rattle.history_model.specs.Objects.{CommitValue, StoredCommit, Value, commit_content, content_of};
+ghost use Rattle.history_model.specs.Objects.{Value, content_of, value_text};
 ghost use Rattle.history_model.specs.Repository.{HoldsCommit};
 ghost use Rattle.history_walks.specs.Rows.{AreTheRows};
 ghost use Rattle.history_walks.specs.Telling.{TellsStored};
@@ -21,18 +22,19 @@ ghost use Rattle.history_model.specs.Repository as plain;
 use crate::reading::{commit_kept, commits};
 use gix_hash::ObjectId;
 use gix_object::Commit;
-use gix_ref_file::Files;
+use gix_ref_file::{Files, Place};
 use gix_traverse_graph::{ParentIds, Row};
-use history_repository::{Repository, Stopped, content};
+use history_model::Fault;
+use history_repository::{Repository, Stopped};
 use history_store::{object_place, parse_header};
 use history_walks::{Order, Parents, ReadCommits, Request, Told, rows_of};
-use std::alloc::{AllocError, Global};
+use std::alloc::Global;
 
 /// How a commit's text begins, and that of no other object.
 const COMMIT_FRONT: &[u8] = b"commit ";
 
 /// How many bytes of an object's text are read first: the whole text of nearly every commit is
-/// shorter, and nothing more of that is read then.
+/// shorter, and nothing more of that is read then. Of a longer one the rest is read.
 const FRONT_LENGTH: usize = 16384;
 
 /// The ids of commits, and the contents of those among them that have no rows.
@@ -50,56 +52,76 @@ fn row_of<'a, F: Files>(repository: &'a Repository<F>, id: &ObjectId) -> Option<
     repository.rows()?.commit_by_id(id)
 }
 
-/// Returns the first bytes of a stored object's text. The faults are those of `is_commit`.
-fn read_front<F: Files>(
+/// Returns the bytes of a stored object's text from a place on, at most so many. The faults are
+/// those of `is_commit`.
+fn read_part<F: Files>(
     repository: &Repository<F>,
     alloc: Global,
     id: &ObjectId,
+    at: u64,
+    most: usize,
 ) -> Result<Vec<u8>, Stopped>
     ensures { (r : plain.Repository) (value : Value) → Stands F.is_honest F.history repository.now r
         → get r.objects (id_of id.now) ≡ Some value
-        → GivesMeant F.reading_may_fail (λ front. front.items ≡ front_of r.kind value) result }
+        → GivesMeant F.reading_may_fail
+        (λ bytes. bytes.items ≡ part (value_text r.kind value) at most) result }
 {
     let place = object_place(alloc, id)?;
-    let mut front = vec![in alloc; 0; FRONT_LENGTH]?;
+    let mut bytes = vec![in alloc; 0; most]?;
     let files = repository.objects.files();
-    let count = files.read_at(&place, 0, &mut front)?.unwrap_or(0);
-    front.truncate(count);
-    Ok(front)
+    let count = files.read_at(&place, at, &mut bytes)?.unwrap_or(0);
+    bytes.truncate(count);
+    Ok(bytes)
 }
 
-/// Returns an object's content, if the first bytes of its text are all of it.
-fn whole_content(alloc: Global, front: &[u8]) -> Result<Option<Vec<u8>>, AllocError>
-    ensures { (kind : hash.Kind) (value : Value) → front.now ≡ front_of kind value
-        → IfOk result (λ found. IfSome found (λ content.
-        content.items ≡ content_of kind value)) }
-{
-    if front.len() == FRONT_LENGTH {
-        return Ok(None);
-    }
-    match parse_header(front) {
-        Some((_, start)) => Ok(Some(Vec::from_slice(alloc, &front[start..])?)),
-        None => Ok(None),
-    }
-}
-
-/// Returns the content of a stored commit whose text begins so. It is read only if its text is
-/// longer than that. The faults are those of `is_commit`.
-fn content_after<F: Files>(
+/// Returns how many bytes a stored object's text has. The faults are those of `is_commit`.
+fn text_length<F: Files>(
     repository: &Repository<F>,
     alloc: Global,
     id: &ObjectId,
-    front: &[u8],
-) -> Result<Vec<u8>, Stopped>
-    ensures { (r : plain.Repository) (commit : CommitValue)
-        → Stands F.is_honest F.history repository.now r
-        → get r.objects (id_of id.now) ≡ Some (StoredCommit commit)
-        → front.now ≡ front_of r.kind (StoredCommit commit) → GivesMeant F.reading_may_fail
-        (λ content. content.items ≡ commit_content r.kind commit) result }
+) -> Result<usize, Stopped>
+    ensures { (r : plain.Repository) (value : Value) → Stands F.is_honest F.history repository.now r
+        → get r.objects (id_of id.now) ≡ Some value
+        → GivesMeant F.reading_may_fail (λ size. size ≡ length (value_text r.kind value)) result }
 {
-    match whole_content(alloc, front)? {
-        Some(content) => Ok(content),
-        None => content(repository, alloc, gix_object::Kind::Commit, id),
+    let place = object_place(alloc, id)?;
+    let Place::File(size) = repository.objects.files().kind_of(&place)? else {
+        return Err(Stopped::Fault(Fault::File));
+    };
+    Ok(size as usize)
+}
+
+/// Returns the text of a stored object that begins so. The rest is read only if there may be any.
+/// The faults are those of `is_commit`.
+fn text_after<F: Files>(
+    repository: &Repository<F>,
+    alloc: Global,
+    id: &ObjectId,
+    front: Vec<u8>,
+) -> Result<Vec<u8>, Stopped>
+    ensures { (r : plain.Repository) (value : Value) → Stands F.is_honest F.history repository.now r
+        → get r.objects (id_of id.now) ≡ Some value → front.items ≡ front_of r.kind value
+        → GivesMeant F.reading_may_fail (λ text. text.items ≡ value_text r.kind value) result }
+{
+    if front.len() < FRONT_LENGTH {
+        return Ok(front);
+    }
+    let size = text_length(repository, alloc, id)?;
+    let most = size.saturating_sub(FRONT_LENGTH);
+    let rest = read_part(repository, alloc, id, FRONT_LENGTH as u64, most)?;
+    let mut text = front;
+    text.extend_from_slice(&rest)?;
+    Ok(text)
+}
+
+/// Returns the content of a stored object of this text. It is a fault if no memory is left.
+fn content_in(alloc: Global, text: &[u8]) -> Result<Vec<u8>, Stopped>
+    ensures { (kind : hash.Kind) (value : Value) → text.now ≡ value_text kind value
+        → GivesMeant ⊥ (λ content. content.items ≡ content_of kind value) result }
+{
+    match parse_header(text) {
+        Some((_, start)) => Ok(Vec::from_slice(alloc, &text[start..])?),
+        None => Err(Stopped::Fault(Fault::File)),
     }
 }
 
@@ -120,12 +142,12 @@ fn is_commit<F: Files>(
     if row_of(repository, id).is_some() {
         return Ok(true);
     }
-    let front = read_front(repository, alloc, id)?;
+    let front = read_part(repository, alloc, id, 0, FRONT_LENGTH)?;
     if !front.starts_with(COMMIT_FRONT) {
         return Ok(false);
     }
-    let content = content_after(repository, alloc, id, &front)?;
-    read.insert(*id, content)?;
+    let text = text_after(repository, alloc, id, front)?;
+    read.insert(*id, content_in(alloc, &text)?)?;
     Ok(true)
 }
 

@@ -149,10 +149,6 @@ const LOGGED_AT_BOTH: (&[u8], u64) = (
     6,
 );
 
-/// A commit up to its message of 8,000 bytes.
-const LONG_FRONT: &[u8] =
-    b"commit refs/heads/main any\nauthor 1 3 3 +0000\nA\na@b\ncommitter 1 3 3 +0000\nA\na@b\nmessage 8000\n";
-
 /// Whether a command succeeds, planned or answered.
 fn is_done<F: Files>(repository: &Repository<F>, alloc: Global, command: Command) -> bool {
     match command {
@@ -269,12 +265,16 @@ fn trees_at_several_paths_are_read_once(rt: HostRuntime) {
     }
 }
 
-/// Returns a commit on `main` whose message has 8,000 bytes.
-fn with_long_message(alloc: Global) -> Result<Vec<u8>, AllocError> {
-    let mut input = LONG_FRONT.to_vec(alloc)?;
-    let before_the_end = input.len().saturating_add(8000);
-    input.extend_from_slice(b"one\n")?;
-    input.resize(before_the_end, b'm')?;
+/// Returns a commit on `main` whose message has so many bytes.
+fn with_message_of(alloc: Global, size: usize) -> Result<Vec<u8>, AllocError> {
+    let mut message = b"one\n".to_vec(alloc)?;
+    message.resize(size, b'm')?;
+    let mut input =
+        b"commit refs/heads/main any\nauthor 1 3 3 +0000\nA\na@b\ncommitter 1 3 3 +0000\nA\na@b\nmessage ".to_vec(
+            alloc,
+        )?;
+    input.extend_from_slice(format!(in alloc; "{size}\n")?.as_bytes())?;
+    input.extend_from_slice(&message)?;
     input.extend_from_slice(b"\nend\n")?;
     Ok(input)
 }
@@ -282,12 +282,15 @@ fn with_long_message(alloc: Global) -> Result<Vec<u8>, AllocError> {
 #[test]
 fn an_index_reads_a_long_commit_once(rt: HostRuntime) -> Result<(), AllocError> {
     let alloc = rt.alloc();
-    let long = with_long_message(alloc)?;
-    for kind in KINDS {
-        let repository = counted(&rt, alloc, kind, &[BEFORE, long.as_slice()]);
-        // Three commits, two roots, the folders `a`, `a/b` and `d`, and two contents.
-        let met = readings(&rt, &repository, alloc, b"index\n");
-        assert!(rt; met == 10, "{met}");
+    // Three commits, two roots, the folders `a`, `a/b` and `d`, and two contents; of a commit with
+    // more bytes than are read at first its length is looked up, and the rest is read.
+    for (size, wanted) in [(8000, 10), (20000, 12)] {
+        let long = with_message_of(alloc, size)?;
+        for kind in KINDS {
+            let repository = counted(&rt, alloc, kind, &[BEFORE, long.as_slice()]);
+            let met = readings(&rt, &repository, alloc, b"index\n");
+            assert!(rt; met == wanted, "{met} for {wanted}");
+        }
     }
     Ok(())
 }

@@ -6,8 +6,8 @@ use Rattle.gix_ref_file.specs.Tree.{bytes_at, bytes_of, node_at, overwritten, pa
 use Rattle.history_model.specs.Objects.{value_text}
 use Rattle.history_repository.specs.Face.{objects_part}
 use Rattle.history_repository.proofs.StoredValues.{error_told, text_stands}
-use Rattle.history_queries.proofs.Fronts.{counted, front_read}
-use Rattle.history_queries.proofs.rows.read_front.Goals as goal
+use Rattle.history_queries.proofs.Fronts.{part_counted, part_read}
+use Rattle.history_queries.proofs.rows.read_part.Goals as goal
 
 pub returns-in_err-read_at : goal.returns-in_err-read_at
 returns-in_err-read_at g c = λ r value stands at.
@@ -25,9 +25,10 @@ returns g c = λ r value stands at.
     let honest = subst g.F.Files.is_honest (sym c.files-files.ensures) stands.honest_objects in
     let buffer = c.deref_mut.result.now in
     let read = c.read_at.new.buffer in
-    let filled : take c.in_ok-front.front.len (read ++ drop (length read) c.in_ok-front.front.items) ≡ read =
-    take_at read (drop (length read) c.in_ok-front.front.items) c.in_ok-front.front.len (omega (arith, c.in_ok-read_at.ensures.len, c.deref_mut.ensures.len)) in
-    front_read (value_text r.kind value) buffer read c.truncate.new.self.items 16384 c.unwrap_or-count.result (c.truncate.ensures.items ∙ ap (take c.unwrap_or-count.result) filled)
-    (c.in_ok-read_at.ensures.bytes honest ∙ ap (λ (bytes : List ℕ). overwritten buffer (part bytes 0 (length buffer))) text)
-    (c.unwrap_or-count.ensures ∙ ap (λ o. unwrap_or o 0) (c.in_ok-read_at.ensures.count honest) ∙ counted (bytes_of (node_at (history c.files-files.result.now).tree c.deref.result.now)) (length buffer) ∙ ap (λ (bytes : List ℕ). length (part bytes 0 (length buffer))) text)
-    (omega (arith, c.deref_mut.ensures.len, c.in_ok-front.ensures.len))
+    let filled : take c.in_ok-bytes.bytes.len (read ++ drop (length read) c.in_ok-bytes.bytes.items) ≡ read =
+    take_at read (drop (length read) c.in_ok-bytes.bytes.items) c.in_ok-bytes.bytes.len (omega (arith, c.in_ok-read_at.ensures.len, c.deref_mut.ensures.len)) in
+    part_read (value_text r.kind value) buffer read c.truncate.new.self.items c.args.at c.args.most c.unwrap_or-count.result (c.truncate.ensures.items ∙ ap (take c.unwrap_or-count.result) filled)
+    (c.in_ok-read_at.ensures.bytes honest ∙ ap (λ (bytes : List ℕ). overwritten buffer (part bytes c.args.at (length buffer))) text)
+    (c.unwrap_or-count.ensures ∙ ap (λ o. unwrap_or o 0) (c.in_ok-read_at.ensures.count honest)
+    ∙ part_counted (bytes_of (node_at (history c.files-files.result.now).tree c.deref.result.now)) (value_text r.kind value) c.args.at (length buffer) text)
+    (omega (arith, c.deref_mut.ensures.len, c.in_ok-bytes.ensures.len))
