@@ -6,6 +6,7 @@ ghost use Rattle.gix_ref_file.specs.declared.files.FileError.TheVariants as call
 ghost use Rattle.history_model.specs.Places.{Pair};
 ghost use Rattle.history_model.specs.Recovery.{recovered};
 ghost use Rattle.history_recovery.specs.Recovering.{ObjectsAlike, NamesAlike, AreObjectsRecovered, AreNamesRecovered, IsOnTheWay, pair_of, recover_fault};
+ghost use Rattle.history_recovery.specs.Changes.{ChangesHonestly};
 ghost use Rattle.history_recovery.specs.declared.recovering.RecoverError.TheVariants.{File, Memory};
 
 use crate::clearing::clear_below;
@@ -98,13 +99,10 @@ pub fn recover<F: Files>(
 
 // Removes an object's file that was not renamed to its place.
 fn remove_unfinished<F: Files>(alloc: Global, objects: &mut F) -> Result<(), FileError>
-    ensures honest { F.is_honest objects.old → F.is_honest objects.new }
+    ensures keeps { ChangesHonestly F.Files calls.Memory objects.old objects.new result }
     ensures recovered { Achieves F.is_honest F.history objects.old objects.new result
         AreObjectsRecovered }
     ensures alike { Passes F.is_honest F.history objects.old objects.new ObjectsAlike }
-    ensures later { F.failures objects.old ≤ F.failures objects.new }
-    ensures unfailed { OnOk result (F.failures objects.new ≡ F.failures objects.old) }
-    ensures memory { IsErrOf result calls.Memory → F.failures objects.new ≡ F.failures objects.old }
     ensures failed { F.is_honest objects.old → IsErrOf result Failed
         → HasFault F.failures F.reading_may_fail objects.old objects.new }
 {
@@ -116,13 +114,10 @@ fn remove_unfinished<F: Files>(alloc: Global, objects: &mut F) -> Result<(), Fil
 
 // Removes the leftovers of the names part, and then cuts the logs.
 fn recover_names<F: Files>(alloc: Global, names: &mut F, kind: Kind) -> Result<(), FileError>
-    ensures honest { F.is_honest names.old → F.is_honest names.new }
+    ensures keeps { ChangesHonestly F.Files calls.Memory names.old names.new result }
     ensures recovered { Achieves F.is_honest F.history names.old names.new result
         (AreNamesRecovered kind) }
     ensures alike { Passes F.is_honest F.history names.old names.new (NamesAlike kind) }
-    ensures later { F.failures names.old ≤ F.failures names.new }
-    ensures unfailed { OnOk result (F.failures names.new ≡ F.failures names.old) }
-    ensures memory { IsErrOf result calls.Memory → F.failures names.new ≡ F.failures names.old }
     ensures failed { F.is_honest names.old → IsErrOf result Failed
         → HasFault F.failures F.reading_may_fail names.old names.new }
 {
