@@ -1,5 +1,5 @@
 -- A command that changes files is acted on by its two halves.
-use Rattle.std.proofs.Common.{◌≡◌, ℕ, [], ◌∷◌, ◌++◌, refl, sym, ◌∙◌, subst, codes}
+use Rattle.std.proofs.Common.{◌≡◌, ℕ, true, [], ◌∷◌, ◌++◌, refl, sym, ◌∙◌, subst, codes}
 use Rattle.std.specs.Prelude.{IfOk, Result, Ok, Err, Vec}
 use Rattle.std.specs.declared.alloc.Global.{Global}
 use Rattle.std.proofs.lemmas.List.{append-nil}
@@ -18,13 +18,21 @@ use Rattle.history_layout.specs.OneNameSteps.{commit_move, tag_move}
 use Rattle.history_layout.specs.PackSteps.{PacksNames}
 use Rattle.history_store.specs.declared.packs.PackedName.{PackedName}
 use Rattle.history_repository.specs.declared.stopped.Stopped.{Stopped}
-use Rattle.history.specs.Acts.{Acts}
+use Rattle.gix_ref_file.specs.declared.files.Files.{Ghosts}
+use Rattle.history_model.specs.Stops.{is_changing}
+use Rattle.history_plans.specs.Halves.{names_tree}
+use Rattle.history_repository.specs.Stands.{Stands}
+use Rattle.history_repository.specs.declared.repository.Repository.{Repository}
+use Rattle.history.specs.Acts.{Acts, CountsFailure}
+use Rattle.history.specs.Calls.{ActsAsAsked, NamesPass, StoresAlone}
+use Rattle.history.specs.Moments.{ObjectsPass}
 use Rattle.history.specs.Moving.{LeavesMoved}
 use Rattle.history.specs.NameFiles.{ChangesHeadAlone, ChangesNameAlone, LeavesFiles, LeavesAsAsked, RenamesAlone, TakesNameAlone}
 use Rattle.history.specs.Replies.{TellsDone}
-use Rattle.history.specs.Storing.{AreMovesOf, IsDone, StoresObjects}
+use Rattle.history.specs.Storing.{AreMovesOf, HasStored, IsDone, StoresObjects}
 use Rattle.history.specs.declared.moves.Moves.{Moves}
 use Rattle.history.proofs.PackedRuns.{stopped_packs}
+use Rattle.history.proofs.Stops.{moving_later, stopped_moving, stopped_storing, storing_later}
 use Rattle.history.specs.declared.moves.Done.TheVariants as done
 use Rattle.history.specs.declared.moves.Moves.TheVariants as move
 use Rattle.history_model.specs.Repository as plain
@@ -117,3 +125,29 @@ packs_done r (Rename from to) text old mid new same h = subst (λ tree. RenamesA
 packs_done r (Delete name at) text old mid new same h = subst (λ tree. TakesNameAlone name tree new) same h
 packs_done r (Switch name) text old mid new same h = subst (λ tree. ChangesHeadAlone tree new) same h
 packs_done r order text old mid new same h = tt
+
+-- ---- what it does, from one state of a repository to another
+
+module _ {F : Type 0} (files : Ghosts F) (old mid : Repository F) (r : plain.Repository) (order : Command) (changes : is_changing order ≡ true) (h : Stands files.is_honest files.history old r)
+    (R : Type 0) (alone : StoresAlone files R old mid) (passes : ObjectsPass files.history r order old mid) (ends : Result (Vec ℕ Global) Stopped) where
+  -- if its objects alone passed
+  pub acts_storing : (stopped : Stopped) → ends ≡ Err stopped → Acts (CountsFailure files.failures files.reading_may_fail old mid) (Stands files.is_honest files.history mid) r order ends
+      → ActsAsAsked files r (CountsFailure files.failures files.reading_may_fail old mid) order old mid ends
+  acts_storing stopped is_end acts = record {
+    later = storing_later files.history files.failures old mid r order alone.kept passes;
+    stops = stopped_storing files.is_honest files.history files.failures old r order changes h mid alone.kept passes;
+    acts = acts;
+    leaves = packs_nothing r order ends stopped (names_tree files.history old) (names_tree files.history mid) is_end;
+  }
+
+  -- if its names passed too
+  pub acts_moving : (new : Repository F) (moves : Moves) → AreMovesOf r order moves → HasStored files.is_honest files.history mid r order → new.objects ≡ mid.objects → NamesPass files r order mid new
+      → Acts (CountsFailure files.failures files.reading_may_fail old new) (Stands files.is_honest files.history new) r order ends
+      → LeavesFiles r order ends (names_tree files.history old) (names_tree files.history new)
+      → ActsAsAsked files r (CountsFailure files.failures files.reading_may_fail old new) order old new ends
+  acts_moving new moves are stored same on acts leaves = record {
+    later = moving_later files.history files.failures old mid new r order alone.kept passes same on;
+    stops = stopped_moving files.is_honest files.history files.failures old r order changes h mid new alone.kept passes are.none are.free stored.holds same on;
+    acts = acts;
+    leaves = leaves;
+  }

@@ -1,10 +1,10 @@
--- The counts of failed calls, and honesty, over one step after another.
-use Rattle.std.proofs.Common.{◌≡◌, ◌∙◌, inl, inr, ℕ, ◌≤◌, refl, ap, subst, sym, arith, Result, Ok, Err}
-use Rattle.std.specs.Prelude.{OnOk}
+-- What calls keep, one after another: honest files stay so, and their counts of failed calls.
+use Rattle.std.proofs.Common.{◌≡◌, ◌∙◌, inl, inr, ℕ, ◌≤◌, refl, ap, subst, sym, arith}
 use Rattle.gix_ref_file.specs.History.{HasRisen}
-use Rattle.history.specs.Acts.{CountsFailure, CountsRise, KeepsCounts, StaysHonest}
-use Rattle.history_repository.specs.Face.{objects_part, names_part, KeepsAllButObjects, KeepsAllButRows}
-use Rattle.history.specs.Moving.{MovesNamesAlone}
+use Rattle.gix_ref_file.specs.declared.files.Files.{Ghosts}
+use Rattle.history.specs.Acts.{CountsFailure}
+use Rattle.history.specs.Calls.{KeepsBoth, KeepsHonesty, MovesAlone, StoresAlone}
+use Rattle.history_repository.specs.Face.{KeepsAllButRows}
 use Rattle.history_repository.specs.declared.repository.Repository.{Repository}
 
 pub risen_later : (a b c : ℕ) → HasRisen a b → b ≤ c → HasRisen a c
@@ -13,53 +13,55 @@ risen_later a b c h k = omega arith
 pub risen_before : (a b c : ℕ) → a ≤ b → HasRisen b c → HasRisen a c
 risen_before a b c h k = omega arith
 
-module _ {F : Type 0} (failures : F → ℕ) where
-  pub counts_same : (a : Repository F) → CountsRise failures a a
-  counts_same a = record { objects = omega arith; names = omega arith }
+module _ {F : Type 0} (files : Ghosts F) where
+  -- ---- one part
 
-  pub counts_joined : (a b c : Repository F) → CountsRise failures a b → CountsRise failures b c → CountsRise failures a c
-  counts_joined a b c h k = record { objects = omega arith; names = omega arith }
+  pub same_honesty : (R : Type 0) (a b : F) → b ≡ a → KeepsHonesty files R a b
+  same_honesty R a b same = subst (KeepsHonesty files R a) (sym same) (record { honest = λ h. h; later = omega arith; unfailed = λ unsaid. refl })
 
-  pub stay_same : (a b : Repository F) → b ≡ a → KeepsCounts failures a b
-  stay_same a b same = record { objects = ap (λ s. failures (objects_part s)) same; names = ap (λ s. failures (names_part s)) same }
+  pub more_honesty : (P R : Type 0) (a b : F) → KeepsHonesty files P a b → (P → R) → KeepsHonesty files R a b
+  more_honesty P R a b h more = record { honest = h.honest; later = h.later; unfailed = λ unsaid. h.unfailed (λ p. unsaid (more p)) }
 
-  pub stay_joined : (a b c : Repository F) → KeepsCounts failures a b → KeepsCounts failures b c → KeepsCounts failures a c
-  stay_joined a b c h k = record { objects = k.objects ∙ h.objects; names = k.names ∙ h.names }
+  -- the first of two calls reports no failed call that both don't report
+  pub then_honesty : (P R : Type 0) (a b c : F) → KeepsHonesty files P a b → KeepsHonesty files R b c → (P → R) → KeepsHonesty files R a c
+  then_honesty P R a b c h k more = record {
+    honest = λ first. k.honest (h.honest first);
+    later = omega (arith, h.later, k.later);
+    unfailed = λ unsaid. k.unfailed unsaid ∙ h.unfailed (λ p. unsaid (more p));
+  }
 
-  -- if the last of two steps is done, no failure was counted in either
-  pub ok_joined : {T E : Type 0} (a b c : Repository F) (result : Result T E) → KeepsCounts failures a b → OnOk result (KeepsCounts failures b c) → OnOk result (KeepsCounts failures a c)
-  ok_joined a b c (Ok value) h k = stay_joined a b c h k
-  ok_joined a b c (Err error) h k = tt
+  -- ---- both parts
 
-  -- a command that reads leaves the counts, whatever it returns
-  pub idle_stays : {T E : Type 0} (result : Result T E) (a : Repository F) → OnOk result (KeepsCounts failures a a)
-  idle_stays (Ok value) a = stay_same a a refl
-  idle_stays (Err error) a = tt
+  pub same_both : (R : Type 0) (a : Repository F) → KeepsBoth files R a a
+  same_both R a = record { objects = same_honesty R _ _ refl; names = same_honesty R _ _ refl }
 
-  pub failed_later : (MayFail : Type 0) (a b c : Repository F) → CountsFailure failures MayFail a b → CountsRise failures b c → CountsFailure failures MayFail a c
-  failed_later MayFail a b c (inl h) k = inl (risen_later _ _ _ h k.objects)
-  failed_later MayFail a b c (inr (inl h)) k = inr (inl (risen_later _ _ _ h k.names))
-  failed_later MayFail a b c (inr (inr h)) k = inr (inr h)
+  pub then_both : (P R : Type 0) (a b c : Repository F) → KeepsBoth files P a b → KeepsBoth files R b c → (P → R) → KeepsBoth files R a c
+  then_both P R a b c h k more = record {
+    objects = then_honesty P R _ _ _ h.objects k.objects more;
+    names = then_honesty P R _ _ _ h.names k.names more;
+  }
 
-  pub failed_before : (MayFail : Type 0) (a b c : Repository F) → CountsRise failures a b → CountsFailure failures MayFail b c → CountsFailure failures MayFail a c
-  failed_before MayFail a b c k (inl h) = inl (risen_before _ _ _ k.objects h)
-  failed_before MayFail a b c k (inr (inl h)) = inr (inl (risen_before _ _ _ k.names h))
-  failed_before MayFail a b c k (inr (inr h)) = inr (inr h)
+  pub more_both : (P R : Type 0) (a b : Repository F) → KeepsBoth files P a b → (P → R) → KeepsBoth files R a b
+  more_both P R a b h more = record { objects = more_honesty P R _ _ h.objects more; names = more_honesty P R _ _ h.names more }
 
-module _ {F : Type 0} (IsHonest : F → Type 0) where
-  pub honest_none : (a : Repository F) → StaysHonest IsHonest a a
-  honest_none a = record { objects = λ h. h; names = λ h. h }
+  pub rows_both : (R : Type 0) (a b : Repository F) → KeepsAllButRows a b → KeepsBoth files R a b
+  rows_both R a b kept = subst (KeepsBoth files R a) (sym kept) (record { objects = same_honesty R _ _ refl; names = same_honesty R _ _ refl })
 
-  pub honest_then : (a b c : Repository F) → StaysHonest IsHonest a b → StaysHonest IsHonest b c → StaysHonest IsHonest a c
-  honest_then a b c h k = record { objects = λ o. k.objects (h.objects o); names = λ n. k.names (h.names n) }
+  -- objects are put, or names move
+  pub stored_both : (R : Type 0) (a b : Repository F) → StoresAlone files R a b → KeepsBoth files R a b
+  stored_both R a b s = record { objects = s.objects; names = same_honesty R _ _ (ap (λ n. n.store.files) s.kept.names) }
 
-  pub honest_but_rows : (a b : Repository F) → KeepsAllButRows a b → StaysHonest IsHonest a b
-  honest_but_rows a b kept = record { objects = subst (λ s. IsHonest (objects_part s)) (sym kept); names = subst (λ s. IsHonest (names_part s)) (sym kept) }
+  pub moved_both : (R : Type 0) (a b : Repository F) → MovesAlone files R a b → KeepsBoth files R a b
+  moved_both R a b m = record { objects = same_honesty R _ _ (ap (λ o. o.files) m.kept.objects); names = m.names }
 
-  -- objects are put
-  pub honest_stored : (a b : Repository F) → KeepsAllButObjects a b → (IsHonest (objects_part a) → IsHonest (objects_part b)) → StaysHonest IsHonest a b
-  honest_stored a b kept objects = record { objects = objects; names = subst (λ n. IsHonest n.store.files) (sym kept.names) }
+  -- ---- a failed call that was counted
 
-  -- then names move
-  pub honest_moved : (a b c : Repository F) → StaysHonest IsHonest a b → MovesNamesAlone b c → (IsHonest (names_part b) → IsHonest (names_part c)) → StaysHonest IsHonest a c
-  honest_moved a b c h kept names = record { objects = λ o. subst (λ s. IsHonest s.files) (sym kept.objects) (h.objects o); names = λ n. names (h.names n) }
+  pub failed_later : (R MayFail : Type 0) (a b c : Repository F) → CountsFailure files.failures MayFail a b → KeepsBoth files R b c → CountsFailure files.failures MayFail a c
+  failed_later R MayFail a b c (inl h) k = inl (risen_later _ _ _ h k.objects.later)
+  failed_later R MayFail a b c (inr (inl h)) k = inr (inl (risen_later _ _ _ h k.names.later))
+  failed_later R MayFail a b c (inr (inr h)) k = inr (inr h)
+
+  pub failed_before : (R MayFail : Type 0) (a b c : Repository F) → KeepsBoth files R a b → CountsFailure files.failures MayFail b c → CountsFailure files.failures MayFail a c
+  failed_before R MayFail a b c k (inl h) = inl (risen_before _ _ _ k.objects.later h)
+  failed_before R MayFail a b c k (inr (inl h)) = inr (inl (risen_before _ _ _ k.names.later h))
+  failed_before R MayFail a b c k (inr (inr h)) = inr (inr h)

@@ -1,5 +1,5 @@
 -- The moves of a command that stores nothing, and what is reported if there are none.
-use Rattle.std.proofs.Common.{◌≡◌, sym, subst}
+use Rattle.std.proofs.Common.{◌≡◌, inr, refl, sym, subst}
 use Rattle.std.specs.Prelude.{Some, Result, Ok, Err, Vec}
 use Rattle.std.specs.declared.alloc.Global.{Global}
 use Rattle.history_model.specs.Bytes.{Bytes}
@@ -15,7 +15,15 @@ use Rattle.history_repository.specs.declared.stopped.Stopped.TheVariants.{Refuse
 use Rattle.history_plans.specs.Deleting.{TestsAll}
 use Rattle.history_plans.specs.Moving.{PlansMoves}
 use Rattle.history_plans.specs.Renaming.{PlansRename}
-use Rattle.history.specs.Storing.{GivesMoves, StoresObjects}
+use Rattle.history_model.specs.Meaning.{after}
+use Rattle.gix_ref_file.specs.declared.files.Files.{Ghosts}
+use Rattle.history_repository.specs.Stands.{Stands}
+use Rattle.history_repository.specs.declared.repository.Repository.{Repository}
+use Rattle.history.specs.Acts.{CountsFailure}
+use Rattle.history.specs.Calls.{StoresAsAsked}
+use Rattle.history.specs.Storing.{GivesMoves, HasStored, StoresObjects}
+use Rattle.history.proofs.AfterStoring.{stored_nothing}
+use Rattle.history.proofs.Stood.{adds_same}
 use Rattle.history.specs.declared.moves.Moves.{Moves}
 use Rattle.history_model.specs.Repository as plain
 
@@ -65,3 +73,13 @@ module _ (MayFail : Type 0) (r : plain.Repository) where
   given_stores C S order (Err (Fault Memory)) may stored h = tt
   given_stores C S order (Err (Fault File)) may stored h = may h
   given_stores C S order (Err (Fault IdTaken)) may stored h = absurd h
+
+-- of a command that stores nothing
+pub moves_given : {F : Type 0} (files : Ghosts F) (now : Repository F) (r : plain.Repository) (order made : Command) → order ≡ made → (after r made).objects ≡ r.objects → Stands files.is_honest files.history now r
+    → (result : Result Moves Stopped) → GivesMoves files.reading_may_fail r made result → StoresAsAsked files r order now now result
+moves_given files now r order made is same h result gives =
+    subst (λ o. StoresAsAsked files r o now now result) (sym is) (record {
+      ends = given_stores files.reading_may_fail r (CountsFailure files.failures files.reading_may_fail now now) (HasStored files.is_honest files.history now r made) made result (λ may. inr (inr may))
+          (stored_nothing files.is_honest files.history now r made same h) gives;
+      passes = adds_same _ _ refl;
+    })

@@ -20,11 +20,8 @@ use Rattle.history_word.specs.Buffer.{unread}
 use Rattle.history_word.specs.Taking.{Came}
 use Rattle.history.specs.declared.running.RunError.{RunError}
 use Rattle.history.specs.declared.running.RunError.TheVariants.{Read, Write}
-use Rattle.history_repository.specs.declared.repository.Repository.{Repository as Store}
-use Rattle.history.specs.Acts.{CountsRise, CountsFailure}
 use Rattle.history.specs.Runs.{EndsRun}
 use Rattle.std.proofs.lemmas.Bool.{or_parts, not-false}
-use Rattle.history.proofs.Counts.{risen_later, risen_before}
 
 -- ---- steps
 
@@ -147,26 +144,6 @@ ends_then AtEnd L M C D E old mid new commands more replies others read followin
   ran = ran_then C D E old mid k.mid commands k.answered replies k.written read following written texts k.rest k.part false c d h k.ran;
   cut = short_then AtEnd D E k.mid k.last k.cut_off k.rest k.part failed new d k.cut;
 }
-
--- ---- failed calls
-
-pub counts_none : {F : Type 0} (failures : F → ℕ) (old : Store F) → CountsRise failures old old
-counts_none failures old = record { objects = omega arith; names = omega arith }
-
-pub counts_then : {F : Type 0} (failures : F → ℕ) (old mid new : Store F) → CountsRise failures old mid → CountsRise failures mid new → CountsRise failures old new
-counts_then failures old mid new h k = record { objects = omega (arith, h.objects, k.objects); names = omega (arith, h.names, k.names) }
-
--- a call that failed first has failed
-pub failed_first : {F : Type 0} (failures : F → ℕ) (MayFail : Type 0) (old mid new : Store F) → CountsRise failures mid new → CountsFailure failures MayFail old mid → CountsFailure failures MayFail old new
-failed_first failures MayFail old mid new k (inl h) = inl (risen_later _ _ _ h k.objects)
-failed_first failures MayFail old mid new k (inr (inl h)) = inr (inl (risen_later _ _ _ h k.names))
-failed_first failures MayFail old mid new k (inr (inr h)) = inr (inr h)
-
--- and one that failed then
-pub failed_then : {F : Type 0} (failures : F → ℕ) (MayFail : Type 0) (old mid new : Store F) → CountsRise failures old mid → CountsFailure failures MayFail mid new → CountsFailure failures MayFail old new
-failed_then failures MayFail old mid new k (inl h) = inl (risen_before _ _ _ k.objects h)
-failed_then failures MayFail old mid new k (inr (inl h)) = inr (inl (risen_before _ _ _ k.names h))
-failed_then failures MayFail old mid new k (inr (inr h)) = inr (inr h)
 
 -- ---- streams
 

@@ -27,7 +27,7 @@ use Rattle.history.specs.Acts.{IsAnswer}
 use Rattle.history.specs.Indexed.{FollowsRows}
 use Rattle.history.specs.NameFiles.{AllLeaveAsSaid}
 use Rattle.history.specs.Replies.{text_of}
-use Rattle.history.specs.Runs.{EndsRun, EndsHere, GoesOn, Turns}
+use Rattle.history.specs.Runs.{EndsHere, GoesOn, Turns}
 use Rattle.history.proofs.ActLemmas.{told_text}
 use Rattle.history.proofs.RunLemmas.{ends_then, ran_none, ran_one, ran_then}
 use Rattle.history_store.proofs.Beside.{from_and_2}
@@ -352,22 +352,3 @@ run_then Took Comes Reads Wrote Writes Writing Stood StandsNow RecoversNow First
   stands = k.stands;
   recovers = k.recovers;
 }
-
--- what was acted on, read, written and left, of the result that is returned
-pub run_told : (Reads Writes : Bytes → Type 0) (StandsNow RecoversNow : Repository → Type 0) (Traced : List Command → List Reply → Repository → Type 0) (AtEnd L C : Type 0) (r : Repository) (told result : Result End RunError) (failed : Bool)
-    → told ≡ result → EndsHere Reads Writes StandsNow RecoversNow Traced AtEnd L C r result failed
-    → (commands : List Command) × (replies : List Reply) × (read written : Bytes) × (new : Repository) × Reads read × Writes written × EndsRun AtEnd L C r commands replies read written told failed new
-    × Traced commands replies new × (failed ≡ false → StandsNow new) × (failed ≡ true → RecoversNow new)
-run_told Reads Writes StandsNow RecoversNow Traced AtEnd L C r told result failed e h = (
-  h.commands,
-  h.replies,
-  h.read,
-  h.written,
-  h.new,
-  h.reads,
-  h.writes,
-  subst (λ x. EndsRun AtEnd L C r h.commands h.replies h.read h.written x failed h.new) (sym e) h.ends,
-  h.traced,
-  h.stands,
-  h.recovers,
-)

@@ -1,18 +1,14 @@
 //! A command that changes files: its objects are stored, its reply is made, and then names move.
 
-ghost use Rattle.std.specs.Prelude.{◌≡◌, [], ◌∷◌, codes, IfErr, IfOk, OnOk, IsErrOf};
+ghost use Rattle.std.specs.Prelude.{◌≡◌, [], ◌∷◌, codes, IfErr, IfOk, IsErrOf};
 ghost use Rattle.gix_hash.specs.Id.{id_of};
-ghost use Rattle.history_model.specs.Moments.{LeavesStopped};
 ghost use Rattle.history_model.specs.Objects.{hex};
-ghost use Rattle.history_model.specs.Places.{Pair};
 ghost use Rattle.history_model.specs.Spelling.{Line, parts_text};
-ghost use Rattle.history.specs.Acts.{Acts, CountsFailure, CountsRise, KeepsCounts, StaysHonest, OnlyFileCounts};
+ghost use Rattle.history_model.specs.declared.Fault.TheVariants.{File};
 ghost use Rattle.history_repository.specs.Face.{has_failed, rows_in};
 ghost use Rattle.history_repository.specs.Faults.{IsRefusal};
-ghost use Rattle.history_repository.specs.Stands.{Stands};
-ghost use Rattle.history_plans.specs.Halves.{names_tree};
-ghost use Rattle.history.specs.Moments.{GoesLater, StoodOnTheWay};
-ghost use Rattle.history.specs.NameFiles.{LeavesFiles};
+ghost use Rattle.history.specs.Acts.{CountsFailure};
+ghost use Rattle.history.specs.Calls.{ActsAsAsked, KeepsBoth};
 ghost use Rattle.history.specs.Replies.{TellsDone};
 ghost use Rattle.history.specs.Storing.{AreMovesOf, AskedChange, IsDone};
 ghost use Rattle.history_model.specs.Commands as orders;
@@ -90,27 +86,12 @@ pub(crate) fn change<F: Files>(
     ensures refused { IfErr result (λ stopped. IsRefusal stopped → repository.new ≡ repository.old) }
     ensures failed { has_failed repository.new ≡ has_failed repository.old }
     ensures rows { rows_in repository.new ≡ rows_in repository.old }
-    ensures honest { StaysHonest F.is_honest repository.old repository.new }
-    ensures counts { CountsRise F.failures repository.old repository.new }
-    ensures unfailed { OnOk result (KeepsCounts F.failures repository.old repository.new) }
-    ensures memory { OnlyFileCounts F.failures repository.old repository.new
-        (λ fault. IsErrOf result (stopped.Fault fault)) }
-    ensures later { (r : plain.Repository) (order : orders.Command)
-        → AskedChange F.is_honest F.history repository.old command r order
-        → GoesLater F.history F.failures repository.old repository.new }
-    // A stop at any moment on the way, once recovered, leaves what it may.
-    ensures stops { (r : plain.Repository) (order : orders.Command)
-        → AskedChange F.is_honest F.history repository.old command r order → (pair : Pair)
-        → StoodOnTheWay F.history F.failures repository.old repository.new pair
-        → LeavesStopped r order pair }
+    ensures keeps { KeepsBoth F.Files (IsErrOf result (stopped.Fault File))
+        repository.old repository.new }
     ensures acts { (r : plain.Repository) (order : orders.Command)
         → AskedChange F.is_honest F.history repository.old command r order
-        → Acts (CountsFailure F.failures F.reading_may_fail repository.old repository.new)
-        (Stands F.is_honest F.history repository.new) r order result }
-    ensures leaves { (r : plain.Repository) (order : orders.Command)
-        → AskedChange F.is_honest F.history repository.old command r order
-        → LeavesFiles r order result
-        (names_tree F.history repository.old) (names_tree F.history repository.new) }
+        → ActsAsAsked F.Files r (CountsFailure F.failures F.reading_may_fail repository.old repository.new)
+        order repository.old repository.new result }
 {
     let moves = store_objects(repository, alloc, command)?;
     let text = done_text(alloc, &moves)?;

@@ -3,23 +3,13 @@
 //! A run changes files only by these two calls, in this order. The methods of `Repository` with
 //! their names make one of them each.
 
-ghost use Rattle.std.specs.Prelude.{◌≡◌, [], ◌∷◌, Ok, IsOk, IfErr, IfOk, OnOk, false, IsErrOf};
-ghost use Rattle.gix_ref_file.specs.History.{Adds};
-ghost use Rattle.history_model.specs.Meaning.{after};
-ghost use Rattle.history_layout.specs.EditSteps.{EditsMade};
-ghost use Rattle.history_layout.specs.Passing.{HoldsBetween};
-ghost use Rattle.history_store.specs.NamesFace.{kind_of_names};
-ghost use Rattle.history_store.specs.ObjectsFace.{kind_of_objects};
-ghost use Rattle.history_repository.specs.Face.{KeepsAllButNames, KeepsAllButObjects, names_part, objects_part};
+ghost use Rattle.std.specs.Prelude.{◌≡◌, [], ◌∷◌, Ok, IsOk, IfErr, IfOk, false, IsErrOf};
+ghost use Rattle.history_model.specs.declared.Fault.TheVariants.{File};
 ghost use Rattle.history_repository.specs.Faults.{IsRefusal, file_fault};
-ghost use Rattle.history_repository.specs.Stands.{Stands};
-ghost use Rattle.history_plans.specs.Halves.{NamesStand, names_tree};
-ghost use Rattle.history.specs.Acts.{CountsFailure, CountsRise, KeepsCounts, OnlyFileCounts};
-ghost use Rattle.history.specs.Moments.{ObjectsPass};
-ghost use Rattle.history.specs.Moving.{AskedEdits, LeavesMoved, MovesNamesAlone, edits_of, gone_of};
-ghost use Rattle.history.specs.NameFiles.{LeavesAsAsked};
+ghost use Rattle.history.specs.Calls.{EditsAsAsked, MovesAlone, MovesAsAsked, StoresAlone, StoresAsAsked};
+ghost use Rattle.history.specs.Moving.{AskedEdits, edits_of, gone_of};
 ghost use Rattle.history.specs.Runs.{changes_files};
-ghost use Rattle.history.specs.Storing.{AreMovesOf, AskedChange, HasStored, StoresObjects};
+ghost use Rattle.history.specs.Storing.{AreMovesOf, AskedChange, HasStored};
 ghost use Rattle.history_model.specs.Commands as orders;
 ghost use Rattle.history_model.specs.Repository as plain;
 ghost use Rattle.history_repository.specs.declared.stopped.Stopped.TheVariants as stopped;
@@ -96,24 +86,13 @@ pub(crate) fn store_objects<F: Files>(
     command: Command,
 ) -> Result<Moves, Stopped>
     ensures refused { IfErr result (λ stopped. IsRefusal stopped → repository.new ≡ repository.old) }
-    ensures kept { KeepsAllButObjects repository.old repository.new }
-    ensures honest { F.is_honest (objects_part repository.old) → F.is_honest (objects_part repository.new) }
-    ensures kind { kind_of_objects repository.new.objects ≡ kind_of_objects repository.old.objects }
-    ensures counts { CountsRise F.failures repository.old repository.new }
-    ensures unfailed { OnOk result (KeepsCounts F.failures repository.old repository.new) }
-    ensures memory { OnlyFileCounts F.failures repository.old repository.new
-        (λ fault. IsErrOf result (stopped.Fault fault)) }
+    ensures alone { StoresAlone F.Files (IsErrOf result (stopped.Fault File))
+        repository.old repository.new }
     ensures reads { changes_files command ≡ false
         → (result ≡ Ok Moves.Nothing) × (repository.new ≡ repository.old) }
     ensures stores { (r : plain.Repository) (order : orders.Command)
         → AskedChange F.is_honest F.history repository.old command r order
-        → StoresObjects (CountsFailure F.failures F.reading_may_fail repository.old repository.new)
-        (HasStored F.is_honest F.history repository.new r order) r order result }
-    // If anything is put, no cause holds, and each tree on the way, once recovered, holds some of
-    // what is stored and is whole.
-    ensures passes { (r : plain.Repository) (order : orders.Command)
-        → AskedChange F.is_honest F.history repository.old command r order
-        → ObjectsPass F.history r order repository.old repository.new }
+        → StoresAsAsked F.Files r order repository.old repository.new result }
 {
     match command {
         Command::Commit(command) => store_commit(repository, alloc, command),
@@ -135,27 +114,12 @@ fn change_names<F: Files>(
     moved: &[MovedName],
     taken: Option<&[u8]>,
 ) -> Result<(), Fault>
-    ensures kept { KeepsAllButNames repository.old repository.new }
-    ensures honest { F.is_honest (names_part repository.old) → F.is_honest (names_part repository.new) }
-    ensures kind { kind_of_names repository.new.names ≡ kind_of_names repository.old.names }
-    ensures counts { CountsRise F.failures repository.old repository.new }
-    ensures unfailed { OnOk result (KeepsCounts F.failures repository.old repository.new) }
-    ensures memory { OnlyFileCounts F.failures repository.old repository.new
-        (λ fault. IsErrOf result fault) }
-    // On the way each name, once recovered, is as before the command or as after it.
-    ensures passes { (r : plain.Repository) (order : orders.Command)
+    ensures alone { MovesAlone F.Files (IsErrOf result File) repository.old repository.new }
+    ensures branch { repository.new.branch ≡ repository.old.branch }
+    ensures edits { (r : plain.Repository) (order : orders.Command)
         → AskedEdits F.is_honest F.history repository.old r order moved.now taken.entry
-        → Adds (HoldsBetween r order) (F.history (names_part repository.old))
-        (F.history (names_part repository.new)) }
-    ensures moves { (r : plain.Repository) (order : orders.Command)
-        → AskedEdits F.is_honest F.history repository.old r order moved.now taken.entry
-        → LeavesMoved (CountsFailure F.failures F.reading_may_fail repository.old repository.new)
-        (NamesStand F.is_honest F.history repository.new (after r order)) result }
-    // Each file that isn't of these names is as it was, except `packed-refs`.
-    ensures made { (r : plain.Repository) (order : orders.Command)
-        → AskedEdits F.is_honest F.history repository.old r order moved.now taken.entry
-        → OnOk result (EditsMade r.kind (edits_of moved.now) (gone_of taken.entry)
-        (names_tree F.history repository.old) (names_tree F.history repository.new)) }
+        → EditsAsAsked F.Files r order (edits_of moved.now) (gone_of taken.entry)
+        repository.old repository.new result }
 {
     match repository.names.change(alloc, moved, taken) {
         Ok(()) => Ok(()),
@@ -170,27 +134,11 @@ pub(crate) fn move_names<F: Files>(
     alloc: Global,
     moves: Moves,
 ) -> Result<(), Fault>
-    ensures kept { MovesNamesAlone repository.old repository.new }
-    ensures honest { F.is_honest (names_part repository.old) → F.is_honest (names_part repository.new) }
-    ensures kind { kind_of_names repository.new.names ≡ kind_of_names repository.old.names }
-    ensures counts { CountsRise F.failures repository.old repository.new }
-    ensures unfailed { OnOk result (KeepsCounts F.failures repository.old repository.new) }
-    ensures memory { OnlyFileCounts F.failures repository.old repository.new
-        (λ fault. IsErrOf result fault) }
+    ensures alone { MovesAlone F.Files (IsErrOf result File) repository.old repository.new }
     ensures nothing { moves ≡ Moves.Nothing → IsOk result × (repository.new ≡ repository.old) }
-    // On the way each name, once recovered, is as before the command or as after it.
-    ensures passes { (r : plain.Repository) (order : orders.Command)
-        → HasStored F.is_honest F.history repository.old r order → AreMovesOf r order moves
-        → Adds (HoldsBetween r order) (F.history (names_part repository.old))
-        (F.history (names_part repository.new)) }
     ensures moves { (r : plain.Repository) (order : orders.Command)
         → HasStored F.is_honest F.history repository.old r order → AreMovesOf r order moves
-        → LeavesMoved (CountsFailure F.failures F.reading_may_fail repository.old repository.new)
-        (Stands F.is_honest F.history repository.new (after r order)) result }
-    ensures leaves { (r : plain.Repository) (order : orders.Command)
-        → HasStored F.is_honest F.history repository.old r order → AreMovesOf r order moves
-        → OnOk result (LeavesAsAsked r order
-        (names_tree F.history repository.old) (names_tree F.history repository.new)) }
+        → MovesAsAsked F.Files r order repository.old repository.new result }
 {
     match moves {
         Moves::Change { moved, taken, .. } => {

@@ -1,14 +1,10 @@
 //! The command `pack`: each name gets a record in `packed-refs`, and its own file goes.
 
 ghost use Rattle.std.specs.Prelude.{◌≡◌, OnOk, IsErrOf};
-ghost use Rattle.gix_ref_file.specs.History.{Adds};
-ghost use Rattle.history_layout.specs.PackSteps.{PacksNames, PacksOnTheWay};
-ghost use Rattle.history_store.specs.NamesFace.{kind_of_names};
+ghost use Rattle.history_model.specs.declared.Fault.TheVariants.{File};
 ghost use Rattle.history_store.specs.Packing.{KeepsRecords};
-ghost use Rattle.history.specs.Acts.{CountsFailure, CountsRise, KeepsCounts, OnlyFileCounts};
-ghost use Rattle.history.specs.Moving.{LeavesMoved};
+ghost use Rattle.history.specs.Calls.{MovesAlone, PacksAll};
 ghost use Rattle.history.specs.Storing.{GivesMoves};
-ghost use Rattle.history_repository.specs.Face.{KeepsAllButNames, names_part};
 ghost use Rattle.history_plans.specs.Halves.{names_tree};
 ghost use Rattle.history_plans.specs.Packing.{AreAllNames};
 ghost use Rattle.history_repository.specs.Stands.{Stands};
@@ -41,22 +37,11 @@ pub(crate) fn pack_names<F: Files>(
     alloc: Global,
     names: &[PackedName],
 ) -> Result<(), Fault>
-    ensures kept { KeepsAllButNames repository.old repository.new }
-    ensures honest { F.is_honest (names_part repository.old) → F.is_honest (names_part repository.new) }
-    ensures kind { kind_of_names repository.new.names ≡ kind_of_names repository.old.names }
-    ensures counts { CountsRise F.failures repository.old repository.new }
-    ensures unfailed { OnOk result (KeepsCounts F.failures repository.old repository.new) }
-    ensures memory { OnlyFileCounts F.failures repository.old repository.new
-        (λ fault. IsErrOf result fault) }
-    ensures passes { (r : plain.Repository) → Stands F.is_honest F.history repository.old r
-        → AreAllNames r names.now
-        → Adds (PacksOnTheWay r (names_tree F.history repository.old))
-        (F.history (names_part repository.old)) (F.history (names_part repository.new)) }
+    ensures alone { MovesAlone F.Files (IsErrOf result File) repository.old repository.new }
+    ensures branch { repository.new.branch ≡ repository.old.branch }
     ensures packs { (r : plain.Repository) → Stands F.is_honest F.history repository.old r
         → AreAllNames r names.now
-        → LeavesMoved (CountsFailure F.failures F.reading_may_fail repository.old repository.new)
-        (PacksNames r (names_tree F.history repository.old) (names_tree F.history repository.new))
-        result }
+        → PacksAll F.Files r repository.old repository.new result }
     ensures records { (r : plain.Repository) → Stands F.is_honest F.history repository.old r
         → OnOk result (KeepsRecords repository.new.names (names_tree F.history repository.new)) }
 {

@@ -1,11 +1,9 @@
 //! A repository whose fields no caller writes.
 
-ghost use Rattle.std.specs.Prelude.{◌≡◌, ◌||◌, false, None, Ok, IsOk, IfOk, IfErr, OnOk, is_err, option_map, IsErrOf};
-ghost use Rattle.gix_ref_file.specs.History.{Adds};
-ghost use Rattle.history_model.specs.Meaning.{after};
+ghost use Rattle.std.specs.Prelude.{◌≡◌, ◌||◌, false, None, Ok, IsOk, IfOk, IfErr, is_err, option_map, IsErrOf};
 ghost use Rattle.history_model.specs.Repository.{fresh};
 ghost use Rattle.history_model.specs.StandsFor.{StandsWhole};
-ghost use Rattle.history_layout.specs.Passing.{HoldsBetween};
+ghost use Rattle.history_model.specs.declared.Fault.TheVariants.{File};
 ghost use Rattle.history_store.specs.ObjectsFace.{kind_of_objects};
 ghost use Rattle.history_store.specs.NamesFace.{kind_of_names};
 ghost use Rattle.history_store.specs.Creation.{IsNew};
@@ -14,13 +12,9 @@ ghost use Rattle.history_repository.specs.Opened.{trees_of};
 ghost use Rattle.history_repository.specs.Face.{has_failed, names_part, objects_part, rows_in};
 ghost use Rattle.history_repository.specs.Faults.{IsRefusal};
 ghost use Rattle.history_repository.specs.Stands.{Stands};
-ghost use Rattle.history_plans.specs.Halves.{names_tree};
-ghost use Rattle.history.specs.Acts.{CountsFailure, CountsRise, KeepsCounts, OnlyFileCounts};
-ghost use Rattle.history.specs.Moments.{ObjectsPass};
-ghost use Rattle.history.specs.Moving.{LeavesMoved};
-ghost use Rattle.history.specs.NameFiles.{LeavesAsAsked};
+ghost use Rattle.history.specs.Calls.{KeepsHonesty, MovesAsAsked, StoresAsAsked};
 ghost use Rattle.history.specs.Runs.{changes_files};
-ghost use Rattle.history.specs.Storing.{AreMovesOf, AskedChange, HasStored, StoresObjects, is_fault_of};
+ghost use Rattle.history.specs.Storing.{AreMovesOf, AskedChange, HasStored, is_fault_of};
 ghost use Rattle.history_model.specs.Commands as orders;
 ghost use Rattle.history_model.specs.Repository as plain;
 ghost use Rattle.history_repository.specs.declared.stopped.Stopped.TheVariants as stopped;
@@ -136,23 +130,14 @@ impl<F: Files> Repository<F> {
         ensures failed { has_failed self.new ≡ (has_failed self.old || is_fault_of result) }
         ensures kept { (self.new.names ≡ self.old.names) × (self.new.branch ≡ self.old.branch)
             × (rows_in self.new ≡ rows_in self.old) }
-        ensures honest { F.is_honest (objects_part self.old) → F.is_honest (objects_part self.new) }
-        ensures kind { kind_of_objects self.new.objects ≡ kind_of_objects self.old.objects }
-        ensures counts { CountsRise F.failures self.old self.new }
-        ensures unfailed { OnOk result (KeepsCounts F.failures self.old self.new) }
-        ensures memory { OnlyFileCounts F.failures self.old self.new
-            (λ fault. IsErrOf result (stopped.Fault fault)) }
+        ensures keeps { (kind_of_objects self.new.objects ≡ kind_of_objects self.old.objects)
+            × KeepsHonesty F.Files (IsErrOf result (stopped.Fault File))
+            (objects_part self.old) (objects_part self.new) }
         ensures reads { changes_files command ≡ false
             → (result ≡ Ok Moves.Nothing) × (self.new ≡ self.old) }
         ensures stores { (r : plain.Repository) (order : orders.Command)
             → AskedChange F.is_honest F.history self.old command r order
-            → StoresObjects (CountsFailure F.failures F.reading_may_fail self.old self.new)
-            (HasStored F.is_honest F.history self.new r order) r order result }
-        // If anything is put, no cause holds, and each tree on the way, once recovered, holds some
-        // of what is stored and is whole.
-        ensures passes { (r : plain.Repository) (order : orders.Command)
-            → AskedChange F.is_honest F.history self.old command r order
-            → ObjectsPass F.history r order self.old self.new }
+            → StoresAsAsked F.Files r order self.old self.new result }
     {
         match store_objects(&mut self.state, alloc, command) {
             Ok(moves) => Ok(moves),
@@ -175,26 +160,13 @@ impl<F: Files> Repository<F> {
         ensures failed { has_failed self.new ≡ (has_failed self.old || is_err result) }
         ensures kept { (self.new.objects ≡ self.old.objects)
             × (rows_in self.new ≡ rows_in self.old) }
-        ensures honest { F.is_honest (names_part self.old) → F.is_honest (names_part self.new) }
-        ensures kind { kind_of_names self.new.names ≡ kind_of_names self.old.names }
-        ensures counts { CountsRise F.failures self.old self.new }
-        ensures unfailed { OnOk result (KeepsCounts F.failures self.old self.new) }
-        ensures memory { OnlyFileCounts F.failures self.old self.new
-            (λ fault. IsErrOf result fault) }
+        ensures keeps { (kind_of_names self.new.names ≡ kind_of_names self.old.names)
+            × KeepsHonesty F.Files (IsErrOf result File)
+            (names_part self.old) (names_part self.new) }
         ensures nothing { moves ≡ Moves.Nothing → IsOk result × (self.new ≡ self.old) }
-        // On the way each name, once recovered, is as before the command or as after it.
-        ensures passes { (r : plain.Repository) (order : orders.Command)
-            → HasStored F.is_honest F.history self.old r order → AreMovesOf r order moves
-            → Adds (HoldsBetween r order) (F.history (names_part self.old))
-            (F.history (names_part self.new)) }
         ensures moves { (r : plain.Repository) (order : orders.Command)
             → HasStored F.is_honest F.history self.old r order → AreMovesOf r order moves
-            → LeavesMoved (CountsFailure F.failures F.reading_may_fail self.old self.new)
-            (Stands F.is_honest F.history self.new (after r order)) result }
-        ensures leaves { (r : plain.Repository) (order : orders.Command)
-            → HasStored F.is_honest F.history self.old r order → AreMovesOf r order moves
-            → OnOk result (LeavesAsAsked r order
-            (names_tree F.history self.old) (names_tree F.history self.new)) }
+            → MovesAsAsked F.Files r order self.old self.new result }
     {
         match move_names(&mut self.state, alloc, moves) {
             Ok(()) => Ok(()),

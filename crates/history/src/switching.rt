@@ -1,17 +1,10 @@
 //! The command `switch`: HEAD names another branch.
 
-ghost use Rattle.std.specs.Prelude.{◌≡◌, None, OnOk, IsErrOf};
-ghost use Rattle.gix_ref_file.specs.History.{Adds};
+ghost use Rattle.std.specs.Prelude.{◌≡◌, None, IsErrOf};
 ghost use Rattle.history_model.specs.Causes.{first_cause};
-ghost use Rattle.history_model.specs.Meaning.{after};
-ghost use Rattle.history_layout.specs.Passing.{HoldsBetween};
-ghost use Rattle.history_store.specs.NamesFace.{kind_of_names};
-ghost use Rattle.history.specs.Acts.{CountsFailure, CountsRise, KeepsCounts, OnlyFileCounts};
-ghost use Rattle.history.specs.Moving.{LeavesMoved, MovesNamesAlone};
-ghost use Rattle.history.specs.NameFiles.{ChangesHeadAlone};
+ghost use Rattle.history_model.specs.declared.Fault.TheVariants.{File};
+ghost use Rattle.history.specs.Calls.{MovesAlone, MovesAsAsked};
 ghost use Rattle.history.specs.Storing.{GivesMoves};
-ghost use Rattle.history_plans.specs.Halves.{names_tree};
-ghost use Rattle.history_repository.specs.Face.{names_part};
 ghost use Rattle.history_repository.specs.Stands.{Stands};
 ghost use Rattle.history_model.specs.Commands as orders;
 ghost use Rattle.history_model.specs.Repository as plain;
@@ -43,26 +36,10 @@ pub(crate) fn switch_head<F: Files>(
     alloc: Global,
     name: Vec<u8>,
 ) -> Result<(), Fault>
-    ensures kept { MovesNamesAlone repository.old repository.new }
-    ensures honest { F.is_honest (names_part repository.old) → F.is_honest (names_part repository.new) }
-    ensures kind { kind_of_names repository.new.names ≡ kind_of_names repository.old.names }
-    ensures counts { CountsRise F.failures repository.old repository.new }
-    ensures unfailed { OnOk result (KeepsCounts F.failures repository.old repository.new) }
-    ensures memory { OnlyFileCounts F.failures repository.old repository.new
-        (λ fault. IsErrOf result fault) }
-    // Each other file is as it was, except lock files.
-    ensures alone { (r : plain.Repository) → Stands F.is_honest F.history repository.old r
-        → first_cause r (orders.Switch name.items) ≡ None → OnOk result (ChangesHeadAlone
-        (names_tree F.history repository.old) (names_tree F.history repository.new)) }
-    // On the way HEAD, once recovered, names the branch before or after.
-    ensures passes { (r : plain.Repository) → Stands F.is_honest F.history repository.old r
+    ensures alone { MovesAlone F.Files (IsErrOf result File) repository.old repository.new }
+    ensures moves { (r : plain.Repository) → Stands F.is_honest F.history repository.old r
         → first_cause r (orders.Switch name.items) ≡ None
-        → Adds (HoldsBetween r (orders.Switch name.items)) (F.history (names_part repository.old))
-        (F.history (names_part repository.new)) }
-    ensures switches { (r : plain.Repository) → Stands F.is_honest F.history repository.old r
-        → first_cause r (orders.Switch name.items) ≡ None
-        → LeavesMoved (CountsFailure F.failures F.reading_may_fail repository.old repository.new)
-        (Stands F.is_honest F.history repository.new (after r (orders.Switch name.items))) result }
+        → MovesAsAsked F.Files r (orders.Switch name.items) repository.old repository.new result }
 {
     match repository.names.switch(alloc, &repository.branch, &name) {
         Ok(()) => {

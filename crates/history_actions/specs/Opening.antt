@@ -1,12 +1,10 @@
 -- The result of opening a folder's two parts: a repository to check or to run commands on, or a
 -- cause.
-use Rattle.std.specs.Prelude.{◌≡◌, ◌⊎◌, ℕ, Bool, true, false, List, Option, Result, Ok, Err, IfOk}
+use Rattle.std.specs.Prelude.{◌≡◌, ◌⊎◌, ℕ, Bool, true, Option, Result, Ok, Err, IfOk}
 use Rattle.std.specs.Io.KnownBytes.{Appends, Consumes, IsAtEnd}
 use Rattle.gix_hash.specs.declared.kind.Kind.{Kind}
 use Rattle.gix_ref_file.specs.History.{History}
 use Rattle.history_model.specs.Bytes.{Bytes}
-use Rattle.history_model.specs.Commands.{Command}
-use Rattle.history_model.specs.Replies.{Reply}
 use Rattle.history_model.specs.Repository as plain
 use Rattle.history_model.specs.StandsFor.{StandsWhole}
 use Rattle.history_model.specs.declared.End.{End}
@@ -14,10 +12,10 @@ use Rattle.history_model.specs.declared.End.TheVariants.{Input}
 use Rattle.history_repository.specs.Causes.{IsOpenCause, IsOpenFault}
 use Rattle.history_repository.specs.Opened.{trees_of}
 use Rattle.history_texts.specs.declared.open_error.OpenError.{OpenError}
-use Rattle.history.specs.Acts.{CountsFailure, StaysHonest}
+use Rattle.history.specs.Acts.{CountsFailure}
 use Rattle.history_repository.specs.Face.{has_failed, names_part, objects_part}
 use Rattle.history.specs.Moments.{GoesLater, IsTraced}
-use Rattle.history.specs.Runs.{EndsRun, MadeLastReading, is_fault_end}
+use Rattle.history.specs.Runs.{EndsHere, MadeLastReading, is_fault_end}
 use Rattle.history_repository.specs.Stands.{RecoversTo, Stands}
 use Rattle.history_repository.specs.declared.repository.Repository.{Repository}
 use Rattle.history.specs.declared.running.RunError.{RunError}
@@ -59,28 +57,19 @@ module _ {F : Type 0} (IsHonest : F → Type 0) (history : F → History) where
   Checks MayFail kind objects names performed =
       IsUnopened MayFail kind objects names performed ⊎ IsWhole kind objects names performed
 
--- A run from this plain repository on: the commands that it acted on, what was read, written and
--- left, and what the files went through meanwhile.
+-- A run over the two parts.
 module _ {F R W : Type 0} (IsHonest : F → Type 0) (history : F → History) (failures : F → ℕ)
     (MayFail : Type 0) (left : R → Option Bytes) (readings : R → ℕ) (contents : W → Option Bytes)
   where
-    pub record RunsFrom (r : plain.Repository) (opened ended : Repository F) (reader reader' : R)
-        (writer writer' : W) (end : Result End RunError) : Type 0 where
-      pub commands : List Command
-      pub replies : List Reply
-      pub read : Bytes
-      pub written : Bytes
-      pub new : plain.Repository
-      pub reads : Consumes (left reader) (left reader') read
-      pub writes : Appends (contents writer) (contents writer') written
-      pub ends : EndsRun (IsAtEnd (left reader'))
-          (MadeLastReading left readings reader reader')
-          (CountsFailure failures MayFail opened ended)
-          r commands replies read written end (has_failed ended) new
-      pub traced : IsTraced history failures MayFail opened ended r commands replies new
-      pub stands : has_failed ended ≡ false
-          → Stands IsHonest history ended new
-      pub recovers : has_failed ended ≡ true → RecoversTo history ended new
+    -- It began at this plain repository, acted on commands, read, wrote, and ended so.
+    abbrev pub RunsFrom : plain.Repository → Repository F → Repository F → R → R → W → W
+        → Result End RunError → Type 0
+    RunsFrom r opened ended reader reader' writer writer' end =
+        EndsHere (Consumes (left reader) (left reader')) (Appends (contents writer) (contents writer'))
+        (Stands IsHonest history ended) (RecoversTo history ended)
+        (IsTraced history failures MayFail opened ended r) (IsAtEnd (left reader'))
+        (MadeLastReading left readings reader reader') (CountsFailure failures MayFail opened ended)
+        r end (has_failed ended)
 
     -- They were opened, and commands were run on them.
     pub record IsRun (reader_failed : R → Bool) (writer_failed : W → Bool) (kind : Kind)
@@ -99,7 +88,8 @@ module _ {F R W : Type 0} (IsHonest : F → Type 0) (history : F → History) (f
       pub is_it : (r : plain.Repository) → IsHonest objects → IsHonest names
           → StandsWhole kind (trees_of history objects names) r → Stands IsHonest history opened r
       -- honest parts stay honest, and their histories go on from those before
-      pub honest : StaysHonest IsHonest opened ended
+      pub honest_objects : IsHonest (objects_part opened) → IsHonest (objects_part ended)
+      pub honest_names : IsHonest (names_part opened) → IsHonest (names_part ended)
       pub later : (r : plain.Repository) → Stands IsHonest history opened r
           → GoesLater history failures opened ended
       pub runs : (r : plain.Repository) → Stands IsHonest history opened r

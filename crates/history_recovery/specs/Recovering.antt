@@ -3,6 +3,7 @@ use Rattle.std.specs.Prelude.{◌≡◌}
 use Rattle.gix_ref_file.specs.Tree.{Tree}
 use Rattle.gix_ref_file.specs.History.{History, moment}
 use Rattle.gix_ref_file.specs.declared.files.FileError.{FileError}
+use Rattle.gix_ref_file.specs.declared.files.Files.{Ghosts}
 use Rattle.gix_ref_file.specs.declared.files.FileError.TheVariants as files
 use Rattle.history_model.specs.Places.{Pair}
 use Rattle.history_model.specs.Recovery.{recovered_names, recovered_objects}
@@ -32,6 +33,9 @@ AreNamesRecovered kind old new = new ≡ recovered_names kind old
 -- the two trees as they are now
 abbrev pub pair_of : History → History → Pair
 pair_of objects names = record { objects = objects.tree; names = names.tree }
+
+abbrev pub pair_in : {F : Type 0} → Ghosts F → F → F → Pair
+pair_in members objects names = pair_of (members.history objects) (members.history names)
 
 -- The moment of both parts, without the counts of failed calls.
 abbrev pub now : History → History → Moment

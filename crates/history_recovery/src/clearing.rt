@@ -1,5 +1,5 @@
 //! Removes leftovers, and the folders that are then deserted.
-ghost use Rattle.std.specs.Prelude.{◌≡◌, ◌≤◌, ◌||◌, codes, OnOk, IsErrOf, IsTrue};
+ghost use Rattle.std.specs.Prelude.{◌≡◌, ◌||◌, codes, OnOk, IsErrOf, IsTrue};
 ghost use Rattle.gix_ref_file.specs.Calls.{HasFault, Passes};
 ghost use Rattle.gix_ref_file.specs.Tree.{node_at, is_folder};
 ghost use Rattle.gix_ref_file.specs.Changes.{is_file_at};
@@ -7,6 +7,7 @@ ghost use Rattle.gix_ref_file.specs.declared.files.FileError.TheVariants.{Failed
 ghost use Rattle.history_model.specs.FileMap.{is_below};
 ghost use Rattle.gix_hash.specs.declared.kind.Kind.{Kind};
 ghost use Rattle.history_recovery.specs.Clearing.{Tells, Clears, IsKept, AreKeptBelow};
+ghost use Rattle.history_recovery.specs.Changes.{ChangesHonestly};
 
 use crate::packed::Packed;
 use gix_ref_file::paths::{is_deeper, joined};
@@ -21,15 +22,12 @@ pub(crate) fn clear_below<F: Files>(
     packed: &Packed,
     folder: &[u8],
 ) -> Result<(), FileError>
-    ensures honest { F.is_honest files.old → F.is_honest files.new }
+    ensures keeps { ChangesHonestly F.Files Memory files.old files.new result }
     ensures clears { (kind : Kind) → Tells kind (F.history files.old).tree packed.now
         → Passes F.is_honest F.history files.old files.new (Clears kind) }
     ensures kept { (kind : Kind) → F.is_honest files.old
         → Tells kind (F.history files.old).tree packed.now
         → OnOk result (AreKeptBelow kind folder.now (F.history files.new).tree) }
-    ensures later { F.failures files.old ≤ F.failures files.new }
-    ensures unfailed { OnOk result (F.failures files.new ≡ F.failures files.old) }
-    ensures memory { IsErrOf result Memory → F.failures files.new ≡ F.failures files.old }
     ensures failed { F.is_honest files.old → IsErrOf result Failed
         → HasFault F.failures F.reading_may_fail files.old files.new }
 {
@@ -50,16 +48,13 @@ fn clear_at<F: Files>(
     packed: &Packed,
     path: &[u8],
 ) -> Result<(), FileError>
-    ensures honest { F.is_honest files.old → F.is_honest files.new }
+    ensures keeps { ChangesHonestly F.Files Memory files.old files.new result }
     ensures clears { (kind : Kind) → Tells kind (F.history files.old).tree packed.now
         → Passes F.is_honest F.history files.old files.new (Clears kind) }
     ensures kept { (kind : Kind) → F.is_honest files.old
         → Tells kind (F.history files.old).tree packed.now
         → AreKeptBelow kind path.now (F.history files.old).tree
         → OnOk result (IsKept kind (F.history files.new).tree path.now) }
-    ensures later { F.failures files.old ≤ F.failures files.new }
-    ensures unfailed { OnOk result (F.failures files.new ≡ F.failures files.old) }
-    ensures memory { IsErrOf result Memory → F.failures files.new ≡ F.failures files.old }
     ensures failed { F.is_honest files.old → IsErrOf result Failed
         → HasFault F.failures F.reading_may_fail files.old files.new }
 {
@@ -77,7 +72,7 @@ fn remove_leftover<F: Files>(
     packed: &Packed,
     path: &[u8],
 ) -> Result<(), FileError>
-    ensures honest { F.is_honest files.old → F.is_honest files.new }
+    ensures keeps { ChangesHonestly F.Files Memory files.old files.new result }
     ensures clears { (kind : Kind) → IsTrue (is_file_at (F.history files.old).tree path.now)
         → Tells kind (F.history files.old).tree packed.now
         → Passes F.is_honest F.history files.old files.new (Clears kind) }
@@ -85,9 +80,6 @@ fn remove_leftover<F: Files>(
         → IsTrue (is_file_at (F.history files.old).tree path.now)
         → Tells kind (F.history files.old).tree packed.now
         → OnOk result (IsKept kind (F.history files.new).tree path.now) }
-    ensures later { F.failures files.old ≤ F.failures files.new }
-    ensures unfailed { OnOk result (F.failures files.new ≡ F.failures files.old) }
-    ensures memory { IsErrOf result Memory → F.failures files.new ≡ F.failures files.old }
     ensures failed { F.is_honest files.old
         → IsTrue (is_file_at (F.history files.old).tree path.now)
         → IsErrOf result Failed
@@ -101,16 +93,13 @@ fn remove_leftover<F: Files>(
 
 // Removes a folder below `refs` or `logs` if it is empty.
 fn remove_deserted<F: Files>(alloc: Global, files: &mut F, folder: &[u8]) -> Result<(), FileError>
-    ensures honest { F.is_honest files.old → F.is_honest files.new }
+    ensures keeps { ChangesHonestly F.Files Memory files.old files.new result }
     ensures clears { (kind : Kind)
         → Passes F.is_honest F.history files.old files.new (Clears kind) }
     ensures kept { (kind : Kind) → F.is_honest files.old
         → IsTrue (is_folder (node_at (F.history files.old).tree folder.now))
         → AreKeptBelow kind folder.now (F.history files.old).tree
         → OnOk result (IsKept kind (F.history files.new).tree folder.now) }
-    ensures later { F.failures files.old ≤ F.failures files.new }
-    ensures unfailed { OnOk result (F.failures files.new ≡ F.failures files.old) }
-    ensures memory { IsErrOf result Memory → F.failures files.new ≡ F.failures files.old }
     ensures failed { F.is_honest files.old
         → IsTrue (is_folder (node_at (F.history files.old).tree folder.now))
         → IsErrOf result Failed

@@ -1,5 +1,5 @@
 //! Cuts logs after their last line feeds.
-ghost use Rattle.std.specs.Prelude.{◌≡◌, ◌≤◌, length, take, OnOk, IfOk, IsErrOf, IsTrue};
+ghost use Rattle.std.specs.Prelude.{◌≡◌, length, take, IfOk, IsErrOf, IsTrue};
 ghost use Rattle.gix_ref_file.specs.Calls.{Achieves, Finds, HasFault, Passes};
 ghost use Rattle.gix_ref_file.specs.Tree.{bytes_at};
 ghost use Rattle.gix_ref_file.specs.declared.files.FileError.TheVariants.{Failed, Memory};
@@ -8,6 +8,7 @@ ghost use Rattle.history_model.specs.Logs as logs;
 ghost use Rattle.gix_hash.specs.declared.kind.Kind.{Kind};
 ghost use Rattle.history_recovery.specs.Clearing.{AreAllKept, AreCutBelow, Cuts, IsCut, IsLogFolder, MayCut, Replaces, lock_place};
 ghost use Rattle.history_recovery.specs.Recovering.{NamesAlike};
+ghost use Rattle.history_recovery.specs.Changes.{ChangesHonestly};
 
 use crate::pieces::{MAX_PIECE, copy_front, piece_at};
 use gix_ref_file::paths::{is_deeper, joined};
@@ -20,7 +21,7 @@ pub(crate) fn cut_below<F: Files>(
     files: &mut F,
     folder: &[u8],
 ) -> Result<(), FileError>
-    ensures honest { F.is_honest files.old → F.is_honest files.new }
+    ensures keeps { ChangesHonestly F.Files Memory files.old files.new result }
     ensures alike { (kind : Kind) → AreAllKept kind (F.history files.old).tree
         → IsLogFolder folder.now
         → Passes F.is_honest F.history files.old files.new (NamesAlike kind) }
@@ -30,9 +31,6 @@ pub(crate) fn cut_below<F: Files>(
     ensures cut { (kind : Kind) → AreAllKept kind (F.history files.old).tree
         → IsLogFolder folder.now → Achieves F.is_honest F.history files.old files.new result
         (λ _ new. AreCutBelow folder.now new) }
-    ensures later { F.failures files.old ≤ F.failures files.new }
-    ensures unfailed { OnOk result (F.failures files.new ≡ F.failures files.old) }
-    ensures memory { IsErrOf result Memory → F.failures files.new ≡ F.failures files.old }
     ensures failed { (kind : Kind) → AreAllKept kind (F.history files.old).tree
         → IsLogFolder folder.now
         → F.is_honest files.old → IsErrOf result Failed
@@ -50,7 +48,7 @@ pub(crate) fn cut_below<F: Files>(
 
 // Cuts the log at a path, if there is a file.
 fn cut_log<F: Files>(alloc: Global, files: &mut F, log: &[u8]) -> Result<(), FileError>
-    ensures honest { F.is_honest files.old → F.is_honest files.new }
+    ensures keeps { ChangesHonestly F.Files Memory files.old files.new result }
     ensures alike { (kind : Kind) → AreAllKept kind (F.history files.old).tree
         → IsTrue (is_log_place log.now)
         → Passes F.is_honest F.history files.old files.new (NamesAlike kind) }
@@ -61,9 +59,6 @@ fn cut_log<F: Files>(alloc: Global, files: &mut F, log: &[u8]) -> Result<(), Fil
         → IsTrue (is_log_place log.now)
         → Achieves F.is_honest F.history files.old files.new result
         (λ _ new. IsCut new log.now) }
-    ensures later { F.failures files.old ≤ F.failures files.new }
-    ensures unfailed { OnOk result (F.failures files.new ≡ F.failures files.old) }
-    ensures memory { IsErrOf result Memory → F.failures files.new ≡ F.failures files.old }
     ensures failed { (kind : Kind) → AreAllKept kind (F.history files.old).tree
         → IsTrue (is_log_place log.now)
         → F.is_honest files.old → IsErrOf result Failed
@@ -110,14 +105,11 @@ fn replace_log<F: Files>(
     log: &[u8],
     end: u64,
 ) -> Result<(), FileError>
-    ensures honest { F.is_honest files.old → F.is_honest files.new }
+    ensures keeps { ChangesHonestly F.Files Memory files.old files.new result }
     ensures alike { (kind : Kind) → MayCut kind log.now end (F.history files.old).tree
         → Passes F.is_honest F.history files.old files.new (NamesAlike kind) }
     ensures replaced { (kind : Kind) → MayCut kind log.now end (F.history files.old).tree
         → Achieves F.is_honest F.history files.old files.new result (Replaces log.now) }
-    ensures later { F.failures files.old ≤ F.failures files.new }
-    ensures unfailed { OnOk result (F.failures files.new ≡ F.failures files.old) }
-    ensures memory { IsErrOf result Memory → F.failures files.new ≡ F.failures files.old }
     ensures failed { (kind : Kind) → MayCut kind log.now end (F.history files.old).tree
         → F.is_honest files.old → IsErrOf result Failed
         → HasFault F.failures F.reading_may_fail files.old files.new }

@@ -1,5 +1,5 @@
 //! Files that are read and copied in pieces, whatever their size.
-ghost use Rattle.std.specs.Prelude.{◌≡◌, ◌≢◌, ◌≤◌, min, take, IfOk, OnOk, IsErrOf, IsTrue, length};
+ghost use Rattle.std.specs.Prelude.{◌≡◌, ◌≢◌, ◌≤◌, min, take, IfOk, IsErrOf, IsTrue, length};
 ghost use Rattle.std.specs.FinMap.{insert};
 ghost use Rattle.gix_ref_file.specs.Calls.{Achieves, Finds, HasFault, Passes};
 ghost use Rattle.gix_ref_file.specs.Changes.{may_hold_file};
@@ -7,6 +7,7 @@ ghost use Rattle.gix_ref_file.specs.Tree.{bytes_at, file, part};
 ghost use Rattle.gix_ref_file.specs.declared.files.FileError.TheVariants.{Failed, Memory};
 ghost use Rattle.gix_ref_way.specs.Ways.{ChangesOneFile};
 ghost use Rattle.history_recovery.specs.Clearing.{max_piece};
+ghost use Rattle.history_recovery.specs.Changes.{ChangesHonestly};
 
 use gix_ref_file::{FileError, Files};
 use gix_ref_way::write_anew;
@@ -43,16 +44,13 @@ pub(crate) fn copy_front<F: Files>(
     to: &[u8],
     len: u64,
 ) -> Result<(), FileError>
-    ensures honest { F.is_honest files.old → F.is_honest files.new }
+    ensures keeps { ChangesHonestly F.Files Memory files.old files.new result }
     ensures allowed { Achieves F.is_honest F.history files.old files.new result
         (λ old _. IsTrue (may_hold_file old to.now)) }
     ensures copied { from.now ≢ to.now
         → Achieves F.is_honest F.history files.old files.new result
         (λ old new. new ≡ insert old to.now (file (take len (bytes_at old from.now)))) }
     ensures moments { Passes F.is_honest F.history files.old files.new (ChangesOneFile to.now) }
-    ensures later { F.failures files.old ≤ F.failures files.new }
-    ensures unfailed { OnOk result (F.failures files.new ≡ F.failures files.old) }
-    ensures memory { IsErrOf result Memory → F.failures files.new ≡ F.failures files.old }
     ensures failed { F.is_honest files.old
         → IsTrue (may_hold_file (F.history files.old).tree to.now)
         → IsErrOf result Failed

@@ -1,11 +1,12 @@
 //! Recovers the two parts of a repository.
-ghost use Rattle.std.specs.Prelude.{◌≡◌, ◌⊎◌, ◌≤◌, OnOk, IsErrOf};
+ghost use Rattle.std.specs.Prelude.{◌≡◌, ◌⊎◌, OnOk, IsErrOf};
 ghost use Rattle.gix_ref_file.specs.Calls.{Achieves, HasFault, Passes};
 ghost use Rattle.gix_ref_file.specs.declared.files.FileError.TheVariants.{Failed};
 ghost use Rattle.gix_ref_file.specs.declared.files.FileError.TheVariants as calls;
 ghost use Rattle.history_model.specs.Places.{Pair};
 ghost use Rattle.history_model.specs.Recovery.{recovered};
-ghost use Rattle.history_recovery.specs.Recovering.{ObjectsAlike, NamesAlike, AreObjectsRecovered, AreNamesRecovered, IsOnTheWay, pair_of, recover_fault};
+ghost use Rattle.history_recovery.specs.Recovering.{ObjectsAlike, NamesAlike, AreObjectsRecovered, AreNamesRecovered, IsOnTheWay, pair_in, recover_fault};
+ghost use Rattle.history_recovery.specs.Changes.{ChangesHonestly};
 ghost use Rattle.history_recovery.specs.declared.recovering.RecoverError.TheVariants.{File, Memory};
 
 use crate::clearing::clear_below;
@@ -60,32 +61,27 @@ pub fn recover<F: Files>(
     names: &mut F,
     kind: Kind,
 ) -> Result<(), RecoverError>
-    ensures objects_honest { F.is_honest objects.old → F.is_honest objects.new }
-    ensures names_honest { F.is_honest names.old → F.is_honest names.new }
+    // With any result but `File` no failed call was counted.
+    ensures objects { ChangesHonestly F.Files Memory objects.old objects.new result }
+    ensures names { ChangesHonestly F.Files Memory names.old names.new result }
     ensures recovered { F.is_honest objects.old → F.is_honest names.old
-        → OnOk result (pair_of (F.history objects.new) (F.history names.new)
-        ≡ recovered kind (pair_of (F.history objects.old) (F.history names.old))) }
+        → OnOk result (pair_in F.Files objects.new names.new
+        ≡ recovered kind (pair_in F.Files objects.old names.old)) }
 
     // Whatever is returned, what is left recovers to the same as what was there at first, and so
     // does each pair on the way.
     ensures left { F.is_honest objects.old → F.is_honest names.old
-        → recovered kind (pair_of (F.history objects.new) (F.history names.new))
-        ≡ recovered kind (pair_of (F.history objects.old) (F.history names.old)) }
+        → recovered kind (pair_in F.Files objects.new names.new)
+        ≡ recovered kind (pair_in F.Files objects.old names.old) }
     ensures objects_alike { Passes F.is_honest F.history objects.old objects.new ObjectsAlike }
     ensures names_alike { Passes F.is_honest F.history names.old names.new (NamesAlike kind) }
     ensures stops { F.is_honest objects.old → F.is_honest names.old → (pair : Pair)
         → IsOnTheWay (F.history objects.old) (F.history names.old)
         (F.history objects.new) (F.history names.new) pair
         → recovered kind pair
-        ≡ recovered kind (pair_of (F.history objects.old) (F.history names.old)) }
+        ≡ recovered kind (pair_in F.Files objects.old names.old) }
 
-    // `File` is returned only after a failed call; with any other result none was counted.
-    ensures objects_later { F.failures objects.old ≤ F.failures objects.new }
-    ensures names_later { F.failures names.old ≤ F.failures names.new }
-    ensures unfailed { OnOk result ((F.failures objects.new ≡ F.failures objects.old)
-        × (F.failures names.new ≡ F.failures names.old)) }
-    ensures memory { IsErrOf result Memory → (F.failures objects.new ≡ F.failures objects.old)
-        × (F.failures names.new ≡ F.failures names.old) }
+    // `File` is returned only after a failed call.
     ensures failed { F.is_honest objects.old → F.is_honest names.old
         → IsErrOf result File
         → HasFault F.failures F.reading_may_fail objects.old objects.new
@@ -98,13 +94,10 @@ pub fn recover<F: Files>(
 
 // Removes an object's file that was not renamed to its place.
 fn remove_unfinished<F: Files>(alloc: Global, objects: &mut F) -> Result<(), FileError>
-    ensures honest { F.is_honest objects.old → F.is_honest objects.new }
+    ensures keeps { ChangesHonestly F.Files calls.Memory objects.old objects.new result }
     ensures recovered { Achieves F.is_honest F.history objects.old objects.new result
         AreObjectsRecovered }
     ensures alike { Passes F.is_honest F.history objects.old objects.new ObjectsAlike }
-    ensures later { F.failures objects.old ≤ F.failures objects.new }
-    ensures unfailed { OnOk result (F.failures objects.new ≡ F.failures objects.old) }
-    ensures memory { IsErrOf result calls.Memory → F.failures objects.new ≡ F.failures objects.old }
     ensures failed { F.is_honest objects.old → IsErrOf result Failed
         → HasFault F.failures F.reading_may_fail objects.old objects.new }
 {
@@ -116,13 +109,10 @@ fn remove_unfinished<F: Files>(alloc: Global, objects: &mut F) -> Result<(), Fil
 
 // Removes the leftovers of the names part, and then cuts the logs.
 fn recover_names<F: Files>(alloc: Global, names: &mut F, kind: Kind) -> Result<(), FileError>
-    ensures honest { F.is_honest names.old → F.is_honest names.new }
+    ensures keeps { ChangesHonestly F.Files calls.Memory names.old names.new result }
     ensures recovered { Achieves F.is_honest F.history names.old names.new result
         (AreNamesRecovered kind) }
     ensures alike { Passes F.is_honest F.history names.old names.new (NamesAlike kind) }
-    ensures later { F.failures names.old ≤ F.failures names.new }
-    ensures unfailed { OnOk result (F.failures names.new ≡ F.failures names.old) }
-    ensures memory { IsErrOf result calls.Memory → F.failures names.new ≡ F.failures names.old }
     ensures failed { F.is_honest names.old → IsErrOf result Failed
         → HasFault F.failures F.reading_may_fail names.old names.new }
 {

@@ -19,7 +19,9 @@ use Rattle.history_model.proofs.FailureLemmas.{traces_weaken}
 use Rattle.history_model.proofs.Joining.{begins_there, now_at, of_each, stops_make_rounds}
 use Rattle.history_repository.specs.Face.{has_failed, names_part, objects_part}
 use Rattle.history_repository.specs.declared.repository.Repository.{Repository}
-use Rattle.history.specs.Acts.{CountsFailure, CountsRise, StaysHonest}
+use Rattle.gix_ref_file.specs.declared.files.Files.{Ghosts}
+use Rattle.history.specs.Acts.{CountsFailure}
+use Rattle.history.specs.Calls.{KeepsBoth, KeepsHonesty}
 use Rattle.history.specs.Moments.{GoesLater, IsTraced, moment_of}
 use Rattle.history.specs.NameFiles.{AllLeaveAsSaid}
 use Rattle.history.specs.Runs.{EndsRun}
@@ -34,22 +36,25 @@ use Rattle.history_rounds.proofs.Ends.{ends_failed, ends_told, ends_written}
 pub grown : {P : Tree → Type 0} (old new : History) → Adds P old new → GoesOnFrom old new
 grown old new adds = (adds.during, adds.added)
 
--- the parts that a run left are honest if those that were opened are
-pub still_honest : {F : Type 0} (IsHonest : F → Type 0) (opened ended : Repository F) (objects names left_objects left_names : F) → objects_part opened ≡ objects → names_part opened ≡ names → StaysHonest IsHonest opened ended
-    → left_objects ≡ objects_part ended → left_names ≡ names_part ended → IsHonest objects → IsHonest names → IsHonest left_objects × IsHonest left_names
-still_honest IsHonest opened ended objects names left_objects left_names same_objects same_names stay is_objects is_names o n =
-    (subst IsHonest (sym is_objects) (stay.objects (subst IsHonest (sym same_objects) o)), subst IsHonest (sym is_names) (stay.names (subst IsHonest (sym same_names) n)))
+module _ {F : Type 0} (files : Ghosts F) (Reports : Type 0) (opened ended : Repository F) (objects names left_objects left_names : F) (same_objects : objects_part opened ≡ objects) (same_names : names_part opened ≡ names)
+    (keeps : KeepsBoth files Reports opened ended) (is_objects : left_objects ≡ objects_part ended) (is_names : left_names ≡ names_part ended) where
+  -- the parts that a run left keep honesty
+  left_kept : KeepsHonesty files Reports objects left_objects × KeepsHonesty files Reports names left_names
+  left_kept = (
+    subst (λ o. KeepsHonesty files Reports o left_objects) same_objects (subst (KeepsHonesty files Reports (objects_part opened)) (sym is_objects) keeps.objects),
+    subst (λ n. KeepsHonesty files Reports n left_names) same_names (subst (KeepsHonesty files Reports (names_part opened)) (sym is_names) keeps.names),
+  )
 
--- a call that failed in the recovery has failed in the round
-pub failed_recovering : {F : Type 0} (failures : F → ℕ) (MayFail : Type 0) (opened ended : Repository F) (objects names left_objects left_names then_objects then_names : F) → objects_part opened ≡ objects → names_part opened ≡ names
-    → CountsRise failures opened ended → left_objects ≡ objects_part ended → left_names ≡ names_part ended → HasFault failures MayFail left_objects then_objects ⊎ HasFault failures MayFail left_names then_names
-    → HasRisen (failures objects) (failures then_objects) ⊎ HasRisen (failures names) (failures then_names) ⊎ MayFail
-failed_recovering failures MayFail opened ended objects names left_objects left_names then_objects then_names same_objects same_names counts is_objects is_names (inl (inl h)) =
-    inl (risen_before _ (failures left_objects) _ (subst (λ o. failures o ≤ failures left_objects) same_objects (subst (λ o. failures (objects_part opened) ≤ failures o) (sym is_objects) counts.objects)) h)
-failed_recovering failures MayFail opened ended objects names left_objects left_names then_objects then_names same_objects same_names counts is_objects is_names (inl (inr may)) = inr (inr may)
-failed_recovering failures MayFail opened ended objects names left_objects left_names then_objects then_names same_objects same_names counts is_objects is_names (inr (inl h)) =
-    inr (inl (risen_before _ (failures left_names) _ (subst (λ n. failures n ≤ failures left_names) same_names (subst (λ n. failures (names_part opened) ≤ failures n) (sym is_names) counts.names)) h))
-failed_recovering failures MayFail opened ended objects names left_objects left_names then_objects then_names same_objects same_names counts is_objects is_names (inr (inr may)) = inr (inr may)
+  pub still_honest : files.is_honest objects → files.is_honest names → files.is_honest left_objects × files.is_honest left_names
+  still_honest o n = (left_kept.0.honest o, left_kept.1.honest n)
+
+  -- a call that failed in the recovery has failed in the round
+  pub failed_recovering : (then_objects then_names : F) → HasFault files.failures files.reading_may_fail left_objects then_objects ⊎ HasFault files.failures files.reading_may_fail left_names then_names
+      → HasRisen (files.failures objects) (files.failures then_objects) ⊎ HasRisen (files.failures names) (files.failures then_names) ⊎ files.reading_may_fail
+  failed_recovering then_objects then_names (inl (inl h)) = inl (risen_before _ (files.failures left_objects) _ left_kept.0.later h)
+  failed_recovering then_objects then_names (inr (inl h)) = inr (inl (risen_before _ (files.failures left_names) _ left_kept.1.later h))
+  failed_recovering then_objects then_names (inl (inr may)) = inr (inr may)
+  failed_recovering then_objects then_names (inr (inr may)) = inr (inr may)
 
 -- ---- by histories
 

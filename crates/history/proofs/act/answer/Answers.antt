@@ -1,12 +1,15 @@
 use Rattle.std.proofs.Common.{◌≡◌, true, false, Err, sym, subst, ◌∙◌, ap}
+use Rattle.history_model.specs.declared.Fault.TheVariants.{File}
 use Rattle.history_model.specs.Stops as stops
 use Rattle.history_repository.specs.Face.{has_failed, KeepsAllButRows}
 use Rattle.history_repository.specs.Faults.{IsRefusal}
+use Rattle.history.specs.Calls.{KeepsBoth}
 use Rattle.history.specs.Replies.{is_fault}
+use Rattle.history.specs.declared.reply.Reply.TheVariants.{Fault}
 use Rattle.history.specs.Runs.{is_changing}
 use Rattle.history.proofs.ActLemmas.{received_changes}
 use Rattle.history.proofs.Acted.{text_acted, refusal_acted, fault_acted, failed_so}
-use Rattle.history.proofs.Told.{replied}
+use Rattle.history.proofs.Counts.{more_both}
 use Rattle.history.proofs.act.answer.Goals as goal
 use Rattle.history.proofs.act.answer.Given as Given
 use Rattle.history.proofs.act.answer.Goals.{in-Ok, in-Err-Refused, in-Err-Fault, else-is_changing-via-then-is_changing+else-is_fault, else-is_changing-via-else-is_changing}
@@ -20,9 +23,9 @@ returns-then-is_fault-clause-acted g c = rw (← c.repository.view_is) (λ r ord
     elim c.match-act.branch [
       | in-Ok w ↦ absurd (cc (faulted, ap is_fault w.reply-is))
       | in-Err-Refused w ↦ absurd (cc (faulted, ap is_fault w.reply-is))
-      | in-Err-Fault w ↦ failed_so _ _ _ _ _ _ _ _ _ _ r order c.match-act.reply (fault_acted g.F.Files.is_honest g.F.Files.history g.F.Files.failures g.F.Files.reading_may_fail c.repository.inside.state c.act.new.repository r order
-          (c.act.ensures.later r order asked) (c.act.ensures.stops r order asked) c.act.ensures.counts c.act.result w.in-Err-Fault.fault c.match-act.reply true
-          (w.in-Err-Fault.is ∙ ap Err w.in-Err-Fault.field-0-is) w.reply-is changing (c.act.ensures.memory w.in-Err-Fault.fault (w.in-Err-Fault.is ∙ ap Err w.in-Err-Fault.field-0-is)) (λ none. absurd (cc (changing, none))) (c.act.ensures.rows r order asked) stands (c.act.ensures.acts r order asked))
+      | in-Err-Fault w ↦ failed_so _ _ _ _ _ _ _ _ _ _ r order c.match-act.reply (fault_acted g.F.Files c.repository.inside.state c.act.new.repository r order c.act.result (c.act.ensures.acts r order asked) _ c.act.ensures.keeps
+          w.in-Err-Fault.fault c.match-act.reply true (w.in-Err-Fault.is ∙ ap Err w.in-Err-Fault.field-0-is) w.reply-is changing
+          (λ other told. other (cc (told, w.in-Err-Fault.is, w.in-Err-Fault.field-0-is))) (λ none. absurd (cc (changing, none))) (c.act.ensures.rows r order asked) stands)
     ])
 
 -- if no mark is made, the repository is as `act` left it
@@ -37,54 +40,45 @@ returns-else-is_changing-clause-acted g c = rw (← c.repository.view_is, kept_e
     let stands = asked.serves in
     let reads = asked.reads in
     let acts = c.act.ensures.acts r order asked in
-    let later = c.act.ensures.later r order asked in
-    let stop = c.act.ensures.stops r order asked in
     let same : has_failed c.act.new.repository ≡ false = c.act.ensures.failed ∙ unfailed in
     let kept : stops.is_changing order ≡ false → KeepsAllButRows c.repository.inside.state c.act.new.repository = λ n. c.act.ensures.reads (received_changes c.args.received order reads ∙ n) in
     let rows = c.act.ensures.rows r order asked in
-    let packs = c.act.ensures.leaves r order asked in
     let told : is_changing c.args.received ≡ false → stops.is_changing order ≡ false = λ n. sym (received_changes c.args.received order reads) ∙ n in
     elim c.match-act.branch [
-      | in-Ok w ↦ text_acted g.F.Files.is_honest g.F.Files.history g.F.Files.failures g.F.Files.reading_may_fail c.repository.inside.state c.act.new.repository r order later stop c.act.ensures.counts
-          c.act.result w.in-Ok.text c.match-act.reply _ w.in-Ok.is w.reply-is same w.in-Ok.ensures.unfailed kept rows packs acts
-      | in-Err-Refused w ↦ refusal_acted g.F.Files.is_honest g.F.Files.history g.F.Files.failures g.F.Files.reading_may_fail c.repository.inside.state c.act.new.repository r order later stop c.act.ensures.counts
-          c.act.result w.in-Err-Refused.cause c.match-act.reply _ (w.in-Err-Refused.is ∙ ap Err w.in-Err-Refused.field-0-is) w.reply-is same
-          (w.in-Err-Refused.ensures.refused (subst IsRefusal (sym w.in-Err-Refused.field-0-is) tt)) rows stands acts
+      | in-Ok w ↦ text_acted g.F.Files c.repository.inside.state c.act.new.repository r order c.act.result acts _ c.act.ensures.keeps
+          w.in-Ok.text c.match-act.reply _ w.in-Ok.is w.reply-is same (λ told. absurd (cc (told, w.in-Ok.is))) kept rows
+      | in-Err-Refused w ↦ refusal_acted g.F.Files c.repository.inside.state c.act.new.repository r order c.act.result acts _ c.act.ensures.keeps
+          w.in-Err-Refused.cause c.match-act.reply _ (w.in-Err-Refused.is ∙ ap Err w.in-Err-Refused.field-0-is) w.reply-is same
+          (w.in-Err-Refused.ensures.refused (subst IsRefusal (sym w.in-Err-Refused.field-0-is) tt)) rows stands
       | in-Err-Fault w ↦
           let unchanging : is_changing c.args.received ≡ false = elim c.else-is_changing.branch [
             | else-is_changing-via-then-is_changing+else-is_fault v ↦ absurd (cc (v.is_fault.ensures, v.if-is_fault.false, ap is_fault w.reply-is))
             | else-is_changing-via-else-is_changing v ↦ sym c.is_changing-is_changing.ensures ∙ v.if-is_changing.false
           ] in
-          fault_acted g.F.Files.is_honest g.F.Files.history g.F.Files.failures g.F.Files.reading_may_fail c.repository.inside.state c.act.new.repository r order later stop c.act.ensures.counts
-          c.act.result w.in-Err-Fault.fault c.match-act.reply (has_failed c.act.new.repository) (w.in-Err-Fault.is ∙ ap Err w.in-Err-Fault.field-0-is) w.reply-is (same ∙ sym (told unchanging)) (c.act.ensures.memory w.in-Err-Fault.fault (w.in-Err-Fault.is ∙ ap Err w.in-Err-Fault.field-0-is)) (λ n. w.in-Err-Fault.ensures.unread (received_changes c.args.received order reads ∙ n)) rows stands acts
+          fault_acted g.F.Files c.repository.inside.state c.act.new.repository r order c.act.result acts _ c.act.ensures.keeps
+          w.in-Err-Fault.fault c.match-act.reply (has_failed c.act.new.repository) (w.in-Err-Fault.is ∙ ap Err w.in-Err-Fault.field-0-is) w.reply-is (same ∙ sym (told unchanging))
+          (λ other so. other (cc (so, w.in-Err-Fault.is, w.in-Err-Fault.field-0-is))) (λ n. w.in-Err-Fault.ensures.unread (received_changes c.args.received order reads ∙ n)) rows stands
     ])
 
 pub returns-then-is_fault-clause-later : goal.returns-then-is_fault-clause-later
-returns-then-is_fault-clause-later g c = rw (← c.repository.view_is) (λ r order asked. c.act.ensures.later r order asked)
+returns-then-is_fault-clause-later g c = rw (← c.repository.view_is) (λ r order asked. (c.act.ensures.acts r order asked).later)
 
 pub returns-else-is_changing-clause-later : goal.returns-else-is_changing-clause-later
-returns-else-is_changing-clause-later g c = rw (← c.repository.view_is, kept_else g c) (λ r order asked. c.act.ensures.later r order asked)
+returns-else-is_changing-clause-later g c = rw (← c.repository.view_is, kept_else g c) (λ r order asked. (c.act.ensures.acts r order asked).later)
 
-pub returns-then-is_fault-clause-honest : goal.returns-then-is_fault-clause-honest
-returns-then-is_fault-clause-honest g c = rw (← c.repository.view_is) (record { objects = c.act.ensures.honest.objects; names = c.act.ensures.honest.names })
+pub returns-then-is_fault-clause-keeps : goal.returns-then-is_fault-clause-keeps
+returns-then-is_fault-clause-keeps g c = rw (← c.repository.view_is) (
+    let keeps : KeepsBoth g.F.Files (c.match-act.reply ≡ Fault File) c.repository.inside.state c.act.new.repository = more_both g.F.Files _ _ c.repository.inside.state c.act.new.repository c.act.ensures.keeps (λ told. elim c.match-act.branch [
+      | in-Ok w ↦ absurd (cc (told, w.in-Ok.is))
+      | in-Err-Refused w ↦ absurd (cc (told, w.in-Err-Refused.is, w.in-Err-Refused.field-0-is))
+      | in-Err-Fault w ↦ cc (told, w.in-Err-Fault.is, w.in-Err-Fault.field-0-is, w.reply-is)
+    ]) in
+    record { objects = keeps.objects; names = keeps.names })
 
-pub returns-else-is_changing-clause-honest : goal.returns-else-is_changing-clause-honest
-returns-else-is_changing-clause-honest g c = rw (← c.repository.view_is, kept_else g c) (record { objects = c.act.ensures.honest.objects; names = c.act.ensures.honest.names })
-
-pub returns-then-is_fault-clause-memory : goal.returns-then-is_fault-clause-memory
-returns-then-is_fault-clause-memory g c = rw (← c.repository.view_is) (λ fault told other.
-    elim c.match-act.branch [
-      | in-Ok w ↦ absurd (cc (told, w.reply-is))
-      | in-Err-Refused w ↦ absurd (cc (told, w.reply-is))
-      | in-Err-Fault w ↦
-          let counts = c.act.ensures.memory fault (replied c.act.result _ c.match-act.reply w.in-Err-Fault.fault fault w.in-Err-Fault.is w.in-Err-Fault.field-0-is w.reply-is told) other in
-          record { objects = counts.objects; names = counts.names }
-    ])
-
-pub returns-else-is_changing-clause-memory : goal.returns-else-is_changing-clause-memory
-returns-else-is_changing-clause-memory g c = rw (← c.repository.view_is, kept_else g c) (λ fault told other.
-    elim c.match-act.branch [
-      | in-Ok w ↦ absurd (cc (told, w.reply-is))
-      | in-Err-Refused w ↦ absurd (cc (told, w.reply-is))
-      | in-Err-Fault w ↦ c.act.ensures.memory fault (replied c.act.result _ c.match-act.reply w.in-Err-Fault.fault fault w.in-Err-Fault.is w.in-Err-Fault.field-0-is w.reply-is told) other
-    ])
+pub returns-else-is_changing-clause-keeps : goal.returns-else-is_changing-clause-keeps
+returns-else-is_changing-clause-keeps g c = rw (← c.repository.view_is, kept_else g c) (
+    more_both g.F.Files _ _ c.repository.inside.state c.act.new.repository c.act.ensures.keeps (λ told. elim c.match-act.branch [
+      | in-Ok w ↦ absurd (cc (told, w.in-Ok.is))
+      | in-Err-Refused w ↦ absurd (cc (told, w.in-Err-Refused.is, w.in-Err-Refused.field-0-is))
+      | in-Err-Fault w ↦ cc (told, w.in-Err-Fault.is, w.in-Err-Fault.field-0-is, w.reply-is)
+    ]))

@@ -3,4 +3,4 @@ use Rattle.history.proofs.commit.put_all.Given as goal
 
 -- the objects so far were put
 abbrev pub invariant-loop-object : goal.invariant-loop-object
-invariant-loop-object g l = HasPut g.F.Files.is_honest g.F.Files.history g.F.Files.failures l.objects l.object-index l.initial.repository l.repository
+invariant-loop-object g l = HasPut g.F.Files l.objects l.object-index l.initial.repository l.repository

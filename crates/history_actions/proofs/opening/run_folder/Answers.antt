@@ -37,23 +37,10 @@ returns g c =
           whole_parts g.F.Files.is_honest g.F.Files.history c.args.kind c.args.objects c.args.names
           c.in-Ok.repository ok.0 ok.1 (c.in-Ok.ensures.stands honest_objects honest_names);
       is_it = λ r honest_objects honest_names stands. c.in-Ok.ensures.same r honest_objects honest_names stands;
-      honest = c.run-end.ensures.honest;
+      honest_objects = c.run-end.ensures.keeps.objects.honest;
+      honest_names = c.run-end.ensures.keeps.names.honest;
       later = λ r stands. c.run-end.ensures.later r ok.2 stands;
-      runs = λ r stands.
-          let ran = c.run-end.ensures.runs r ok.2 stands in
-          record {
-            commands = ran.0;
-            replies = ran.1;
-            read = ran.2;
-            written = ran.3;
-            new = ran.4;
-            reads = ran.5;
-            writes = ran.6;
-            ends = ran.7;
-            traced = ran.8;
-            stands = ran.9;
-            recovers = ran.10;
-          };
+      runs = λ r stands. c.run-end.ensures.runs r ok.2 stands;
       input = c.run-end.ensures.input;
       read = c.run-end.ensures.read;
       write = c.run-end.ensures.write;

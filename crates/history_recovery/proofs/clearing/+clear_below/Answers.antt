@@ -27,7 +27,7 @@ returns-in_err-clear_at-clause-clears g t c = λ kind tells honest.
     let told = told_later kind old.tree mid.tree c.args.packed.now (clears_now kind old mid first).alike tells in
     let second = then_clears kind old mid inner first (c.clear_below.ensures.clears kind told honest_1) in
     let told_2 = told_later kind old.tree inner.tree c.args.packed.now (clears_now kind old inner second).alike tells in
-    then_clears kind old inner (g.F.Files.history c.clear_at.new.files) second (c.clear_at.ensures.clears kind told_2 (c.clear_below.ensures.honest honest_1))
+    then_clears kind old inner (g.F.Files.history c.clear_at.new.files) second (c.clear_at.ensures.clears kind told_2 (c.clear_below.ensures.keeps.honest honest_1))
 
 pub loop-name-preserved : goal.loop-name-preserved
 loop-name-preserved g t c =
@@ -49,11 +49,11 @@ loop-name-preserved g t c =
           let told_2 = λ (kind : Kind) (tells : Tells kind old.tree c.args.packed.now) (honest : g.F.Files.is_honest c.args.files.now).
           told_later kind old.tree inner.tree c.args.packed.now (clears_now kind old inner (second kind tells honest)).alike tells in
           rw w.files-is (record {
-            honest = λ honest. w.clear_at.ensures.honest (w.clear_below.ensures.honest (so_far.honest honest));
-            clears = λ kind tells honest. then_clears kind old inner new (second kind tells honest) (w.clear_at.ensures.clears kind (told_2 kind tells honest) (w.clear_below.ensures.honest (so_far.honest honest)));
+            honest = λ honest. w.clear_at.ensures.keeps.honest (w.clear_below.ensures.keeps.honest (so_far.honest honest));
+            clears = λ kind tells honest. then_clears kind old inner new (second kind tells honest) (w.clear_at.ensures.clears kind (told_2 kind tells honest) (w.clear_below.ensures.keeps.honest (so_far.honest honest)));
             kept = λ kind honest tells.
                 let honest_1 = so_far.honest honest in
-                let honest_2 = w.clear_below.ensures.honest honest_1 in
+                let honest_2 = w.clear_below.ensures.keeps.honest honest_1 in
                 let below_1 = clears_now kind mid inner (w.clear_below.ensures.clears kind (told kind tells honest) honest_1) in
                 let below_2 = clears_now kind inner new (w.clear_at.ensures.clears kind (told_2 kind tells honest) honest_2) in
                 let path = c.in_ok-path.path.items in
@@ -64,8 +64,8 @@ loop-name-preserved g t c =
                 (λ i below. kept_from_later kind inner.tree new.tree _ below_2 (kept_from_later kind mid.tree inner.tree _ below_1 (so_far.kept kind honest tells i below)))
                 (l honest).at
                 (here, λ n q under. kept_later kind inner.tree new.tree q below_2 (deep n q under));
-            later = omega (arith, so_far.later, w.clear_below.ensures.later, w.clear_at.ensures.later);
-            unfailed = w.in_ok-clear_at.ensures.unfailed ∙ w.in_ok-clear_below.ensures.unfailed ∙ so_far.unfailed;
+            later = omega (arith, so_far.later, w.clear_below.ensures.keeps.later, w.clear_at.ensures.keeps.later);
+            unfailed = w.in_ok-clear_at.ensures.keeps.unfailed ∙ w.in_ok-clear_below.ensures.keeps.unfailed ∙ so_far.unfailed;
           })
       | else-is_deeper w ↦ rw w.files-is (record {
         honest = so_far.honest;

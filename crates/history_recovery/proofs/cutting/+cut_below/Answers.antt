@@ -49,7 +49,7 @@ returns-in_err-cut_below-clause-alike g t c = λ kind kept logs honest.
     let second = c.cut_log.ensures.alike kind kept_1 log honest_1 in
     let kept_2 = kept_cut kind mid.tree inner.tree (alike_now kind mid inner second) (c.in_ok-cut_log.ensures.cuts kind kept_1 log honest_1) kept_1 in
     let deep = log_folder c.deref-then-is_deeper-2.result.now (ap is_log_place (c.deref-then-is_deeper-2.ensures.value ∙ sym c.deref-then-is_deeper.ensures.value) ∙ log) in
-    then_alike kind old inner (g.F.Files.history c.cut_below.new.files) (then_alike kind old mid inner first second) (c.cut_below.ensures.alike kind kept_2 deep (c.cut_log.ensures.honest honest_1))
+    then_alike kind old inner (g.F.Files.history c.cut_below.new.files) (then_alike kind old mid inner first second) (c.cut_below.ensures.alike kind kept_2 deep (c.cut_log.ensures.keeps.honest honest_1))
 
 pub returns-in_err-cut_below-clause-failed : goal.returns-in_err-cut_below-clause-failed
 returns-in_err-cut_below-clause-failed g t c = λ kind kept logs honest failed.
@@ -65,9 +65,9 @@ returns-in_err-cut_below-clause-failed g t c = λ kind kept logs honest failed.
     let second = c.cut_log.ensures.alike kind kept_1 log honest_1 in
     let kept_2 = kept_cut kind mid.tree inner.tree (alike_now kind mid inner second) (c.in_ok-cut_log.ensures.cuts kind kept_1 log honest_1) kept_1 in
     let deep = log_folder c.deref-then-is_deeper-2.result.now (ap is_log_place (c.deref-then-is_deeper-2.ensures.value ∙ sym c.deref-then-is_deeper.ensures.value) ∙ log) in
-    let deeper = c.in_err-cut_below.ensures.failed kind kept_2 deep (c.cut_log.ensures.honest honest_1) in
+    let deeper = c.in_err-cut_below.ensures.failed kind kept_2 deep (c.cut_log.ensures.keeps.honest honest_1) in
     let residual = c.from_residual-in_err-cut_below.ensures in
-    later_risen _ _ _ (omega (arith, so_far.later, c.cut_log.ensures.later)) (deeper (search rules))
+    later_risen _ _ _ (omega (arith, so_far.later, c.cut_log.ensures.keeps.later)) (deeper (search rules))
 
 pub loop-name-preserved : goal.loop-name-preserved
 loop-name-preserved g t c =
@@ -93,11 +93,11 @@ loop-name-preserved g t c =
           let kept_2 = λ (kind : Kind) (kept : AreAllKept kind old.tree) (logs : IsLogFolder place) (honest : g.F.Files.is_honest c.args.files.now).
           kept_cut kind mid.tree inner.tree (alike_now kind mid inner (second kind kept logs honest)) (cuts_1 kind kept logs honest) (kept_1 kind kept logs honest) in
           let deep = λ (logs : IsLogFolder place). log_folder w.deref-then-is_deeper-2.result.now (ap is_log_place (w.deref-then-is_deeper-2.ensures.value ∙ sym w.deref-then-is_deeper.ensures.value) ∙ log logs) in
-          let honest_2 = λ (honest : g.F.Files.is_honest c.args.files.now). w.cut_log.ensures.honest (so_far.honest honest) in
+          let honest_2 = λ (honest : g.F.Files.is_honest c.args.files.now). w.cut_log.ensures.keeps.honest (so_far.honest honest) in
           let cuts_2 = λ (kind : Kind) (kept : AreAllKept kind old.tree) (logs : IsLogFolder place) (honest : g.F.Files.is_honest c.args.files.now).
           w.in_ok-cut_below.ensures.cuts kind (kept_2 kind kept logs honest) (deep logs) (honest_2 honest) in
           rw w.files-is (record {
-            honest = λ honest. w.cut_below.ensures.honest (honest_2 honest);
+            honest = λ honest. w.cut_below.ensures.keeps.honest (honest_2 honest);
             alike = λ kind kept logs honest.
                 then_alike kind old inner new (then_alike kind old mid inner (so_far.alike kind kept logs honest) (second kind kept logs honest)) (w.cut_below.ensures.alike kind (kept_2 kind kept logs honest) (deep logs) (honest_2 honest));
             cuts = λ kind kept logs honest. cuts_joined old.tree inner.tree new.tree (cuts_joined old.tree mid.tree inner.tree (so_far.cuts kind kept logs honest) (cuts_1 kind kept logs honest)) (cuts_2 kind kept logs honest);
@@ -108,8 +108,8 @@ loop-name-preserved g t c =
                 (λ i less. cut_from_later inner.tree new.tree _ (cuts_2 kind kept logs honest) (cut_from_later mid.tree inner.tree _ (cuts_1 kind kept logs honest) (so_far.cut kind kept logs honest i less)))
                 (l honest).at
                 (cut_later inner.tree new.tree path (cuts_2 kind kept logs honest) here, below);
-            later = omega (arith, so_far.later, w.cut_log.ensures.later, w.cut_below.ensures.later);
-            unfailed = w.in_ok-cut_below.ensures.unfailed ∙ w.in_ok-cut_log.ensures.unfailed ∙ so_far.unfailed;
+            later = omega (arith, so_far.later, w.cut_log.ensures.keeps.later, w.cut_below.ensures.keeps.later);
+            unfailed = w.in_ok-cut_below.ensures.keeps.unfailed ∙ w.in_ok-cut_log.ensures.keeps.unfailed ∙ so_far.unfailed;
           })
       | else-is_deeper w ↦ rw w.files-is (record {
         honest = so_far.honest;

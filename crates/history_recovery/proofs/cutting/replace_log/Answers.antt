@@ -43,7 +43,7 @@ returns-clause-alike g c = λ kind may honest.
     (subst (λ p. IsTrue (may_hold_file old.tree p)) path (c.in_ok-copy_front.ensures.allowed honest))
     (subst (λ p. log ≢ p → locked.tree ≡ insert old.tree p (file (take end (bytes_at old.tree log)))) path (λ apart. c.in_ok-copy_front.ensures.copied apart honest) (not_its_lock log))
     (subst (λ p. Adds (ChangesOneFile p old.tree) old locked) path (c.copy_front.ensures.moments honest))
-    (subst (λ p. Adds (MayLeave (to_rename p log) locked.tree) locked new) (c.deref-2.ensures.value ∙ c.in_ok-lock.ensures) (c.rename.ensures.change (c.copy_front.ensures.honest honest)).moments)
+    (subst (λ p. Adds (MayLeave (to_rename p log) locked.tree) locked new) (c.deref-2.ensures.value ∙ c.in_ok-lock.ensures) (c.rename.ensures.change (c.copy_front.ensures.keeps.honest honest)).moments)
 
 pub returns-clause-replaced : goal.returns-clause-replaced
 returns-clause-replaced g c = λ kind may honest.
@@ -58,7 +58,7 @@ returns-clause-replaced g c = λ kind may honest.
     (subst (λ p. IsTrue (may_hold_file old.tree p)) path (c.in_ok-copy_front.ensures.allowed honest))
     (subst (λ p. log ≢ p → locked.tree ≡ insert old.tree p (file (take end (bytes_at old.tree log)))) path (λ apart. c.in_ok-copy_front.ensures.copied apart honest) (not_its_lock log))
     new.tree (subst (λ p. new.tree ≡ after (to_rename p log) locked.tree) (c.deref-2.ensures.value ∙ c.in_ok-lock.ensures) at))
-    (c.rename.ensures.change (c.copy_front.ensures.honest honest)).made
+    (c.rename.ensures.change (c.copy_front.ensures.keeps.honest honest)).made
 
 pub returns-clause-failed : goal.returns-clause-failed
 returns-clause-failed g c = λ kind may honest failed.
@@ -71,5 +71,5 @@ returns-clause-failed g c = λ kind may honest failed.
     let allowed = subst (λ p. IsTrue (may_hold_file old.tree p)) path (c.in_ok-copy_front.ensures.allowed honest) in
     let made = subst (λ p. log ≢ p → locked.tree ≡ insert old.tree p (file (take end (bytes_at old.tree log)))) path (λ apart. c.in_ok-copy_front.ensures.copied apart honest) (not_its_lock log) in
     let moves = lock_moves old.tree locked.tree log may.text (take end (bytes_at old.tree log)) rooted may.is_log may.stands allowed made (lock_there kind old.tree log end may locked.tree allowed made) in
-    later_risen _ _ _ c.copy_front.ensures.later
-    (caused _ _ _ _ (subst (λ p. IsTrue (allows locked.tree (to_rename p log))) (sym (c.deref-2.ensures.value ∙ c.in_ok-lock.ensures)) moves) (c.rename.ensures.cause (c.copy_front.ensures.honest honest)) failed)
+    later_risen _ _ _ c.copy_front.ensures.keeps.later
+    (caused _ _ _ _ (subst (λ p. IsTrue (allows locked.tree (to_rename p log))) (sym (c.deref-2.ensures.value ∙ c.in_ok-lock.ensures)) moves) (c.rename.ensures.cause (c.copy_front.ensures.keeps.honest honest)) failed)

@@ -18,7 +18,7 @@ returns-clause-alike g c = λ honest.
     let kept = all_kept_there kind mid.tree (c.in_ok-clear_below.ensures.kept kind honest tells) in
     then_alike kind old mid (g.F.Files.history c.cut_below.new.files)
     (adds_weaker old mid (c.clear_below.ensures.clears kind tells honest) (λ x clears. clears.alike))
-    (c.cut_below.ensures.alike kind kept refl (c.clear_below.ensures.honest honest))
+    (c.cut_below.ensures.alike kind kept refl (c.clear_below.ensures.keeps.honest honest))
 
 pub returns-clause-recovered : goal.returns-clause-recovered
 returns-clause-recovered g c = λ honest.
@@ -26,7 +26,7 @@ returns-clause-recovered g c = λ honest.
     let old = g.F.Files.history c.args.names.now in
     let mid = g.F.Files.history c.clear_below.new.files in
     let new = g.F.Files.history c.cut_below.new.files in
-    let honest_1 = c.clear_below.ensures.honest honest in
+    let honest_1 = c.clear_below.ensures.keeps.honest honest in
     let tells = c.in_ok-packed.ensures.tells honest in
     let below = c.in_ok-clear_below.ensures.kept kind honest tells in
     let kept = all_kept_there kind mid.tree below in
@@ -41,4 +41,4 @@ returns-clause-failed g c = λ honest failed.
     let mid = g.F.Files.history c.clear_below.new.files in
     let tells = c.in_ok-packed.ensures.tells honest in
     let kept = all_kept_there kind mid.tree (c.in_ok-clear_below.ensures.kept kind honest tells) in
-    later_risen _ _ _ c.clear_below.ensures.later (c.cut_below.ensures.failed kind kept refl (c.clear_below.ensures.honest honest) failed)
+    later_risen _ _ _ c.clear_below.ensures.keeps.later (c.cut_below.ensures.failed kind kept refl (c.clear_below.ensures.keeps.honest honest) failed)

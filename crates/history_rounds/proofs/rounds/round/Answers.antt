@@ -10,8 +10,8 @@ returns-then-not-has_failed-clause-round g c = λ r honest_objects honest_names 
     let F = g.F.Files in
     let same = c.in-Ok.ensures.ok in
     let ran = c.run-ended.ensures.runs r same.2 (c.in-Ok.ensures.same r honest_objects honest_names whole) in
-    stayed F.history F.failures F.reading_may_fail c.args.kind c.args.objects c.args.names c.in-Ok.repository c.run-ended.new.repository same.0 same.1 r ran.4 ran.0 ran.1 ran.2 ran.3 whole
-    (c.run-ended.ensures.later r same.2 (c.in-Ok.ensures.same r honest_objects honest_names whole)) _ _ c.run-ended.result ran.7 ran.8 _ _ ran.5 ran.6
+    stayed F.history F.failures F.reading_may_fail c.args.kind c.args.objects c.args.names c.in-Ok.repository c.run-ended.new.repository same.0 same.1 r ran.new ran.commands ran.replies ran.read ran.written whole
+    (c.run-ended.ensures.later r same.2 (c.in-Ok.ensures.same r honest_objects honest_names whole)) _ _ c.run-ended.result ran.ends ran.traced _ _ ran.reads ran.writes
     c.into_parts-objects.result.0 c.into_parts-objects.result.1 c.into_parts-objects.result.0 c.into_parts-objects.result.1 c.into_parts-objects.ensures.objects c.into_parts-objects.ensures.names
     ([], sym (append-nil (trees (F.history c.into_parts-objects.result.0)))) ([], sym (append-nil (trees (F.history c.into_parts-objects.result.1)))) (omega arith) (omega arith)
     (sym c.has_failed-has_failed.ensures ∙ c.if-not-has_failed.true) refl
@@ -21,26 +21,26 @@ returns-in-Ok-recover-clause-round g c = λ r honest_objects honest_names whole.
     let F = g.F.Files in
     let same = c.in-Ok.ensures.ok in
     let ran = c.run-ended.ensures.runs r same.2 (c.in-Ok.ensures.same r honest_objects honest_names whole) in
-    let left = still_honest F.is_honest c.in-Ok.repository c.run-ended.new.repository c.args.objects c.args.names c.into_parts-objects.result.0 c.into_parts-objects.result.1 same.0 same.1 c.run-ended.ensures.honest c.into_parts-objects.ensures.objects c.into_parts-objects.ensures.names honest_objects honest_names in
+    let left = still_honest F _ c.in-Ok.repository c.run-ended.new.repository c.args.objects c.args.names c.into_parts-objects.result.0 c.into_parts-objects.result.1 same.0 same.1 c.run-ended.ensures.keeps c.into_parts-objects.ensures.objects c.into_parts-objects.ensures.names honest_objects honest_names in
     let recovery = c.in-Ok-recover.ensures in
-    recovered_whole F.history F.failures F.reading_may_fail c.args.kind c.args.objects c.args.names c.in-Ok.repository c.run-ended.new.repository same.0 same.1 r ran.4 ran.0 ran.1 ran.2 ran.3 whole
-    (c.run-ended.ensures.later r same.2 (c.in-Ok.ensures.same r honest_objects honest_names whole)) _ _ c.run-ended.result ran.7 ran.8 _ _ ran.5 ran.6
+    recovered_whole F.history F.failures F.reading_may_fail c.args.kind c.args.objects c.args.names c.in-Ok.repository c.run-ended.new.repository same.0 same.1 r ran.new ran.commands ran.replies ran.read ran.written whole
+    (c.run-ended.ensures.later r same.2 (c.in-Ok.ensures.same r honest_objects honest_names whole)) _ _ c.run-ended.result ran.ends ran.traced _ _ ran.reads ran.writes
     c.into_parts-objects.result.0 c.into_parts-objects.result.1 c.recover.new.objects c.recover.new.names c.into_parts-objects.ensures.objects c.into_parts-objects.ensures.names
-    (grown _ _ (recovery.objects_alike left.0)) (grown _ _ (recovery.names_alike left.1)) recovery.objects_later recovery.names_later (recovery.recovered left.0 left.1)
+    (grown _ _ (recovery.objects_alike left.0)) (grown _ _ (recovery.names_alike left.1)) recovery.objects.later recovery.names.later (recovery.recovered left.0 left.1)
 
 pub returns-in-Err-recover-clause-round : goal.returns-in-Err-recover-clause-round
 returns-in-Err-recover-clause-round g c = λ r honest_objects honest_names whole.
     let F = g.F.Files in
     let same = c.in-Ok.ensures.ok in
     let ran = c.run-ended.ensures.runs r same.2 (c.in-Ok.ensures.same r honest_objects honest_names whole) in
-    let left = still_honest F.is_honest c.in-Ok.repository c.run-ended.new.repository c.args.objects c.args.names c.into_parts-objects.result.0 c.into_parts-objects.result.1 same.0 same.1 c.run-ended.ensures.honest c.into_parts-objects.ensures.objects c.into_parts-objects.ensures.names honest_objects honest_names in
+    let left = still_honest F _ c.in-Ok.repository c.run-ended.new.repository c.args.objects c.args.names c.into_parts-objects.result.0 c.into_parts-objects.result.1 same.0 same.1 c.run-ended.ensures.keeps c.into_parts-objects.ensures.objects c.into_parts-objects.ensures.names honest_objects honest_names in
     let recovery = c.in-Err-recover.ensures in (
-      recovered_part F.history F.failures F.reading_may_fail c.args.kind c.args.objects c.args.names c.in-Ok.repository c.run-ended.new.repository same.0 same.1 r ran.4 ran.0 ran.1 ran.2 ran.3 whole
-          (c.run-ended.ensures.later r same.2 (c.in-Ok.ensures.same r honest_objects honest_names whole)) _ _ c.run-ended.result ran.7 ran.8 _ _ ran.5 ran.6
+      recovered_part F.history F.failures F.reading_may_fail c.args.kind c.args.objects c.args.names c.in-Ok.repository c.run-ended.new.repository same.0 same.1 r ran.new ran.commands ran.replies ran.read ran.written whole
+          (c.run-ended.ensures.later r same.2 (c.in-Ok.ensures.same r honest_objects honest_names whole)) _ _ c.run-ended.result ran.ends ran.traced _ _ ran.reads ran.writes
           c.into_parts-objects.result.0 c.into_parts-objects.result.1 c.recover.new.objects c.recover.new.names c.into_parts-objects.ensures.objects c.into_parts-objects.ensures.names
-          (grown _ _ (recovery.objects_alike left.0)) (grown _ _ (recovery.names_alike left.1)) recovery.objects_later recovery.names_later (recovery.left left.0 left.1),
-      λ told. failed_recovering F.failures F.reading_may_fail c.in-Ok.repository c.run-ended.new.repository c.args.objects c.args.names c.into_parts-objects.result.0 c.into_parts-objects.result.1 c.recover.new.objects c.recover.new.names same.0 same.1
-          c.run-ended.ensures.counts c.into_parts-objects.ensures.objects c.into_parts-objects.ensures.names (recovery.failed left.0 left.1 (ap Err told)),
+          (grown _ _ (recovery.objects_alike left.0)) (grown _ _ (recovery.names_alike left.1)) recovery.objects.later recovery.names.later (recovery.left left.0 left.1),
+      λ told. failed_recovering F _ c.in-Ok.repository c.run-ended.new.repository c.args.objects c.args.names c.into_parts-objects.result.0 c.into_parts-objects.result.1 same.0 same.1
+          c.run-ended.ensures.keeps c.into_parts-objects.ensures.objects c.into_parts-objects.ensures.names c.recover.new.objects c.recover.new.names (recovery.failed left.0 left.1 (ap Err told)),
     )
 
 -- ---- if the parts aren't opened
@@ -67,22 +67,22 @@ pub returns-then-not-has_failed-clause-honest : goal.returns-then-not-has_failed
 returns-then-not-has_failed-clause-honest g c = λ honest_objects honest_names.
     let F = g.F.Files in
     let same = c.in-Ok.ensures.ok in
-    let left = still_honest F.is_honest c.in-Ok.repository c.run-ended.new.repository c.args.objects c.args.names c.into_parts-objects.result.0 c.into_parts-objects.result.1 same.0 same.1 c.run-ended.ensures.honest c.into_parts-objects.ensures.objects c.into_parts-objects.ensures.names honest_objects honest_names in
+    let left = still_honest F _ c.in-Ok.repository c.run-ended.new.repository c.args.objects c.args.names c.into_parts-objects.result.0 c.into_parts-objects.result.1 same.0 same.1 c.run-ended.ensures.keeps c.into_parts-objects.ensures.objects c.into_parts-objects.ensures.names honest_objects honest_names in
     left
 
 pub returns-in-Ok-recover-clause-honest : goal.returns-in-Ok-recover-clause-honest
 returns-in-Ok-recover-clause-honest g c = λ honest_objects honest_names.
     let F = g.F.Files in
     let same = c.in-Ok.ensures.ok in
-    let left = still_honest F.is_honest c.in-Ok.repository c.run-ended.new.repository c.args.objects c.args.names c.into_parts-objects.result.0 c.into_parts-objects.result.1 same.0 same.1 c.run-ended.ensures.honest c.into_parts-objects.ensures.objects c.into_parts-objects.ensures.names honest_objects honest_names in
-    (c.in-Ok-recover.ensures.objects_honest left.0, c.in-Ok-recover.ensures.names_honest left.1)
+    let left = still_honest F _ c.in-Ok.repository c.run-ended.new.repository c.args.objects c.args.names c.into_parts-objects.result.0 c.into_parts-objects.result.1 same.0 same.1 c.run-ended.ensures.keeps c.into_parts-objects.ensures.objects c.into_parts-objects.ensures.names honest_objects honest_names in
+    (c.in-Ok-recover.ensures.objects.honest left.0, c.in-Ok-recover.ensures.names.honest left.1)
 
 pub returns-in-Err-recover-clause-honest : goal.returns-in-Err-recover-clause-honest
 returns-in-Err-recover-clause-honest g c = λ honest_objects honest_names.
     let F = g.F.Files in
     let same = c.in-Ok.ensures.ok in
-    let left = still_honest F.is_honest c.in-Ok.repository c.run-ended.new.repository c.args.objects c.args.names c.into_parts-objects.result.0 c.into_parts-objects.result.1 same.0 same.1 c.run-ended.ensures.honest c.into_parts-objects.ensures.objects c.into_parts-objects.ensures.names honest_objects honest_names in
-    (c.in-Err-recover.ensures.objects_honest left.0, c.in-Err-recover.ensures.names_honest left.1)
+    let left = still_honest F _ c.in-Ok.repository c.run-ended.new.repository c.args.objects c.args.names c.into_parts-objects.result.0 c.into_parts-objects.result.1 same.0 same.1 c.run-ended.ensures.keeps c.into_parts-objects.ensures.objects c.into_parts-objects.ensures.names honest_objects honest_names in
+    (c.in-Err-recover.ensures.objects.honest left.0, c.in-Err-recover.ensures.names.honest left.1)
 
 -- ---- how the run ended
 

@@ -11,8 +11,8 @@ returns-clause-answers c =
     let ran = c.in_ok-end.ensures.runs (fresh c.args.kind) made.unfailed made.stands in
     let left = Some c.run.new.reader.rest.now in
     let contents = Some c.run.new.writer.bytes.items in
-    answered c.args.kind c.args.input.now left contents c.in_ok-end.end (has_failed c.run.new.repository) ran.0 ran.1 ran.2 ran.3 ran.4 _ none_failed
-    (subst (λ old. Consumes old left ran.2) c.new-reader.ensures.left ran.5) (subst (λ old. Appends old contents ran.3) c.new-written.ensures.contents ran.6) ran.7
+    answered c.args.kind c.args.input.now left contents c.in_ok-end.end (has_failed c.run.new.repository) ran.commands ran.replies ran.read ran.written ran.new _ none_failed
+    (subst (λ old. Consumes old left ran.read) c.new-reader.ensures.left ran.reads) (subst (λ old. Appends old contents ran.written) c.new-written.ensures.contents ran.writes) ran.ends
 
 pub returns-clause-meant : goal.returns-clause-meant
 returns-clause-meant c = λ output meant. given c.args.kind c.args.input.now output (Some c.run.new.writer.bytes.items) c.in_ok-end.end meant (returns-clause-answers c)
