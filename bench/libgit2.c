@@ -1,6 +1,6 @@
 // What libgit2 does of the workloads, on a bare repository; each prints what git prints of the same.
-// usage: libgit2 ACTION FOLDER, the action being one of the table at the end; `show` reads lines `main:PATH`, and `move` and `delete` read
-// what git update-ref --stdin reads
+// usage: libgit2 ACTION FOLDER, the action being one of the table at the end; `show` reads lines `main:PATH`, and `move`, `rename` and `delete`
+// read what git update-ref --stdin reads; a line of input is read first, replied to, and followed by another
 #include <git2.h>
 #include <stdio.h>
 #include <stdlib.h>
@@ -118,6 +118,20 @@ static void change(void)
 	}
 }
 
+// A line that creates a name at another is a rename of the other, which the deletion after it is a part of.
+static void rename_all(void)
+{
+	char line[4200], new[1100], old[1100];
+	git_reference *found, *renamed;
+	while (fgets(line, sizeof line, stdin))
+		if (sscanf(line, "create %1099s %1099s", new, old) == 2) {
+			must(git_reference_lookup(&found, repository, old));
+			must(git_reference_rename(&renamed, found, new, 0, "rename"));
+			git_reference_free(renamed);
+			git_reference_free(found);
+		}
+}
+
 static void pack(void)
 {
 	git_refdb *all;
@@ -126,19 +140,21 @@ static void pack(void)
 	git_refdb_free(all);
 }
 
-static void open_only(void) {}
-
 static const struct { const char *name; void (*act)(void); } actions[] = {
-	{ "open", open_only }, { "topological", walk_topological }, { "newest", walk_newest }, { "show", show }, { "check", check },
-	{ "names", names }, { "names-peeled", names_peeled }, { "move", change }, { "delete", change }, { "pack", pack },
+	{ "topological", walk_topological }, { "newest", walk_newest }, { "show", show }, { "check", check },
+	{ "names", names }, { "names-peeled", names_peeled }, { "move", change }, { "delete", change }, { "rename", rename_all },
+	{ "pack", pack },
 };
 
 int main(int count, char **words)
 {
+	char line[8];
 	if (count != 3)
 		return 2;
 	must(git_libgit2_init());
 	must(git_repository_open_bare(&repository, words[2]));
+	if (!fgets(line, sizeof line, stdin) || puts("open") < 0 || fflush(stdout) != 0 || !fgets(line, sizeof line, stdin))
+		return 2;
 	for (size_t at = 0; at < sizeof actions / sizeof *actions; at++)
 		if (!strcmp(actions[at].name, words[1])) {
 			actions[at].act();

@@ -40,6 +40,8 @@ class Way:
     less: Optional[Tuple[List[str], bytes]] = None
     times: int = 1
     parts: int = 1
+    # What is given before, in the same run; what is taken until its reply, of one line, isn't counted.
+    first: bytes = b""
 
 
 @dataclass
@@ -48,6 +50,11 @@ class Workload:
     size: int
     ours: Way
     peers: List[Way] = field(default_factory=list)
+
+
+def without_first(replies):
+    """The output of runs that began with the same line."""
+    return replies.replace(replies.partition(b"\n")[0] + b"\n", b"")
 
 
 class Room:
@@ -84,23 +91,24 @@ class Room:
             folder.mkdir()
         return folder
 
-    def spend(self, command, folder, given, times):
+    def spend(self, command, folder, given, times, first=b""):
         """Runs a command so often, and returns what it left and took."""
         stream, output, told = self.path / "given", self.path / "output", self.path / "told"
-        stream.write_bytes(given)
-        words = [self.spent, str(times), *(word.replace("FOLDER", str(folder)) for word in command)]
+        stream.write_bytes(first + given)
+        words = [self.spent, str(times), str(len(first)), *(word.replace("FOLDER", str(folder)) for word in command)]
         script = 'told=$1; shift; exec "$@" 3> "$told"'
         with stream.open("rb") as reader, output.open("wb") as writer:
             subprocess.run(["sh", "-c", script, "sh", told, *words], stdin=reader, stdout=writer, cwd=folder, env=ENVIRONMENT, check=True)
         status, microseconds, memory = map(int, told.read_bytes().split())
         if status:
-            raise Wrong(f"status {status} of {' '.join(words[2:])}: {output.read_bytes()[-300:]}")
-        return Result(folder, output.read_bytes(), microseconds / 1e6, memory)
+            raise Wrong(f"status {status} of {' '.join(words[3:])}: {output.read_bytes()[-300:]}")
+        replies = output.read_bytes()
+        return Result(folder, without_first(replies) if first else replies, microseconds / 1e6, memory)
 
     def least(self, way, given):
         """The last run's result, with the least time of all runs, and without what is taken off."""
         base = self.base(way)
-        runs = [self.spend(way.command, self.copy(way.start), given, way.times) for _ in range(RUNS)]
+        runs = [self.spend(way.command, self.copy(way.start), given, way.times, way.first) for _ in range(RUNS)]
         result = runs[-1]
         result.seconds = (min(it.seconds for it in runs) - base * way.times) / way.parts
         return result

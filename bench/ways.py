@@ -10,6 +10,8 @@ SETTINGS = {"core.compression": 0, "core.looseCompression": 0, "pack.compression
             "core.logAllRefUpdates": "always"}
 LOOSE, PACKED = 1_000_000, 0
 START = (["git", "rev-parse", "--git-dir"], b"")
+# A first command for the program, to which it replies once the folder is open.
+NO_NAMES = b"names refs/none\n"
 
 
 class Ours:
@@ -32,10 +34,9 @@ class Ours:
         self.call("run", folder, given, kind)
         return folder
 
-    def run(self, start, given, says, parts=1, less=b"", kind=()):
-        """A run on a folder, without what it takes to open it, and the commands that `less` is."""
-        command = [self.program, "run", "FOLDER", *kind]
-        return Way("ours", command, says, given, start, less=(command, less), parts=parts)
+    def run(self, start, given, says, parts=1, first=NO_NAMES, kind=()):
+        """A run on a folder, without what it takes to open it and to reply to the first command."""
+        return Way("ours", [self.program, "run", "FOLDER", *kind], says, given, start, parts=parts, first=first)
 
     def whole(self, words, says, given=b"", start=None, times=1):
         """A run as a whole."""
@@ -99,7 +100,7 @@ class Others:
     def libgit2_ways(self, action, start, says, given=b"", times=1, parts=1):
         """No way, if the library isn't here."""
         if self.libgit2:
-            yield Way("libgit2", [self.libgit2, action, "FOLDER"], says, given, start, ([self.libgit2, "open", "FOLDER"], b""), times, parts)
+            yield Way("libgit2", [self.libgit2, action, "FOLDER"], says, b"begin\n" + given, start, None, times, parts, b"open\n")
 
     def plain(self, command, says, given=b"", times=1):
         """A program of the system."""

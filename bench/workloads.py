@@ -25,8 +25,8 @@ class Workloads:
                 (self.log, "topological", "--topo-order"), (self.log, "newest"), (self.log_indexed,), (self.index,),
                 (self.opening, "run"), (self.opening, "check"), (self.files,), (self.show,),
                 (self.list_names, "loose"), (self.list_names, "packed"), (self.move_names, "loose"), (self.move_names, "packed"),
-                (self.pack_names,), (self.delete_names,), (self.tiny, True, self.history // 2), (self.tiny, True, self.history * 2),
-                (self.tiny, False, self.history * 2),
+                (self.make_names,), (self.pack_names,), (self.rename_names,), (self.delete_names, "loose"), (self.delete_names, "packed"),
+                (self.tiny, True, self.history // 2), (self.tiny, True, self.history * 2), (self.tiny, False, self.history * 2),
                 (self.content, "sha1"), (self.content, "sha256"), (self.start,)]
 
     # Commits.
@@ -54,21 +54,20 @@ class Workloads:
 
     def log(self, order, *flags):
         folder, repository = self.merging
-        ours, peers = self.log_ways(order, flags, folder, repository, b"")
+        ours, peers = self.log_ways(order, flags, folder, repository)
         return Workload(f"log {order}, from files", self.history, ours, [self.reading("read", folder), *peers])
 
     def log_indexed(self):
         folder, _ = self.merging
         repository = self.git.kept("graph", streams.fast_import(streams.merging(self.history)))
         self.git.call(repository, "commit-graph", "write", "--reachable")
-        # So many that what `index` takes, which is taken off, doesn't hide them.
-        ours, peers = self.log_ways("topological", ["--topo-order"], folder, repository, b"index\n", 50)
+        ours, peers = self.log_ways("topological", ["--topo-order"], folder, repository, 50, first=b"index\n")
         return Workload("log topological, after index", self.history, ours, peers)
 
-    def log_ways(self, order, flags, folder, repository, before, times=5):
-        """So many logs, without what comes before them."""
+    def log_ways(self, order, flags, folder, repository, times=5, **words):
+        """So many logs."""
         says = {"list": lambda it: facts.reply(it.output, b"log"), "objects": facts.objects}
-        ours = self.ours.run(folder, before + b"log %s all +main\n" % order.encode() * times, says, times, before)
+        ours = self.ours.run(folder, b"log %s all +main\n" % order.encode() * times, says, times, **words)
         says = {"list": lambda it: facts.lines(it, times)}
         return ours, [self.git.run(repository, ["log", "--format=%H", *flags, "main"], says, b"", times, times),
                       *self.others.libgit2_ways(order, repository, says, b"", times, times)]
@@ -160,14 +159,31 @@ class Workloads:
         return self.change_names(f"move of names, {state}, of {self.names:,}", len(some), state, commands,
                                  ["update-ref", "-m", "Move", "--stdin"], streams.updates(some, times), "move", times)
 
+    def make_names(self):
+        some = [it.replace(b"topic", b"other") for it in self.some_names()]
+        return self.change_names(f"names made, beside {self.names:,} loose", len(some), "loose", streams.move(some, 1),
+                                 ["update-ref", "-m", "Move", "--stdin"], streams.updates(some, 1), "move")
+
     def pack_names(self):
         return self.change_names("pack of names", self.names, "loose", b"pack\n", ["pack-refs", "--all"], b"", "pack")
 
-    def delete_names(self):
-        some = streams.names(self.names)[::self.names // self.part]
+    def some_names(self):
+        """Names at all bases in turn."""
+        return streams.names(self.names)[::self.names // self.part]
+
+    def rename_names(self):
+        # What git has for it are an update and a deletion in one transaction.
+        some = [(it, it.replace(b"topic", b"other")) for it in self.some_names()]
+        commands = b"".join(b"rename %s %s\n" % it for it in some)
+        given = b"".join(b"start\ncreate %s %s\ndelete %s\ncommit\n" % (new, old, old) for old, new in some)
+        return self.change_names(f"renames of loose names, of {self.names:,}", len(some), "loose", commands, ["update-ref", "-m", "rename", "--stdin"],
+                                 given, "rename")
+
+    def delete_names(self, state):
+        some = self.some_names()
         commands = b"".join(b"delete %s any\n" % it for it in some)
         given = b"".join(b"start\ndelete %s\ncommit\n" % it for it in some)
-        return self.change_names(f"deletions of packed names, of {self.names:,}", len(some), "packed", commands, ["update-ref", "--stdin"],
+        return self.change_names(f"deletions of {state} names, of {self.names:,}", len(some), state, commands, ["update-ref", "--stdin"],
                                  given, "delete")
 
     # Contents, and the program's start.

@@ -23,3 +23,5 @@ pub mod SameWrites
 pub mod Spelling
 pub mod Views
 pub mod Writes
+pub use Rattle.bstr.specs.BStr
+pub use Rattle.hex.specs.Hex

@@ -1,10 +1,10 @@
 -- What the views, displays and errors of the crate show.
 use Rattle.std.specs.Prelude.{ℕ, ◌≡◌, ◌≢◌, List, length, Option, None, Any, ◌++◌, codes}
-use Rattle.gix_hash.specs.declared.borrowed.view.oid.{oid}
+use Rattle.gix_hash.specs.declared.id_view.view.oid.{oid}
 use Rattle.gix_hash.specs.declared.object_id.decode.Error.{Error}
 use Rattle.gix_hash.specs.declared.object_id.decode.Error.TheVariants.{InvalidHexEncodingLength, Invalid}
-use Rattle.gix_hash.specs.declared.borrowed.Error as borrowed
-use Rattle.gix_hash.specs.declared.borrowed.Error.TheVariants.{InvalidByteSliceLength}
+use Rattle.gix_hash.specs.declared.id_view.Error as id_view
+use Rattle.gix_hash.specs.declared.id_view.Error.TheVariants.{InvalidByteSliceLength}
 use Rattle.gix_hash.specs.Kind.{byte_len, hex_len, kind_of_byte_len, variant_name}
 use Rattle.gix_hash.specs.Id.{Id, digits_of}
 use Rattle.gix_hash.specs.Spelling.{IsHexOf, hex_text}
@@ -31,7 +31,7 @@ IsFaultOf value text Invalid =
     ((length text ≢ 40) → length text ≡ 64) × Any (λ c. value c ≡ None) text
 
 -- bytes whose number is no id's; the error holds that number
-abbrev pub IsWrongLength : List ℕ → borrowed.Error → Type 0
+abbrev pub IsWrongLength : List ℕ → id_view.Error → Type 0
 IsWrongLength bytes (InvalidByteSliceLength n) = (n ≡ length bytes) × (n ≢ 20) × (n ≢ 32)
 
 -- what `{:?}` prints of an id

@@ -18,8 +18,8 @@ ghost use Rattle.gix_hash.specs.Writes.{AppendsFewer};
 ghost use Rattle.gix_hash.specs.Lending.{LendsBytes};
 ghost use Rattle.gix_hash.specs.Views.{IsBytesOf, IsHexOfId, IsFaultOf, IsWrongLength, viewed_id, debug_text};
 
-use crate::borrowed::{self, oid};
 use crate::display::HexDisplay;
+use crate::id_view::{self, oid};
 use crate::{Kind, verify};
 use bstr::BStr;
 use hex::FromHex;
@@ -335,13 +335,13 @@ impl From<oid<'_>> for ObjectId {
 }
 
 impl<'a> TryFrom<&'a [u8]> for ObjectId {
-    type Error = borrowed::Error;
+    type Error = id_view::Error;
 
     // The id of these bytes, or their number, which is then neither 20 nor 32.
     ghost try_from_gives = { λ bytes r. MatchResult r (λ id. IsBytesOf bytes.now (id_of id))
         (λ e. IsWrongLength bytes.now e) };
 
-    fn try_from(value: &'a [u8]) -> Result<ObjectId, borrowed::Error> {
+    fn try_from(value: &'a [u8]) -> Result<ObjectId, id_view::Error> {
         Ok(ObjectId::from(oid::try_from_bytes(value)?))
     }
 }

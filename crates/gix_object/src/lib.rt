@@ -70,9 +70,9 @@ pub mod find {
     pub use gix_object_lookup::find::{Error, Never};
 }
 
-/// Looking entries of trees up by their paths.
+/// Why an entry of a tree can't be looked up by its path.
 pub mod lookup {
-    pub use gix_object_lookup::lookup::{Error, lookup_entry, lookup_entry_by_path};
+    pub use gix_object_lookup::lookup::Error;
 }
 
 /// Actors, times and the names of references.
@@ -153,7 +153,7 @@ pub use gix_object_find::{Find, FindExt, FindObjectOrHeader, HeaderExt};
 pub use gix_object_hash::{Blob, BlobRef, compute_hash, compute_stream_hash};
 pub use gix_object_lines::write::Error as WriteToError;
 pub use gix_object_lines::{ByteString, Header, Kind, WriteTo};
-pub use gix_object_lookup::{Exists, FindHeader, FindInto, Lookup};
+pub use gix_object_lookup::{Exists, FindHeader, FindInto, Lookup, TreeRefIterExt};
 pub use gix_object_tag::{Tag, TagRef, TagRefIter};
 pub use gix_object_tree::{Tree, TreeRef, TreeRefIter};
 pub use gix_object_write::Write;

@@ -18,3 +18,18 @@ pub mod Views
 pub mod Whole
 pub mod Writable
 pub mod Writing
+pub use Rattle.bstr.specs.BStr
+pub use Rattle.gix_hash.specs.Id
+pub use Rattle.gix_hash.specs.Kind
+pub use Rattle.gix_hash.specs.Views as HashViews
+pub use Rattle.gix_object_lines.specs.Bytes
+pub use Rattle.gix_object_lines.specs.HexLine
+pub use Rattle.gix_object_lines.specs.Person
+pub use Rattle.gix_object_lines.specs.Time
+pub use Rattle.gix_object_message.specs.Attribution
+pub use Rattle.gix_object_message.specs.Borrowed
+pub use Rattle.gix_object_message.specs.Selected
+pub use Rattle.gix_object_message.specs.Title
+pub use Rattle.gix_object_message.specs.Views as MessageViews
+pub use Rattle.gix_object_message.specs.White
+pub use Rattle.gix_object_signature.specs.Run

@@ -1,10 +1,6 @@
 //! Commits.
 
-ghost use Rattle.std.specs.Prelude.{◌≡◌, Ok, IfOk, IsOkUnless};
-ghost use Rattle.bstr.specs.BStr.{bstr_bytes};
-ghost use Rattle.gix_object_lines.specs.Time.{SpellsTime};
-ghost use Rattle.gix_object_lines.specs.declared.lines.time.Time.{Time};
-ghost use Rattle.gix_object_lines.specs.declared.decode.Error.TheVariants.{InvalidTime};
+ghost use Rattle.std.specs.Prelude.{◌≡◌};
 ghost use Rattle.gix_object_commit.specs.HeaderViews.{headers_of};
 ghost use Rattle.gix_object_commit.specs.Views.{parts_of};
 
@@ -12,6 +8,7 @@ mod decode;
 mod ids;
 mod message;
 mod owned;
+mod people;
 mod sign;
 mod spelling;
 mod unsigned;
@@ -26,8 +23,7 @@ pub use crate::signature_name::{
     SIGNATURE_FIELD_NAME, SIGNATURE_FIELD_NAME_SHA256, signature_field_name,
 };
 use bstr::BStr;
-use gix_object_lines::decode::Error;
-use gix_object_lines::lines::{ActorRef, Time, read_time};
+use gix_object_lines::lines::ActorRef;
 use smallvec::SmallVec;
 
 /// A commit whose parts are borrowed from its content.
@@ -50,32 +46,6 @@ pub struct CommitRef<'a> {
 }
 
 impl<'a> CommitRef<'a> {
-    /// Who made the change, and when.
-    pub fn author(&self) -> ActorRef<'a>
-        ensures { result ≡ self.now.author }
-    {
-        self.author
-    }
-
-    /// Who committed it, and when.
-    pub fn committer(&self) -> ActorRef<'a>
-        ensures { result ≡ self.now.committer }
-    {
-        self.committer
-    }
-
-    /// When it was committed. Returns `InvalidTime` if the committer's text is no time, which never
-    /// happens after `from_bytes`.
-    pub fn time(&self) -> Result<Time, Error>
-        ensures told { IfOk result (SpellsTime (bstr_bytes self.now.committer.time)) }
-        ensures every { (time : Time) → SpellsTime (bstr_bytes self.now.committer.time) time
-            → result ≡ Ok time }
-        ensures refused { IsOkUnless result InvalidTime }
-    {
-        let CommitRef { committer, .. } = self;
-        read_time(committer.time.as_bytes())
-    }
-
     /// The further headers.
     pub fn extra_headers(&self) -> ExtraHeaders<'_, 'a>
         ensures { headers_of result ≡ (parts_of self.now).headers }

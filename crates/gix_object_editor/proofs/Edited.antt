@@ -1,7 +1,8 @@
 -- Edits after a walk down: what they make of an editor.
-use Rattle.std.proofs.Common.{ℕ, ◌≡◌, ◌≢◌, ◌∙◌, ◌<◌, ◌≤◌, ◌+◌, ◌⊎◌, inl, true, List, [], ◌∷◌, Some, None, refl, sym, ap, subst, arith, length, drop, get_or}
+use Rattle.std.proofs.Common.{ℕ, ◌≡◌, ◌≢◌, ◌∙◌, ◌<◌, ◌≤◌, ◌+◌, ◌⊎◌, inl, true, List, [], ◌∷◌, Some, None, refl, sym, ap, subst, arith, length, drop, get_or, Vec}
 use Rattle.std.specs.Borrow.{Bor}
-use Rattle.std.proofs.lemmas.List.{get_or-map}
+use Rattle.std.specs.Vec.{with_items}
+use Rattle.std.proofs.lemmas.List.{get_or-map, with_items_is}
 use Rattle.gix_object_lookup.specs.Table.{Table}
 use Rattle.gix_object_nodes.specs.declared.node.Node.{Node}
 use Rattle.gix_object_nodes.specs.declared.node.Slot.{Slot}
@@ -11,7 +12,7 @@ use Rattle.gix_object_nodes.specs.Marks.{marks_of, AreAsRead, AreMarked, IsIdle,
 use Rattle.gix_object_editor.specs.Entries.{Property, EachHas, PassesDown}
 use Rattle.gix_object_editor.specs.declared.tree.editor.state.Editor.{Editor}
 use Rattle.gix_object_editor.specs.Editor.{IsAbove, OverStored}
-use Rattle.gix_object_editor.specs.Grown.{Grows, IsCut, IsForestOf, IsMarkedOf, IsWalked}
+use Rattle.gix_object_editor.specs.Grown.{Grows, IsCut, IsForestOf, IsMarkedOf, IsMarkedUp, IsWalked}
 use Rattle.gix_object_editor.specs.Outcomes.{HadNoneBelow, KeepsTree, Puts, Removes}
 use Rattle.gix_object_editor.proofs.Changes.{SameChanged, cut_as_read, cut_changed_on, cut_unmarked, opened_same_changed}
 use Rattle.gix_object_editor.proofs.Cuts.{more_names, nulls_at}
@@ -59,6 +60,20 @@ name_at path i lt = sym (get_or-map (λ (x : Bor (List ℕ)). x.now) path i _ []
 
 pub cut_named : {mid new : List Node} {at : ℕ} (path : List (Bor (List ℕ))) (i : ℕ) → i < length path → IsCut mid at (get_or path i (record { ref_ptr = (0, 0); now = [] })).now new → IsCut mid at (get_or (names path) i []) new
 cut_named {mid} {new} {at} path i lt cut = subst (λ m. IsCut mid at m new) (name_at path i lt) cut
+
+-- what holds of a vector's items once all of them were changed through a slice
+pub given_back : {X Z : Type 0} (P : List X → List X → Type 0) (v : Vec X Z) (new : List X) {slice : List X} → slice ≡ v.items → length new ≡ v.len → P slice new → P v.items (with_items v new).items
+given_back P v new same n p = subst (P v.items) (sym (with_items_is v new n)) (subst (λ xs. P xs new) same p)
+
+module _ {Z : Type 0} (v : Vec Node Z) {slice new : List Node} {at : ℕ} (same : slice ≡ v.items) (n : length slice ≡ v.len) where
+  pub cut_given : {name : Bytes} → IsCut slice at name new → IsCut v.items at name (with_items v new).items
+  cut_given {name} cut = given_back (λ a b. IsCut a at name b) v new same (omega (arith, n, cut.len)) cut
+
+  pub up_given : IsMarkedUp slice at new → IsMarkedUp v.items at (with_items v new).items
+  up_given up = given_back (λ a b. IsMarkedUp a at b) v new same (omega (arith, n, up.len)) up
+
+pub same_given : {Z : Type 0} (v : Vec Node Z) {slice new : List Node} → slice ≡ v.items → length slice ≡ v.len → new ≡ slice → (with_items v new).items ≡ v.items
+same_given v {new = new} same n still = given_back (λ a b. b ≡ a) v new same (ap length still ∙ n) still
 
 -- ---- the ways to a tree above
 

@@ -5,12 +5,13 @@ use Rattle.gix_hash.specs.declared.kind.Kind.{Kind}
 use Rattle.gix_object_tree.specs.Entry.{Item}
 use Rattle.gix_object_lookup.specs.Table.{Table}
 use Rattle.gix_object_nodes.specs.declared.node.Slot.{Slot}
-use Rattle.gix_object_nodes.specs.Files.{Bytes, Path, Leaf, Trees, behind, removed, through, named, leaf_of, entry_into, entry_of_tree}
+use Rattle.gix_object_nodes.specs.Files.{Bytes, Path, Leaf, Trees, behind, removed, through, named, entry_into, entry_of_tree}
 use Rattle.gix_object_editor.specs.Stored.{HasStored, IsOpened}
 use Rattle.gix_object_nodes.specs.Nodes.{Slots, child_or, child_of, leaf_in, slot_entry, entry_from, slot_over, StandsFor, IsForest, IsNoFolder, Way, onto, LeadsTo}
 use Rattle.gix_object_editor.specs.Laid.{laid, laid_at, made_at}
 use Rattle.gix_object_editor.specs.Entries.{made_leaf}
 use Rattle.gix_object_editor.specs.Editor.{IsTreeEntry}
+use Rattle.gix_object_editor.proofs.Loaded.{tree_entry}
 use Rattle.gix_object_editor.proofs.Opening.{same_entries}
 use Rattle.gix_object_nodes.proofs.Paths.{same_name, name_itself, by_test, onto-onto, behind_is, behind_append, behind_both, behind-longer, onto-append, behind-onto}
 use Rattle.std.specs.Borrow.{Bor}
@@ -302,10 +303,4 @@ module _ (honest : Type 0) (table : Table) (old mid : Slots) (bound more : ℕ) 
 
 pub tree_entries : (trees : Trees) (slots : Slots) (i : ℕ) (items : List Item) → ((m : Bytes) → StandsFor (slots i m) (named m items)) → (q : Path) → entry_from none_met trees slots i q ≡ entry_of_tree trees items q
 tree_entries trees slots i items opened [] = refl
-tree_entries trees slots i items opened (n ∷ rest) = by_slot (slots i n) (named n items) (opened n)
-  where
-    by_slot : (o : Option Slot) (p : Option Item) → StandsFor o p → through o (slot_entry none_met trees slots rest) ≡ through p (λ item. entry_into none_met trees rest (leaf_of item))
-    by_slot None None h = refl
-    by_slot None (Some item) h = absurd h
-    by_slot (Some u) None h = absurd h
-    by_slot (Some u) (Some item) h = closed_entry trees slots u h.1 rest ∙ ap (entry_into none_met trees rest) h.0
+tree_entries trees slots i items opened (n ∷ rest) = tree_entry none_met trees slots i items opened n rest

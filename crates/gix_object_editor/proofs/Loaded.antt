@@ -6,8 +6,8 @@ use Rattle.std.proofs.Math.Seq.{take-suc}
 use Rattle.gix_object_tree.specs.Entry.{Item}
 use Rattle.gix_object_nodes.specs.declared.node.NodeId.{NodeId}
 use Rattle.gix_object_nodes.specs.declared.node.Slot.{Slot}
-use Rattle.gix_object_nodes.specs.Files.{Bytes, Path, Trees, leaf_of, named, through, files_of_entry, files_of_tree}
-use Rattle.gix_object_nodes.specs.Nodes.{Slots, StandsFor, leaf_in, child_of, child_or, files_of_slot, files_of_node, IsForest}
+use Rattle.gix_object_nodes.specs.Files.{Bytes, Path, Leaf, Trees, leaf_of, named, through, files_of_entry, files_of_tree, entry_into}
+use Rattle.gix_object_nodes.specs.Nodes.{Slots, StandsFor, leaf_in, child_of, child_or, files_of_slot, files_of_node, slot_entry, entry_from, IsForest}
 use Rattle.gix_object_tree.specs.WellFormed.{IsWellFormed, HasNamesOnce}
 use Rattle.gix_object_nodes.proofs.Paths.{same_name, name_itself, by_test}
 
@@ -108,21 +108,29 @@ pub no_child : (o : Option NodeId) → is_some o ≡ false → o ≡ None
 no_child None e = refl
 no_child (Some c) e = absurd (cc e)
 
--- the files of a node with a tree's entries
+-- a node with a tree's entries: what its slots lead to, its files and its entries
+through_tree : {X : Type 0} (F : Slot → Option X) (G : Item → Option X) → ((u : Slot) (item : Item) → leaf_in u ≡ leaf_of item → u.child ≡ None → F u ≡ G item) → (o : Option Slot) (p : Option Item) → StandsFor o p → through o F ≡ through p G
+through_tree F G one None None h = refl
+through_tree F G one None (Some item) h = absurd h
+through_tree F G one (Some u) None h = absurd h
+through_tree F G one (Some u) (Some item) h = one u item h.0 h.1
+
 pub tree_files : (trees : Trees) (slots : Slots) (i : ℕ) (items : List Item) → ((m : Bytes) → StandsFor (slots i m) (named m items)) → (q : Path) → files_of_node trees slots i q ≡ files_of_tree trees items q
 tree_files trees slots i items stands [] = refl
-tree_files trees slots i items stands (name ∷ rest) = entry rest (slots i name) (named name items) (stands name)
+tree_files trees slots i items stands (name ∷ rest) = through_tree (files_of_slot trees slots rest) (λ item. files_of_entry trees rest (leaf_of item)) (one rest) (slots i name) (named name items) (stands name)
   where
     one : (rest : Path) (u : Slot) (item : Item) → leaf_in u ≡ leaf_of item → u.child ≡ None → files_of_slot trees slots rest u ≡ files_of_entry trees rest (leaf_of item)
     one [] u item same none = ap (λ o. child_or o (λ c. None) (files_of_entry trees [] (leaf_in u))) none ∙ ap (files_of_entry trees []) same
     one (k ∷ more) u item same none =
         ap (λ o. child_or o (λ c. files_of_node trees slots c (k ∷ more)) (files_of_entry trees (k ∷ more) (leaf_in u))) none ∙ ap (files_of_entry trees (k ∷ more)) same
 
-    entry : (rest : Path) (o : Option Slot) (p : Option Item) → StandsFor o p → through o (files_of_slot trees slots rest) ≡ through p (λ item. files_of_entry trees rest (leaf_of item))
-    entry rest None None h = refl
-    entry rest None (Some item) h = absurd h
-    entry rest (Some u) None h = absurd h
-    entry rest (Some u) (Some item) h = one rest u item h.0 h.1
+pub tree_entry : (blocked : Leaf → Option Leaf) (trees : Trees) (slots : Slots) (i : ℕ) (items : List Item) → ((m : Bytes) → StandsFor (slots i m) (named m items)) → (name : Bytes) (rest : Path)
+    → through (slots i name) (slot_entry blocked trees slots rest) ≡ through (named name items) (λ item. entry_into blocked trees rest (leaf_of item))
+tree_entry blocked trees slots i items stands name rest = through_tree (slot_entry blocked trees slots rest) (λ item. entry_into blocked trees rest (leaf_of item)) (one rest) (slots i name) (named name items) (stands name)
+  where
+    one : (rest : Path) (u : Slot) (item : Item) → leaf_in u ≡ leaf_of item → u.child ≡ None → slot_entry blocked trees slots rest u ≡ entry_into blocked trees rest (leaf_of item)
+    one [] u item same none = ap Some same
+    one (k ∷ more) u item same none = ap (λ o. child_or o (λ c. entry_from blocked trees slots c (k ∷ more)) (entry_into blocked trees (k ∷ more) (leaf_in u))) none ∙ ap (entry_into blocked trees (k ∷ more)) same
 
 -- one node whose slots lead nowhere is a forest
 pub one_tree : (slots : Slots) → ((m : Bytes) → child_of (slots 0 m) ≡ None) → ((i : ℕ) (m : Bytes) → 0 < i → slots i m ≡ None) → IsForest slots 1

@@ -11,6 +11,7 @@ use Rattle.gix_object_editor.specs.Stored.{HasStored, IsOpened}
 use Rattle.gix_object_nodes.specs.Nodes.{Slots, child_or, child_of, leaf_in, files_of_slot, files_of_node, slot_entry, entry_from, IsForest, StandsFor, IsUnopened}
 use Rattle.gix_object_nodes.proofs.Paths.{same_name, name_itself, by_test}
 use Rattle.gix_object_nodes.proofs.Ways.{fewer}
+use Rattle.gix_object_editor.proofs.Loaded.{tree_entry, tree_files}
 
 -- both the number and the name, or not
 pub at_or_off : (i j : ℕ) (n m : Bytes) → ((i ≡ j) × (n ≡ m)) ⊎ ((i ≡ j) → (n ≡ m) → ⊥)
@@ -35,6 +36,10 @@ same_through trees slots new rest None h = refl
 same_through trees slots new [] (Some u) h = refl
 same_through trees slots new (m ∷ more) (Some u) h = same_child trees slots new u.child m more (files_of_entry trees (m ∷ more) (leaf_in u)) h
 
+below_slot : (bound : ℕ) (child : Option NodeId) (x y : Option Leaf) (F : ℕ → Option Leaf) → child_or child (λ c. Some c) None ≡ Some bound → F bound ≡ y → child_or child F x ≡ y
+below_slot bound None x y F e h = absurd (cc e)
+below_slot bound (Some c) x y F e h = let same : c.0 ≡ bound = cc in ap F same ∙ h
+
 module _ (trees : Trees) (slots new : Slots) (bound : ℕ) (ok : IsForest slots bound) (j : ℕ) (name : Bytes) (s t : Slot) (items : List Item)
     (stood : slots j name ≡ Some s) (folder : IsUnopened s) (stored : trees (leaf_in s).id ≡ Some items)
     (stands : new j name ≡ Some t) (linked : child_of (Some t) ≡ Some bound)
@@ -43,30 +48,15 @@ module _ (trees : Trees) (slots new : Slots) (bound : ℕ) (ok : IsForest slots 
   leads : tree_under trees (leaf_in s) ≡ Some items
   leads = ap (λ b. if b then trees (leaf_in s).id else None) folder.is_tree ∙ stored
 
-  entry_of_one : (more : Path) (u : Slot) (item : Item) → leaf_in u ≡ leaf_of item → u.child ≡ None → files_of_slot trees new more u ≡ files_of_entry trees more (leaf_of item)
-  entry_of_one [] u item same none = ap (λ o. child_or o (λ c. None) (files_of_entry trees [] (leaf_in u))) none ∙ ap (files_of_entry trees []) same
-  entry_of_one (k ∷ more) u item same none =
-      ap (λ o. child_or o (λ c. files_of_node trees new c (k ∷ more)) (files_of_entry trees (k ∷ more) (leaf_in u))) none ∙ ap (files_of_entry trees (k ∷ more)) same
-
-  entries : (more : Path) (o : Option Slot) (p : Option Item) → StandsFor o p → through o (files_of_slot trees new more) ≡ through p (λ item. files_of_entry trees more (leaf_of item))
-  entries more None None h = refl
-  entries more None (Some item) h = absurd h
-  entries more (Some u) None h = absurd h
-  entries more (Some u) (Some item) h = entry_of_one more u item h.0 h.1
-
-  below_slot : (child : Option NodeId) (x y : Option Leaf) (F : ℕ → Option Leaf) → child_or child (λ c. Some c) None ≡ Some bound → F bound ≡ y → child_or child F x ≡ y
-  below_slot None x y F e h = absurd (cc e)
-  below_slot (Some c) x y F e h = let same : c.0 ≡ bound = cc in ap F same ∙ h
-
   at_slot : (rest : Path) → files_of_slot trees new rest t ≡ files_of_slot trees slots rest s
   at_slot [] =
-      below_slot t.child (files_of_entry trees [] (leaf_in t)) None (λ c. None) linked refl
+      below_slot bound t.child (files_of_entry trees [] (leaf_in t)) None (λ c. None) linked refl
       ∙ sym (ap (λ o. child_or o (λ c. None) (files_of_entry trees [] (leaf_in s))) folder.closed
       ∙ ap (λ b. if b then None else unless_tree (tree_under trees (leaf_in s)) (leaf_in s)) folder.isnt_null
       ∙ ap (λ o. unless_tree o (leaf_in s)) leads)
   at_slot (m ∷ more) =
-      below_slot t.child (files_of_entry trees (m ∷ more) (leaf_in t)) (files_of_node trees new bound (m ∷ more)) (λ c. files_of_node trees new c (m ∷ more)) linked refl
-      ∙ entries more (new bound m) (named m items) (opened m)
+      below_slot bound t.child (files_of_entry trees (m ∷ more) (leaf_in t)) (files_of_node trees new bound (m ∷ more)) (λ c. files_of_node trees new c (m ∷ more)) linked refl
+      ∙ tree_files trees new bound items opened (m ∷ more)
       ∙ sym (ap (λ o. child_or o (λ c. files_of_node trees slots c (m ∷ more)) (files_of_entry trees (m ∷ more) (leaf_in s))) folder.closed
       ∙ ap (λ b. if b then None else through (tree_under trees (leaf_in s)) (λ tree. through (named m tree) (λ item. files_of_entry trees more (leaf_of item)))) folder.isnt_null
       ∙ ap (λ o. through o (λ tree. through (named m tree) (λ item. files_of_entry trees more (leaf_of item)))) leads)
@@ -103,29 +93,14 @@ module _ (blocked : Leaf → Option Leaf) (trees : Trees) (slots new : Slots) (b
     (stands : new j name ≡ Some t) (linked : child_of (Some t) ≡ Some bound) (leaf : leaf_in t ≡ leaf_in s)
     (opened : (m : Bytes) → StandsFor (new bound m) (named m items))
     (agree : (i : ℕ) (m : Bytes) → i < bound → ((i ≡ j) → (m ≡ name) → ⊥) → new i m ≡ slots i m) where
-  item_entry : (more : Path) (u : Slot) (item : Item) → leaf_in u ≡ leaf_of item → u.child ≡ None → slot_entry blocked trees new more u ≡ entry_into blocked trees more (leaf_of item)
-  item_entry [] u item same none = ap Some same
-  item_entry (k ∷ more) u item same none =
-      ap (λ o. child_or o (λ c. entry_from blocked trees new c (k ∷ more)) (entry_into blocked trees (k ∷ more) (leaf_in u))) none ∙ ap (entry_into blocked trees (k ∷ more)) same
-
-  item_entries : (more : Path) (o : Option Slot) (p : Option Item) → StandsFor o p → through o (slot_entry blocked trees new more) ≡ through p (λ item. entry_into blocked trees more (leaf_of item))
-  item_entries more None None h = refl
-  item_entries more None (Some item) h = absurd h
-  item_entries more (Some u) None h = absurd h
-  item_entries more (Some u) (Some item) h = item_entry more u item h.0 h.1
-
-  child_entry : (child : Option NodeId) (x y : Option Leaf) (F : ℕ → Option Leaf) → child_or child (λ c. Some c) None ≡ Some bound → F bound ≡ y → child_or child F x ≡ y
-  child_entry None x y F e h = absurd (cc e)
-  child_entry (Some c) x y F e h = let same : c.0 ≡ bound = cc in ap F same ∙ h
-
   names_tree : leads_on (leaf_in s) ≡ true
   names_tree = ap (λ b. b && not (is_null (leaf_in s).id)) folder.is_tree ∙ ap not folder.isnt_null
 
   entry_there : (rest : Path) → slot_entry blocked trees new rest t ≡ slot_entry blocked trees slots rest s
   entry_there [] = ap Some leaf
   entry_there (m ∷ more) =
-      child_entry t.child (entry_into blocked trees (m ∷ more) (leaf_in t)) (entry_from blocked trees new bound (m ∷ more)) (λ c. entry_from blocked trees new c (m ∷ more)) linked refl
-      ∙ item_entries more (new bound m) (named m items) (opened m)
+      below_slot bound t.child (entry_into blocked trees (m ∷ more) (leaf_in t)) (entry_from blocked trees new bound (m ∷ more)) (λ c. entry_from blocked trees new c (m ∷ more)) linked refl
+      ∙ tree_entry blocked trees new bound items opened m more
       ∙ sym (ap (λ o. child_or o (λ c. entry_from blocked trees slots c (m ∷ more)) (entry_into blocked trees (m ∷ more) (leaf_in s))) folder.closed
       ∙ ap (λ b. if b then through (trees (leaf_in s).id) (λ tree. through (named m tree) (λ item. entry_into blocked trees more (leaf_of item))) else blocked (leaf_in s)) names_tree
       ∙ ap (λ o. through o (λ tree. through (named m tree) (λ item. entry_into blocked trees more (leaf_of item)))) stored)

@@ -9,3 +9,8 @@ pub mod Lending
 pub mod Grown
 pub mod Outcomes
 pub mod Cursor
+pub use Rattle.gix_hash.specs.Id
+pub use Rattle.gix_object_nodes.specs.Files
+pub use Rattle.gix_object_nodes.specs.Nodes
+pub use Rattle.gix_object_tree.specs.Entry
+pub use Rattle.gix_object_tree.specs.WellFormed

@@ -50,7 +50,7 @@ impl<T: FindHeader> HeaderExt for T {}
 /// if the lookup failed, `ObjectKind` if the call wants another kind than the object has, and
 /// `Decode` if the content isn't read.
 pub trait FindExt: Find {
-    /// The object of this id, whose content is in the buffer.
+    /// The object of this id, whose content is in the buffer. Returns `NotFound` if there is none.
     fn find<'a>(&self, id: oid<'_>, buffer: &'a mut Vec<u8>) -> Result<Data<'a>, existing::Error>
         ensures found { Self.is_honest self.now → IfOk result (λ found.
             Self.table self.now (viewed_id id.entry) ≡ Some (object_of found)) }
@@ -66,7 +66,7 @@ pub trait FindExt: Find {
         }
     }
 
-    /// The blob of this id, whose content is in the buffer.
+    /// The blob of this id, whose content is in the buffer. Returns `ObjectKind` if it is no blob.
     fn find_blob<'a>(
         &self,
         id: oid<'_>,
@@ -81,7 +81,8 @@ pub trait FindExt: Find {
         Ok(BlobRef::from_bytes(content))
     }
 
-    /// The tree of this id, whose entries are in the buffer.
+    /// The tree of this id, whose entries are in the buffer. Returns `ObjectKind` if it is no tree,
+    /// and `Decode` if its content isn't read.
     fn find_tree<'a>(
         &self,
         alloc: Global,
@@ -103,7 +104,8 @@ pub trait FindExt: Find {
         }
     }
 
-    /// The commit of this id, whose parts are in the buffer.
+    /// The commit of this id, whose parts are in the buffer. Returns `ObjectKind` if it is no
+    /// commit, and `Decode` if its content isn't read.
     fn find_commit<'a>(
         &self,
         alloc: Global,
@@ -126,7 +128,8 @@ pub trait FindExt: Find {
         }
     }
 
-    /// The tag of this id, whose parts are in the buffer.
+    /// The tag of this id, whose parts are in the buffer. Returns `ObjectKind` if it is no tag, and
+    /// `Decode` if its content isn't read.
     fn find_tag<'a>(
         &self,
         id: oid<'_>,
@@ -147,7 +150,8 @@ pub trait FindExt: Find {
         }
     }
 
-    /// A reader of the entries of the tree of this id, which are in the buffer.
+    /// A reader of the entries of the tree of this id, which are in the buffer. Returns
+    /// `ObjectKind` if it is no tree.
     fn find_tree_iter<'a>(
         &self,
         id: oid<'_>,
@@ -161,7 +165,8 @@ pub trait FindExt: Find {
         entries_of(self, id, buffer)
     }
 
-    /// A reader of the parts of the commit of this id, which are in the buffer.
+    /// A reader of the parts of the commit of this id, which are in the buffer. Returns
+    /// `ObjectKind` if it is no commit.
     fn find_commit_iter<'a>(
         &self,
         id: oid<'_>,
@@ -177,7 +182,8 @@ pub trait FindExt: Find {
         Ok(CommitRefIter::from_bytes(content, id.kind()))
     }
 
-    /// A reader of the parts of the tag of this id, which are in the buffer.
+    /// A reader of the parts of the tag of this id, which are in the buffer. Returns `ObjectKind`
+    /// if it is no tag.
     fn find_tag_iter<'a>(
         &self,
         id: oid<'_>,

@@ -6,6 +6,4 @@ mod find_object;
 
 pub use crate::ext::{FindExt, FindObjectOrHeader, HeaderExt};
 pub use crate::find_object::Find;
-pub use gix_object_lookup::{
-    Exists, FindHeader, FindInto, Lookup, find, lookup, lookup_entry, lookup_entry_by_path,
-};
+pub use gix_object_lookup::{Exists, FindHeader, FindInto, Lookup, TreeRefIterExt, find, lookup};

@@ -15,3 +15,7 @@ pub mod LineWrites
 pub mod PartialName
 pub mod NameTest
 pub mod FullName
+pub use Rattle.bstr.specs.BStr
+pub use Rattle.gix_hash.specs.Id
+pub use Rattle.gix_hash.specs.Views
+pub use Rattle.gix_hash.specs.Writes as HashWrites

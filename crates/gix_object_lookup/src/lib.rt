@@ -7,5 +7,5 @@ pub mod lookup;
 mod traits;
 
 pub use crate::content::{content_of, entries_of};
-pub use crate::lookup::{lookup_entry, lookup_entry_by_path};
+pub use crate::lookup::TreeRefIterExt;
 pub use crate::traits::{Exists, FindHeader, FindInto, Lookup};

@@ -2,7 +2,7 @@
 
 ghost use Rattle.std.specs.Prelude.{◌≡◌, ◌↔◌, IsTrue, Some, map, IfOk, IfErr, option_map};
 ghost use Rattle.gix_object_tree.specs.Entry.{item_of, own_item};
-ghost use Rattle.gix_object_tree.specs.Reading.{place_of};
+ghost use Rattle.gix_object_tree.specs.Reading.{Place, place_of};
 ghost use Rattle.gix_object_lookup.specs.Path.{FindsFirst, IsUnspelled, NameFault, IsBelow, Follows, LooksUp, BelowFault, FollowFault, PathFault, names_in};
 ghost use Rattle.gix_object_lookup.specs.declared.lookup.Error.TheVariants as fault;
 
@@ -51,51 +51,79 @@ impl From<AllocError> for Error {
     }
 }
 
-/// The entry of this path, whose names lead from the given tree down through the trees of the
-/// store; `None` if a name is missing or leads to no tree, and for the path without names. Of
-/// entries of one name the first counts, and a tree is read no further than that. The buffer then
-/// holds the content of the last tree that was looked up.
-///
-/// Returns `Find` if a tree to which the names lead isn't found, `Decode` if in one of them an
-/// entry before that of the next name can't be read, and `Memory` if no memory is left.
-pub fn lookup_entry<T: FindInto>(
-    tree: TreeRefIter<'_>,
-    objects: &T,
-    path: &[&[u8]],
-    buffer: &mut Vec<u8>,
-    alloc: Global,
-) -> Result<Option<Entry>, Error>
-    ensures found { IfOk result (λ found. LooksUp (T.is_honest objects.now) (T.table objects.now)
-        (place_of tree.entry) (map (λ name. name.now) path.now) (option_map own_item found)) }
-    ensures refused { IfErr result (PathFault (T.is_honest objects.now) (T.may_fail objects.now)
-        (T.table objects.now) (place_of tree.entry) (map (λ name. name.now) path.now)) }
-{
-    let Some((name, rest)) = path.split_first() else {
-        return Ok(None);
-    };
-    match own_named(tree, name, alloc)? {
-        Some(entry) => follow(entry, objects, rest, buffer, alloc),
-        None => Ok(None),
-    }
+/// Entries of a tree, and of the trees of a store below it, by their paths.
+pub trait TreeRefIterExt {
+    /// The entries to come.
+    ghost place: { Self → Place };
+
+    /// The entry of this path, whose names lead from this tree down through the trees of the store;
+    /// `None` if a name is missing or leads to no tree, and for the path without names. Of entries
+    /// of one name the first counts, and a tree is read no further than that. The buffer then holds
+    /// the content of the last tree that was looked up.
+    ///
+    /// Returns `Find` if a tree to which the names lead isn't found, `Decode` if in one of them an
+    /// entry before that of the next name can't be read, and `Memory` if no memory is left.
+    fn lookup_entry<T: FindInto>(
+        &self,
+        alloc: Global,
+        objects: &T,
+        buffer: &mut Vec<u8>,
+        path: &[&[u8]],
+    ) -> Result<Option<Entry>, Error>
+        ensures found { IfOk result (λ found. LooksUp (T.is_honest objects.now)
+            (T.table objects.now) (place self.now) (map (λ name. name.now) path.now)
+            (option_map own_item found)) }
+        ensures refused { IfErr result (PathFault (T.is_honest objects.now)
+            (T.may_fail objects.now) (T.table objects.now) (place self.now)
+            (map (λ name. name.now) path.now)) };
+
+    /// The entry of this path in one text, whose names are separated by slashes, as `lookup_entry`
+    /// returns it. Empty names, as before a slash that begins the path or after one that ends it,
+    /// are skipped. The errors are those of `lookup_entry`.
+    fn lookup_entry_by_path<T: FindInto>(
+        &self,
+        alloc: Global,
+        objects: &T,
+        buffer: &mut Vec<u8>,
+        path: &[u8],
+    ) -> Result<Option<Entry>, Error>
+        ensures found { IfOk result (λ found. LooksUp (T.is_honest objects.now)
+            (T.table objects.now) (place self.now) (names_in path.now)
+            (option_map own_item found)) }
+        ensures refused { IfErr result (PathFault (T.is_honest objects.now)
+            (T.may_fail objects.now) (T.table objects.now) (place self.now)
+            (names_in path.now)) };
 }
 
-/// The entry of this path in one text, whose names are separated by slashes, as `lookup_entry`
-/// returns it. Empty names, as before a slash that begins the path or after one that ends it, are
-/// skipped. The errors are those of `lookup_entry`.
-pub fn lookup_entry_by_path<T: FindInto>(
-    tree: TreeRefIter<'_>,
-    objects: &T,
-    path: &[u8],
-    buffer: &mut Vec<u8>,
-    alloc: Global,
-) -> Result<Option<Entry>, Error>
-    ensures found { IfOk result (λ found. LooksUp (T.is_honest objects.now) (T.table objects.now)
-        (place_of tree.entry) (names_in path.now) (option_map own_item found)) }
-    ensures refused { IfErr result (PathFault (T.is_honest objects.now) (T.may_fail objects.now)
-        (T.table objects.now) (place_of tree.entry) (names_in path.now)) }
-{
-    let names = names_of(path, alloc)?;
-    lookup_entry(tree, objects, names.as_slice(), buffer, alloc)
+impl<'a> TreeRefIterExt for TreeRefIter<'a> {
+    ghost place = { place_of };
+
+    fn lookup_entry<T: FindInto>(
+        &self,
+        alloc: Global,
+        objects: &T,
+        buffer: &mut Vec<u8>,
+        path: &[&[u8]],
+    ) -> Result<Option<Entry>, Error> {
+        let Some((name, rest)) = path.split_first() else {
+            return Ok(None);
+        };
+        match own_named(*self, name, alloc)? {
+            Some(entry) => follow(entry, objects, rest, buffer, alloc),
+            None => Ok(None),
+        }
+    }
+
+    fn lookup_entry_by_path<T: FindInto>(
+        &self,
+        alloc: Global,
+        objects: &T,
+        buffer: &mut Vec<u8>,
+        path: &[u8],
+    ) -> Result<Option<Entry>, Error> {
+        let names = names_of(path, alloc)?;
+        self.lookup_entry(alloc, objects, buffer, names.as_slice())
+    }
 }
 
 // The names between slashes that aren't empty.

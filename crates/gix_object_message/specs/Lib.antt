@@ -10,3 +10,5 @@ pub mod Views
 pub mod Selected
 pub mod BodyViews
 pub mod Borrowed
+pub use Rattle.bstr.specs.BStr
+pub use Rattle.gix_object_lines.specs.Bytes

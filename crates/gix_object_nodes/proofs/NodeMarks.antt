@@ -31,13 +31,9 @@ marks_set nodes j d new lt same i = elim (cases_eq i j) [
   | inr ne ↦ mark_set_other nodes j i new ne
 ]
 
-pub set_rest : (nodes : List Node) (j : ℕ) (was new : Node) (name : Bytes) → j < length nodes → was ≡ get_or nodes j was → ((other : Bytes) → other ≢ name → slot_in new other ≡ slot_in was other) → mark_of new ≡ mark_of was
+pub set_rest : (nodes : List Node) (j : ℕ) (d new : Node) (name : Bytes) → j < length nodes → ((other : Bytes) → other ≢ name → slot_in new other ≡ slot_in (get_or nodes j d) other) → mark_of new ≡ mark_of (get_or nodes j d)
     → KeepsRest nodes j name (slice_set nodes j new)
-set_rest nodes j was new name lt is same mark = record {
-  len = length-set nodes j new;
-  others = set_others nodes j was new name lt (λ other ne. same other ne ∙ ap (λ n. slot_in n other) is);
-  marks = marks_set nodes j was new lt (mark ∙ ap mark_of is);
-}
+set_rest nodes j d new name lt same mark = record { len = length-set nodes j new; others = set_others nodes j d new name lt same; marks = marks_set nodes j d new lt mark }
 
 pub slots_set : (nodes : List Node) (j : ℕ) (d new : Node) → j < length nodes → ((m : Bytes) → slot_in new m ≡ slot_in (get_or nodes j d) m) → (i : ℕ) (m : Bytes) → slots_of (slice_set nodes j new) i m ≡ slots_of nodes i m
 slots_set nodes j d new lt same i m = elim (cases_eq i j) [

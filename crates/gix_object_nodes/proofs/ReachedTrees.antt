@@ -1,11 +1,10 @@
 -- Marks on the opened trees that the root leads down to.
-use Rattle.std.proofs.Common.{ℕ, zero, suc, ◌≡◌, ◌<◌, ◌≤◌, ◌+◌, ◌⊎◌, Bool, true, false, cond, List, [], ◌∷◌, Option, Some, None, refl, sym, ap, ◌∙◌, inl, inr, arith, length, get_or, slice_set, ◌==◌, ◌||◌, eqb-true, eq-eqb, ne_eqb, replicate, take, ◌++◌, subst}
+use Rattle.std.proofs.Common.{ℕ, zero, suc, ◌≡◌, ◌<◌, ◌≤◌, ◌+◌, ◌⊎◌, Bool, true, false, cond, List, [], ◌∷◌, Option, Some, None, refl, sym, ap, ◌∙◌, inl, inr, arith, length, get_or, slice_set, ◌==◌, ◌||◌, eqb-true, eq-eqb, ne_eqb, replicate, ◌++◌, subst}
 use Rattle.std.specs.List.{AllByRecursion, IsDistinct}
 use Rattle.std.specs.Map.{lookup, keys_of, values_of}
 use Rattle.std.specs.Ordering.{eq_by_cmp}
 use Rattle.std.proofs.lemmas.Bool.{cases_eq, cases_lt}
 use Rattle.std.proofs.lemmas.List.{get_or-set_same, get_or-set_other}
-use Rattle.std.proofs.Math.Seq.{take-append_seam}
 use Rattle.std.proofs.lemmas.Map.Keys.{IsDistinct-head, IsDistinct-tail}
 use Rattle.gix_object_nodes.specs.declared.node.NodeId.{NodeId}
 use Rattle.gix_object_nodes.specs.declared.node.Slot.{Slot}
@@ -149,10 +148,6 @@ pub record AreMarked (slots : Slots) (from : ℕ) (marks : List Bool) (i : ℕ) 
   pub below : (j : ℕ) → get_or marks j false ≡ true → from ≤ j
   pub sound : (base : Path) → Way slots base from → (j : ℕ) → get_or marks j false ≡ true → IsReached slots base j
   pub whole : (p : ℕ) (m : Bytes) (c : ℕ) → p < i → get_or marks p false ≡ true → child_of (slots p m) ≡ Some c → get_or marks c false ≡ true
-
--- marks that were set through a slice
-pub marks_back : (n : ℕ) (xs ys : List Bool) → n ≡ length xs → take n (xs ++ ys) ≡ xs
-marks_back n xs ys e = ap (λ k. take k (xs ++ ys)) e ∙ take-append_seam xs ys
 
 -- a mark that was read
 pub is_set : (marks : List Bool) (i : ℕ) (b : Bool) → i < length marks → b ≡ get_or marks i b → get_or marks i false ≡ b

@@ -9,6 +9,7 @@ use Rattle.std.specs.declared.cmp.Ordering.{Ordering}
 use Rattle.std.proofs.lemmas.Map.Text.{is_eq-slice_cmp}
 use Rattle.std.proofs.lemmas.Bool.{cases_eq, cases_lt}
 use Rattle.std.proofs.lemmas.List.{length-take}
+use Rattle.std.proofs.Math.Seq.{take-append_seam}
 use Rattle.gix_object_nodes.specs.declared.node.Node.{Node}
 use Rattle.gix_object_nodes.specs.declared.node.Slot.{Slot}
 use Rattle.gix_object_nodes.specs.Files.{Bytes}
@@ -79,11 +80,14 @@ all_slots old new at name here others i m = elim (cases_eq i at) [
 ]
 
 -- a change that failed left each slot
-pub set_same : (nodes : List Node) (j : ℕ) (was new : Node) (name : Bytes) → j < length nodes → was ≡ get_or nodes j was → ((other : Bytes) → other ≢ name → slot_in new other ≡ slot_in was other)
-    → slot_in new name ≡ slot_in was name → (i : ℕ) (m : Bytes) → slots_of (slice_set nodes j new) i m ≡ slots_of nodes i m
-set_same nodes j was new name lt is others here =
-    all_slots nodes (slice_set nodes j new) j name (set_here nodes j new name lt ∙ here ∙ ap (λ n. slot_in n name) is ∙ sym (node_at nodes j was name lt))
-    (set_others nodes j was new name lt (λ other ne. others other ne ∙ ap (λ n. slot_in n other) is))
+pub set_same : (nodes : List Node) (j : ℕ) (d new : Node) (name : Bytes) → j < length nodes → ((other : Bytes) → other ≢ name → slot_in new other ≡ slot_in (get_or nodes j d) other)
+    → slot_in new name ≡ slot_in (get_or nodes j d) name → (i : ℕ) (m : Bytes) → slots_of (slice_set nodes j new) i m ≡ slots_of nodes i m
+set_same nodes j d new name lt others here =
+    all_slots nodes (slice_set nodes j new) j name (set_here nodes j new name lt ∙ here ∙ sym (node_at nodes j d name lt)) (set_others nodes j d new name lt others)
+
+-- what was changed through a slice of all of a vector
+pub given_back : {A : Type 0} (n : ℕ) (xs ys : List A) → n ≡ length xs → take n (xs ++ ys) ≡ xs
+given_back n xs ys e = ap (λ k. take k (xs ++ ys)) e ∙ take-append_seam xs ys
 
 -- ---- nodes after the others
 

@@ -66,9 +66,6 @@ module _ (slots : Slots) (bound : ℕ) (ok : IsForest slots bound) (ids : Ids) (
   one_slot rest later i name from reached None e = refl
   one_slot rest later i name from reached (Some s) e = by_child s.child refl ∙ split rest
     where
-      files_by : Path → Option NodeId → Option Leaf
-      files_by rest child = child_or child (λ c. files_of_node trees slots c rest) (files_of_entry trees rest (leaf_in s))
-
       split : (rest : Path) → child_or s.child (λ c. files_of_node trees slots c rest) (files_of_entry trees rest (leaf_in s)) ≡ files_of_slot trees slots rest s
       split [] = refl
       split (n ∷ rest) = refl

@@ -98,18 +98,18 @@ pub fn slot_at(nodes: &[Node], at: NodeId, name: &[u8]) -> Option<Slot>
     nodes[at.0].slot(name)
 }
 
-/// Puts an entry into an opened tree.
+/// Puts an entry into an opened tree. If no memory is left, no entry changes.
 pub fn put_at(
-    nodes: &mut Vec<Node>,
+    nodes: &mut [Node],
     alloc: Global,
     at: NodeId,
     name: &[u8],
     slot: Slot,
 ) -> Result<(), AllocError>
-    requires { at.0 < length nodes.old.items }
-    ensures here { OnOk result (slots_of nodes.new.items at.0 name.now ≡ Some slot) }
-    ensures err { OnErr result (HasSlotsOf nodes.old.items nodes.new.items) }
-    ensures rest { KeepsRest nodes.old.items at.0 name.now nodes.new.items }
+    requires { at.0 < length nodes.old }
+    ensures here { OnOk result (slots_of nodes.new at.0 name.now ≡ Some slot) }
+    ensures err { OnErr result (HasSlotsOf nodes.old nodes.new) }
+    ensures rest { KeepsRest nodes.old at.0 name.now nodes.new }
 {
     let node = &mut nodes[at.0];
     node.put(alloc, name, slot)?;
@@ -117,10 +117,10 @@ pub fn put_at(
 }
 
 /// Takes the entry of a name out of an opened tree.
-pub fn take_at(nodes: &mut Vec<Node>, at: NodeId, name: &[u8])
-    requires { at.0 < length nodes.old.items }
-    ensures here { slots_of nodes.new.items at.0 name.now ≡ None }
-    ensures rest { KeepsRest nodes.old.items at.0 name.now nodes.new.items }
+pub fn take_at(nodes: &mut [Node], at: NodeId, name: &[u8])
+    requires { at.0 < length nodes.old }
+    ensures here { slots_of nodes.new at.0 name.now ≡ None }
+    ensures rest { KeepsRest nodes.old at.0 name.now nodes.new }
 {
     let node = &mut nodes[at.0];
     node.take(name);

@@ -8,3 +8,4 @@ pub mod Writing
 pub mod WellFormed
 pub mod SameItem
 pub mod Hashing
+pub use Rattle.bstr.specs.BStr

@@ -1,5 +1,6 @@
 //! Cases of `gix_ref_store`.
 
+mod counts;
 mod ends;
 pub mod files;
 mod lists;
@@ -9,7 +10,8 @@ mod names;
 pub mod objects;
 
 use case_words::Page;
-use gix_ref_file::MemoryFiles;
+use gix_ref_file::{Files, MemoryFiles};
+use gix_ref_fuse::Fuse;
 use gix_ref_store::Options;
 use gix_ref_store::store::file::Store;
 use std::alloc::Global;
@@ -39,12 +41,11 @@ fn read_line(line: &str) -> Option<Line<'_>> {
     })
 }
 
-// The store of a line's files: of the root, with `+` one that knows names by their composed
+// The store of these files: of the root, with `+` one that knows names by their composed
 // characters, or of the worktree with its folder.
-fn store_of(alloc: Global, line: &Line<'_>) -> Option<Store<MemoryFiles>> {
-    let files = files::read(alloc, line.files)?;
+fn store_of<F: Files + Drop>(alloc: Global, files: F, folder: &str) -> Option<Store<F>> {
     let root = Vec::new(alloc);
-    match line.folder {
+    match folder {
         "-" => Store::at(files, root).ok(),
         "+" => Store::at_opts(files, root, composing()).ok(),
         folder => {
@@ -66,8 +67,23 @@ pub fn put_answer(alloc: Global, line: &str, page: &mut Page) {
     let Some(line) = read_line(line) else {
         return page.text("no case");
     };
-    match store_of(alloc, &line) {
+    let Some(files) = files::read(alloc, line.files) else {
+        return page.text("no store");
+    };
+    if line.operation == "calls" {
+        return put_calls(alloc, files, &line, page);
+    }
+    match store_of(alloc, files, line.folder) {
         Some(store) => put_of_store(alloc, store, &line, page),
+        None => page.text("no store"),
+    }
+}
+
+// Adds how many calls of these files a listing makes.
+fn put_calls(alloc: Global, files: MemoryFiles, line: &Line<'_>, page: &mut Page) {
+    let prefix = if line.asked == "-" { "" } else { line.asked };
+    match store_of(alloc, Fuse::failing_at(files, 0, None), line.folder) {
+        Some(store) => counts::count(alloc, &store, prefix.as_bytes(), page),
         None => page.text("no store"),
     }
 }

@@ -20,13 +20,14 @@ pub enum Entry {
 }
 
 impl Entry {
+    /// Returns whether it is a file.
     pub fn is_file(&self) -> bool
         ensures { result ≡ is_some (bytes_of (Some (node_of self.now))) }
     {
         matches!(self, Entry::File(_))
     }
 
-    /// Appends bytes to a file, and returns how many it had.
+    /// Appends bytes to a file, and returns how many it had. If no memory is left, it is as it was.
     pub fn append(&mut self, bytes: &[u8]) -> Result<usize, AllocError>
         requires { IsSome (bytes_of (Some (node_of self.old))) }
         ensures before { IfOk result (λ len.
@@ -75,6 +76,7 @@ impl Nodes {
     ghost use Rattle.gix_ref_file.specs.contracts.nodes.Nodes as lender;
     ghost use Rattle.gix_ref_file.specs.contracts.nodes.Entry as lent;
 
+    /// A map without entries.
     pub fn new(alloc: Global) -> Self
         ensures { result ≡ map.empty }
     {
@@ -83,6 +85,7 @@ impl Nodes {
         }
     }
 
+    /// The entry at a path; `None` if there is none.
     pub fn get(&self, path: &[u8]) -> Option<&Entry>
         ensures { option_map (λ entry. node_of entry.now) result ≡ map.get self.now path.now }
     {
@@ -99,7 +102,8 @@ impl Nodes {
         self.entries.get_mut(path)
     }
 
-    /// Puts an entry in, and returns the one that it replaces.
+    /// Puts an entry in, and returns the one that it replaces. If no memory is left, nothing
+    /// changes.
     pub fn insert(&mut self, path: Vec<u8>, entry: Entry) -> Result<Option<Entry>, AllocError>
         ensures before { IfOk result (λ before. option_map node_of before
             ≡ map.get self.old path.items) }

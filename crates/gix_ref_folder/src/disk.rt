@@ -1,9 +1,9 @@
 //! The system's own calls.
 ghost use Rattle.std.specs.Prelude.{◌≡◌, ◌≤◌, length, IfOk, IfSome};
 
-use crate::faults::is_missing;
 use crate::part::Part;
 use crate::system::{Found, System};
+use crate::system_errors::is_missing;
 use std::alloc::Global;
 use std::fs::{self, OpenFile, OpenOptions};
 use std::io::{self, ErrorKind, Read, Seek, SeekFrom, Write};

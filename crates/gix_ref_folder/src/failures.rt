@@ -7,7 +7,7 @@ ghost use Rattle.gix_ref_folder.specs.Errors.{count_of};
 ghost use Rattle.gix_ref_folder.specs.Systems.{Does};
 
 use crate::failure::Failure;
-use crate::faults::fault;
+use crate::system_errors::fault;
 use gix_ref_file::FileError;
 use std::alloc::Global;
 use std::cell::Cell;
@@ -29,6 +29,7 @@ struct FailedChanges {
 }
 
 impl Failures {
+    /// No call that failed.
     pub fn new() -> Self
         ensures { count_of result ≡ 0 }
     {
@@ -38,7 +39,7 @@ impl Failures {
         }
     }
 
-    // Returns the last call that failed or met something, if one did.
+    /// Returns the last call that failed or met something, if one did.
     pub fn last(&mut self) -> Option<&Failure>
         ensures { IfNone result (count_of self.old ≡ 0) }
     {
@@ -46,7 +47,7 @@ impl Failures {
         self.reading.get_mut().as_ref().or(change)
     }
 
-    // Returns what a reading returned; if it failed, why is kept.
+    /// Returns what a reading returned; if it failed, why is kept.
     pub fn read<T: Drop>(
         &self,
         alloc: Global,
@@ -67,8 +68,8 @@ impl Failures {
         }
     }
 
-    // Keeps that something is at the path of a file that was to be made, until one is made there. No
-    // call failed by that.
+    /// Keeps that something is at the path of a file that was to be made, until one is made there.
+    /// No call failed by that.
     pub fn made(&self, alloc: Global, path: &[u8], made: &io::Result<bool>) {
         match made {
             Ok(true) => self.forget(path),
@@ -89,7 +90,8 @@ impl Failures {
         }
     }
 
-    // Returns what a change returned; if it failed it is counted, and why is kept.
+    /// Returns what a change returned; if it failed it is counted, and why is kept. `Memory` isn't
+    /// counted.
     pub fn changed<T: Drop>(
         &mut self,
         alloc: Global,

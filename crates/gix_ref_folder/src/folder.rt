@@ -8,9 +8,9 @@ ghost use Rattle.gix_ref_folder.specs.Folders.{failures_of, root_of, part_of, sy
 
 use crate::failure::Failure;
 use crate::failures::Failures;
-use crate::faults::{is_missing, is_new};
 use crate::part::Part;
 use crate::system::{Found, System};
+use crate::system_errors::{is_missing, is_new};
 use gix_ref_file::laws::names_ascend;
 use gix_ref_file::paths::is_path;
 use gix_ref_file::{FileError, Files, Place};

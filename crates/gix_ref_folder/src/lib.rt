@@ -4,11 +4,11 @@
 mod disk;
 mod failure;
 mod failures;
-mod faults;
 mod folder;
 mod own;
 mod part;
 mod system;
+mod system_errors;
 
 pub use disk::Disk;
 pub use failure::Failure;

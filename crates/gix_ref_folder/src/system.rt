@@ -24,7 +24,7 @@ pub enum Found {
     Other,
 }
 
-/// The calls of a system, at paths of its own.
+/// The calls of a system, at paths of its own. Each returns the system's error if that refuses it.
 ///
 /// Each clause is about one part of what is below a root, if the part is honest: there the calls do
 /// what they say, and nobody else changes anything. Nothing is said of a path that isn't of an

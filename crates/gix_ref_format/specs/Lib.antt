@@ -9,3 +9,8 @@ pub mod PackedIter
 pub mod PackedKept
 pub mod PackedText
 pub mod Written
+pub use Rattle.gix_hash.specs.Id
+pub use Rattle.gix_object_lines.specs.NameTest
+pub use Rattle.gix_ref_file.specs.Tree
+pub use Rattle.gix_ref_name.specs.Names
+pub use Rattle.gix_ref_name.specs.Targets

@@ -5,7 +5,7 @@ use Rattle.std.specs.declared.alloc.Global.{Global}
 use Rattle.gix_ref_file.specs.Tree.{Tree, file, node_at, bytes_of, bytes_at}
 use Rattle.gix_ref_lock.specs.Locks.{OthersStay, MayBePut, IsPut}
 use Rattle.gix_ref_way.specs.Ways.{Bytes, file_at}
-use Rattle.gix_ref_lock.specs.Contents.{contents, noted, MayBeNoted, updated, forgotten, gone, removed, place_of, lock_path_of, log_path_of}
+use Rattle.gix_ref_lock.specs.Contents.{contents, noted, MayBeNoted, updated, gone, removed, place_of, lock_path_of, log_path_of}
 use Rattle.gix_ref_lock.specs.Moments.{MayNote, NotesLog, MayGo, IsGone, MayMove, Has, AreApart, IsUpdating, IsForgetting, IsGoing, IsRemoving}
 use Rattle.gix_ref_lock.specs.declared.act.Act.TheVariants.{Put, Note, Pack, Remove, Forget}
 use Rattle.gix_ref_lock.specs.declared.act.Move.{Move}
@@ -166,13 +166,3 @@ module _ (m : Move) (apart : AreApart m) where
         by_act : (m.act ≡ Remove) ⊎ (m.act ≡ Forget) → IsForgetting m.act (contents m old) (contents m x)
         by_act (inl is) = subst (λ act. IsForgetting act (contents m old) (contents m x)) (sym is) (log_goes x may)
         by_act (inr is) = subst (λ act. IsForgetting act (contents m old) (contents m x)) (sym is) (log_goes x may)
-
-    pub is_forgotten : (m.act ≡ Remove) ⊎ (m.act ≡ Forget) → (x : Tree) → IsGone (log_path_of m) old x → Has forgotten m old x
-    is_forgotten which x gone = record { here = by_act which; others = λ path a b c. gone.others path c }
-      where
-        is : contents m x ≡ record { file = file_at old (place_of m); log = None; lock = file_at old (lock_path_of m) }
-        is = let f = gone.others (place_of m) apart.log in let l = gone.others (lock_path_of m) apart.log_lock in let none = gone.file in λ i. record { file = f i; log = none i; lock = l i }
-
-        by_act : (m.act ≡ Remove) ⊎ (m.act ≡ Forget) → contents m x ≡ forgotten m.act (contents m old)
-        by_act (inl same) = subst (λ act. contents m x ≡ forgotten act (contents m old)) (sym same) is
-        by_act (inr same) = subst (λ act. contents m x ≡ forgotten act (contents m old)) (sym same) is

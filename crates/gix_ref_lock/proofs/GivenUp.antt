@@ -26,11 +26,6 @@ not_prepared a b c error result first later (inl risen) told = inl (first_half a
 not_prepared a b c error result first later (inr short) (inl same) = inr (subst IsUnprepared (sym same) short)
 not_prepared a b c error result first later (inr short) (inr risen) = inl (second_half a b c first risen)
 
-pub left_of_it : (a b c : ℕ) (Gone : Type 0) (error result : PrepareError) → a ≤ b → b ≤ c → HasRisen a b ⊎ IsUnprepared error → Gone ⊎ (HasRisen b c ⊎ (result ≡ error)) → Gone ⊎ (HasRisen a c ⊎ IsUnprepared result)
-left_of_it a b c Gone error result first later cause (inl gone) = inl gone
-left_of_it a b c Gone error result first later cause (inr (inl risen)) = inr (inl (second_half a b c first risen))
-left_of_it a b c Gone error result first later cause (inr (inr same)) = inr (not_prepared a b c error result first later cause (inl same))
-
 pub not_replaced : (a b c : ℕ) (error : FileError) (result : CommitError) → a ≤ b → b ≤ c → (error ≡ file_case.Failed → HasRisen a b) → (result ≡ as_commit error) ⊎ HasRisen b c → HasRisen a c ⊎ IsUncommitted result
 not_replaced a b c error result first later cause (inr risen) = inl (second_half a b c first risen)
 not_replaced a b c error result first later cause (inl same) = by_error error same cause

@@ -1,5 +1,6 @@
 pub mod FileMoves
 pub mod GivenUp
+pub mod Kept
 pub mod LockLemmas
 pub mod LockPaths
 pub mod OnWays

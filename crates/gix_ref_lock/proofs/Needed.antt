@@ -1,22 +1,22 @@
 -- What moves need stays while others are made, and steps fail only for their causes.
 use Rattle.std.proofs.Common.{◌≡◌, ◌≢◌, ◌⊎◌, true, inl, inr, refl, sym, ◌∙◌, ap, subst, ⊎_elim, ℕ, ◌≤◌, List, [], ◌∷◌, ◌++◌, Option, Some, None, Vec, arith}
-use Rattle.std.specs.Prelude.{Contains, IsTrue, IsSome, is_some, Result, Ok, Err, IfErr, IsErrOf}
+use Rattle.std.specs.Prelude.{Contains, IsTrue, IsSome, is_some, Result, Ok, Err, IfErr, IsErrOf, OnOk}
 use Rattle.std.specs.List.{AllByRecursion}
 use Rattle.std.specs.declared.alloc.Global.{Global}
 use Rattle.std.proofs.lemmas.List.Elements.{Contains-append_left, Contains-append_right, Contains-append_cases}
 use Rattle.gix_ref_file.specs.Tree.{Tree, Node, file, folder, bytes_of, place_of as place_at}
 use Rattle.gix_ref_file.specs.Changes.{may_hold_file, is_file_at}
-use Rattle.gix_ref_file.specs.History.{History, Adds, HasRisen}
+use Rattle.gix_ref_file.specs.History.{HasRisen}
 use Rattle.gix_ref_file.specs.declared.files.FileError.{FileError}
-use Rattle.gix_ref_file.specs.declared.files.FileError.TheVariants.{Failed, Memory}
+use Rattle.gix_ref_file.specs.declared.files.FileError.TheVariants.{Failed}
 use Rattle.gix_ref_file.specs.declared.files.Place.TheVariants as places
-use Rattle.gix_ref_file.proofs.Histories.{adds_weaker}
+use Rattle.gix_ref_lock.specs.Calls.{IsForMemory, EndsQuietly}
 use Rattle.gix_ref_lock.specs.PackedEdits as packed
 use Rattle.gix_ref_lock.specs.declared.lock.GivenBack.{GivenBack}
 use Rattle.gix_ref_lock.specs.declared.lock.GivenBack.TheVariants as given_case
 use Rattle.gix_ref_lock.specs.declared.packed.Transaction.{Transaction}
 use Rattle.gix_ref_way.specs.Ways.{Bytes, file_at, IsAbove, HasWay, FoldersOnlyOf}
-use Rattle.gix_ref_way.proofs.Rooms.{among_first, among_rest, only_weaker, onlys_joined, room_stays}
+use Rattle.gix_ref_way.proofs.Rooms.{among_first, among_rest, only_weaker, room_stays}
 use Rattle.gix_ref_way.proofs.FoldersMade.{risen_later}
 use Rattle.gix_ref_lock.specs.Contents.{Contents, contents, act_line, place_of, lock_path_of, log_path_of}
 use Rattle.gix_ref_lock.specs.Moments.{NotesLog, AreApart}
@@ -42,11 +42,11 @@ told_cause outcome (Ok u) told cause = tt
 told_cause outcome (Err e) (inl short) cause = inl short
 told_cause outcome (Err e) (inr failed) cause = inr (cause failed)
 
--- and for want of memory only if the outcome says so
-pub told_short : {T U P : Type 0} (outcome : Result T FileError) (r : Result U CommitError) → IfErr r (λ error. IsOutOfMemory error → outcome ≡ Err Memory)
-    → (IsErrOf outcome Memory → P) → IfErr r (λ error. IsOutOfMemory error → P)
-told_short outcome (Ok u) told then = tt
-told_short outcome (Err e) told then = λ short. then (told short)
+-- and quietly only if the outcome is quiet
+pub told_quiet : {U : Type 0} (N : Type 0) (r : Result U CommitError) (outcome : Result (Unit {0}) FileError) → OnOk r (outcome ≡ Ok tt) → (N → EndsQuietly IsOutOfMemory r → EndsQuietly IsForMemory outcome)
+    → EndsQuietly (λ error. N × IsOutOfMemory error) r → EndsQuietly IsForMemory outcome
+told_quiet N (Ok u) outcome done short quiet = subst (λ (o : Result (Unit {0}) FileError). EndsQuietly IsForMemory o) (sym done) tt
+told_quiet N (Err e) outcome done short quiet = short quiet.0 quiet.1
 
 -- a failure that was counted meanwhile was counted since before, and until after
 pub wider : {R : Type 0} (a b c d : ℕ) → a ≤ b → c ≤ d → HasRisen b c ⊎ R → HasRisen a d ⊎ R
@@ -57,11 +57,6 @@ pub since : {U : Type 0} (R : Type 0) (a b c : ℕ) (r : Result U CommitError) �
 since R a b c (Ok u) first fails = tt
 since R a b c (Err e) first (inl short) = inl short
 since R a b c (Err e) first (inr fault) = inr (wider a b c c first (omega arith) fault)
-
-pub until : {U : Type 0} (R : Type 0) (a b c : ℕ) (r : Result U CommitError) → b ≤ c → IfErr r (λ error. IsOutOfMemory error ⊎ (HasRisen a b ⊎ R)) → IfErr r (λ error. IsOutOfMemory error ⊎ (HasRisen a c ⊎ R))
-until R a b c (Ok u) last fails = tt
-until R a b c (Err e) last (inl short) = inl short
-until R a b c (Err e) last (inr fault) = inr (wider a a b c (omega arith) last fault)
 
 -- an error that is told after locks were given back
 pub after_cause : {R : Type 0} (a b c : ℕ) (error result : CommitError) (given : GivenBack) → a ≤ b → b ≤ c → IsOutOfMemory error ⊎ (HasRisen a b ⊎ R) → (result ≡ error) ⊎ (given ≡ given_case.Failed)

@@ -1,7 +1,6 @@
 -- Locks that are given back leave no file that didn't exist.
 use Rattle.std.proofs.Common.{◌≡◌, ◌≢◌, refl, sym, ◌∙◌, ap, subst, Bool, true, false, List, [], ◌∷◌, ◌++◌, append_assoc, append-nil, length, arith}
 use Rattle.std.specs.Prelude.{IsTrue, is_some, bytes_eq}
-use Rattle.std.specs.List.{AllByRecursion}
 use Rattle.std.proofs.lemmas.Slice.Eq.{bytes_eq-Decides}
 use Rattle.gix_ref_file.specs.Tree.{Tree, bytes_of}
 use Rattle.gix_ref_file.specs.Changes.{is_file_at}

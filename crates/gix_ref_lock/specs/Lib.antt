@@ -1,3 +1,4 @@
+pub mod Calls
 pub mod Committing
 pub mod Contents
 pub mod GivenBacks
@@ -9,3 +10,10 @@ pub mod PackedEdits
 pub mod PackedErrors
 pub mod RecordEdits
 pub mod Records
+pub use Rattle.gix_ref_file.specs.Calls as FileCalls
+pub use Rattle.gix_ref_file.specs.Changes
+pub use Rattle.gix_ref_file.specs.History
+pub use Rattle.gix_ref_file.specs.Tree
+pub use Rattle.gix_ref_format.specs.PackedBuffer
+pub use Rattle.gix_ref_format.specs.PackedKept
+pub use Rattle.gix_ref_way.specs.Ways

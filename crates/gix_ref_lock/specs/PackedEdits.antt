@@ -28,3 +28,9 @@ pub record IsBegun (kind : Kind) (place : List ℕ) (old new : Tree) (t : Transa
   pub of_kind : t.kind ≡ kind
   pub taken : IsTaken (lock_of place) old new
   pub unwritten : t.is_written ≡ false
+
+-- The transaction holds the same lock, of the same records.
+pub record IsSame (old new : Transaction) : Type 0 where
+  pub lock : new.lock ≡ old.lock
+  pub buffer : new.buffer ≡ old.buffer
+  pub kind : new.kind ≡ old.kind

@@ -1,7 +1,8 @@
 //! What is done to a reference's file and to its log, and why it fails.
 
-ghost use Rattle.std.specs.Prelude.{◌≡◌, ◌⊎◌, Err, IfErr, IsErrOf, OnOk};
+ghost use Rattle.std.specs.Prelude.{◌≡◌, ◌⊎◌, IfErr, IsErrOf, OnOk};
 ghost use Rattle.gix_ref_file.specs.declared.files.FileError.TheVariants as file_case;
+ghost use Rattle.gix_ref_lock.specs.Calls.{IsForMemory, EndsQuietly};
 ghost use Rattle.gix_ref_lock.specs.Needs.{IsOutOfMemory};
 
 use crate::lock::Lock;
@@ -83,10 +84,11 @@ pub enum CommitError {
 // out.
 pub(crate) fn told(outcome: Result<(), FileError>, why: CommitError) -> Result<(), CommitError>
     ensures done { OnOk result (outcome ≡ Ok tt) }
+    ensures passed { outcome ≡ Ok tt → result ≡ Ok tt }
     ensures failed { IfErr result (λ error.
         IsOutOfMemory error ⊎ IsErrOf outcome file_case.Failed) }
-    ensures memory { ¬ IsOutOfMemory why → IfErr result (λ error.
-        IsOutOfMemory error → outcome ≡ Err file_case.Memory) }
+    ensures quiet { ¬ IsOutOfMemory why
+        → EndsQuietly IsOutOfMemory result → EndsQuietly IsForMemory outcome }
 {
     match outcome {
         Ok(()) => Ok(()),

@@ -1,16 +1,18 @@
 //! Commits of moves.
 
-ghost use Rattle.std.specs.Prelude.{◌≡◌, ◌≢◌, ◌≤◌, ◌⊎◌, Err, IfErr, Ok, OnOk};
+ghost use Rattle.std.specs.Prelude.{◌≡◌, ◌≢◌, ◌⊎◌, Err};
 ghost use Rattle.std.specs.List.{AllByRecursion};
 ghost use Rattle.gix_ref_file.specs.Calls.{Achieves, HasFault, Passes};
 ghost use Rattle.gix_ref_file.specs.History.{HasRisen};
 ghost use Rattle.gix_ref_lock.specs.declared.lock.GivenBack.TheVariants as given;
 ghost use Rattle.gix_ref_lock.specs.declared.packed.CommitError.TheVariants as packed_case;
-ghost use Rattle.gix_ref_way.specs.Ways.{FoldersOnlyOf, SameFolders};
+ghost use Rattle.gix_ref_way.specs.Ways.{FoldersOnlyOf};
+ghost use Rattle.gix_ref_lock.specs.Calls.{FailsByFault, EndsQuietly, KeepsFolders, StaysHonest};
 ghost use Rattle.gix_ref_lock.specs.Committing.{AreUnlocked, IsCommitted, IsShowing, KeepsPacked, LocksAlone, MayReplace, NoneLocked, OnTheWay, Replaces, commit_paths, shown};
 ghost use Rattle.gix_ref_lock.specs.Moments.{SameButLocks};
 ghost use Rattle.gix_ref_lock.specs.Moves.{AllHave, AllMay, LocksHeld, Once, all_paths, lock_paths};
 ghost use Rattle.gix_ref_lock.specs.Needs.{AreBeside, CanCommit, CanMove, CanReplace, IsOutOfMemory, PackedLocked, log_paths};
+ghost use Rattle.gix_ref_lock.specs.PackedErrors.{IsUncommitted};
 
 use crate::act::{CommitError, Move};
 use crate::lock::GivenBack;
@@ -33,11 +35,7 @@ pub fn commit<F: Files>(
     moves: &[Move],
     packed: Option<Transaction>,
 ) -> Result<(), CommitError>
-    ensures honest { F.is_honest files.old → F.is_honest files.new }
-    ensures later { F.failures files.old ≤ F.failures files.new }
-    ensures unfailed { OnOk result (F.failures files.new ≡ F.failures files.old) }
-    ensures memory { IfErr result (λ error. IsOutOfMemory error
-        → F.failures files.new ≡ F.failures files.old) }
+    ensures keeps { StaysHonest F.Files (EndsQuietly IsOutOfMemory result) files.old files.new }
     ensures moments { Once (commit_paths packed moves.now)
         → Passes F.is_honest F.history files.old files.new (OnTheWay packed moves.now) }
     ensures done { Once (commit_paths packed moves.now)
@@ -47,8 +45,7 @@ pub fn commit<F: Files>(
         → Passes F.is_honest F.history files.old files.new (FoldersOnlyOf (log_paths moves.now)) }
     ensures failed { Once (commit_paths packed moves.now) → F.is_honest files.old
         → CanCommit packed moves.now (F.history files.old).tree
-        → IfErr result (λ error.
-        IsOutOfMemory error ⊎ HasFault F.failures F.reading_may_fail files.old files.new) }
+        → FailsByFault F.Files IsOutOfMemory files.old files.new result }
 {
     match make(alloc, files, moves, packed) {
         Ok(()) => Ok(()),
@@ -60,13 +57,10 @@ pub fn commit<F: Files>(
 /// isn't there any more is passed over. Returns the worst that came of one: `Failed` if a removal
 /// failed, else `Memory` if memory was wanting.
 pub fn give_back_all<F: Files>(alloc: Global, files: &mut F, moves: &[Move]) -> GivenBack
-    ensures honest { F.is_honest files.old → F.is_honest files.new }
-    ensures later { F.failures files.old ≤ F.failures files.new }
-    ensures unfailed { result ≢ given.Failed → F.failures files.new ≡ F.failures files.old }
+    ensures keeps { KeepsFolders F.Files (result ≢ given.Failed) files.old files.new }
     ensures locks { Passes F.is_honest F.history files.old files.new SameButLocks }
     ensures moments { Once (all_paths moves.now)
         → Passes F.is_honest F.history files.old files.new (AllMay LocksAlone moves.now) }
-    ensures folders { Passes F.is_honest F.history files.old files.new SameFolders }
     ensures failed { F.is_honest files.old → result ≡ given.Failed
         → HasFault F.failures F.reading_may_fail files.old files.new }
     ensures held { Once (lock_paths moves.now) → F.is_honest files.old
@@ -104,11 +98,7 @@ fn make<F: Files>(
     moves: &[Move],
     packed: Option<Transaction>,
 ) -> Result<(), CommitError>
-    ensures honest { F.is_honest files.old → F.is_honest files.new }
-    ensures later { F.failures files.old ≤ F.failures files.new }
-    ensures unfailed { OnOk result (F.failures files.new ≡ F.failures files.old) }
-    ensures memory { IfErr result (λ error. IsOutOfMemory error
-        → F.failures files.new ≡ F.failures files.old) }
+    ensures keeps { StaysHonest F.Files (EndsQuietly IsOutOfMemory result) files.old files.new }
     ensures moments { Once (commit_paths packed moves.now)
         → Passes F.is_honest F.history files.old files.new (OnTheWay packed moves.now) }
     ensures done { Once (commit_paths packed moves.now)
@@ -118,8 +108,7 @@ fn make<F: Files>(
         → Passes F.is_honest F.history files.old files.new (FoldersOnlyOf (log_paths moves.now)) }
     ensures failed { Once (commit_paths packed moves.now) → F.is_honest files.old
         → CanCommit packed moves.now (F.history files.old).tree
-        → IfErr result (λ error.
-        IsOutOfMemory error ⊎ HasFault F.failures F.reading_may_fail files.old files.new) }
+        → FailsByFault F.Files IsOutOfMemory files.old files.new result }
 {
     match show_updates(alloc, files, moves) {
         Ok(()) => {
@@ -132,11 +121,7 @@ fn make<F: Files>(
 
 // Makes all updates, and lets the logs go of what is removed.
 fn show_updates<F: Files>(alloc: Global, files: &mut F, moves: &[Move]) -> Result<(), CommitError>
-    ensures honest { F.is_honest files.old → F.is_honest files.new }
-    ensures later { F.failures files.old ≤ F.failures files.new }
-    ensures unfailed { OnOk result (F.failures files.new ≡ F.failures files.old) }
-    ensures memory { IfErr result (λ error. IsOutOfMemory error
-        → F.failures files.new ≡ F.failures files.old) }
+    ensures keeps { StaysHonest F.Files (EndsQuietly IsOutOfMemory result) files.old files.new }
     ensures moments { Once (all_paths moves.now)
         → Passes F.is_honest F.history files.old files.new (IsShowing moves.now) }
     ensures shown { Once (all_paths moves.now)
@@ -146,8 +131,7 @@ fn show_updates<F: Files>(alloc: Global, files: &mut F, moves: &[Move]) -> Resul
     ensures failed { Once (all_paths moves.now) → AreBeside (all_paths moves.now)
         → F.is_honest files.old
         → AllByRecursion (λ m. CanMove m (F.history files.old).tree) moves.now
-        → IfErr result (λ error.
-        IsOutOfMemory error ⊎ HasFault F.failures F.reading_may_fail files.old files.new) }
+        → FailsByFault F.Files IsOutOfMemory files.old files.new result }
 {
     make_all(alloc, files, Step::Update, moves)?;
     make_all(alloc, files, Step::Forget, moves)
@@ -159,18 +143,12 @@ fn replace_packed<F: Files>(
     files: &mut F,
     packed: Option<Transaction>,
 ) -> Result<(), CommitError>
-    ensures honest { F.is_honest files.old → F.is_honest files.new }
-    ensures later { F.failures files.old ≤ F.failures files.new }
-    ensures unfailed { OnOk result (F.failures files.new ≡ F.failures files.old) }
-    ensures memory { IfErr result (λ error. IsOutOfMemory error
-        → F.failures files.new ≡ F.failures files.old) }
+    ensures keeps { KeepsFolders F.Files (EndsQuietly IsOutOfMemory result) files.old files.new }
     ensures moments { Passes F.is_honest F.history files.old files.new (MayReplace packed) }
     ensures replaced { Achieves F.is_honest F.history files.old files.new result
         (Replaces packed) }
-    ensures folders { Passes F.is_honest F.history files.old files.new SameFolders }
     ensures failed { F.is_honest files.old → CanReplace packed (F.history files.old).tree
-        → IfErr result (λ error.
-        IsOutOfMemory error ⊎ HasFault F.failures F.reading_may_fail files.old files.new) }
+        → FailsByFault F.Files IsOutOfMemory files.old files.new result }
 {
     match packed {
         Some(packed) => match packed.commit(alloc, files) {
@@ -183,11 +161,8 @@ fn replace_packed<F: Files>(
 
 // Gives the lock of packed records back.
 fn drop_packed<F: Files>(alloc: Global, files: &mut F, packed: Option<Transaction>) -> GivenBack
-    ensures honest { F.is_honest files.old → F.is_honest files.new }
-    ensures later { F.failures files.old ≤ F.failures files.new }
-    ensures unfailed { result ≢ given.Failed → F.failures files.new ≡ F.failures files.old }
+    ensures keeps { KeepsFolders F.Files (result ≢ given.Failed) files.old files.new }
     ensures moments { Passes F.is_honest F.history files.old files.new (KeepsPacked packed) }
-    ensures folders { Passes F.is_honest F.history files.old files.new SameFolders }
     ensures failed { F.is_honest files.old → PackedLocked packed (F.history files.old).tree
         → result ≡ given.Failed → HasRisen (F.failures files.old) (F.failures files.new) }
 {
@@ -200,8 +175,7 @@ fn drop_packed<F: Files>(alloc: Global, files: &mut F, packed: Option<Transactio
 // Returns what came of giving the lock of packed records back.
 fn dropped(outcome: Result<(), packed::CommitError>) -> GivenBack
     ensures failed { result ≡ given.Failed → outcome ≡ Err packed_case.Commit }
-    ensures others { result ≢ given.Failed
-        → (outcome ≡ Ok tt) ⊎ (outcome ≡ Err packed_case.Memory) }
+    ensures others { result ≢ given.Failed → EndsQuietly IsUncommitted outcome }
 {
     match outcome {
         Ok(()) => GivenBack::Done,

@@ -1,13 +1,13 @@
 //! A file's lock: a file beside it, which holds its new bytes and is then renamed to its place.
 
-ghost use Rattle.std.specs.Prelude.{◌≡◌, ◌≢◌, ◌≤◌, ◌⊎◌, false, None, Some, IfOk, IfSome, OnOk, IsErrOf, IsTrue};
+ghost use Rattle.std.specs.Prelude.{◌≡◌, ◌≢◌, ◌⊎◌, false, None, Some, IfOk, IfSome, OnOk, IsErrOf, IsTrue};
 ghost use Rattle.gix_ref_file.specs.Changes.{is_file_at, may_hold_file};
 ghost use Rattle.gix_ref_file.specs.History.{HasRisen};
-ghost use Rattle.gix_ref_file.specs.declared.files.FileError.TheVariants.{Failed, Memory};
+ghost use Rattle.gix_ref_file.specs.declared.files.FileError.TheVariants.{Failed};
 ghost use Rattle.gix_ref_lock.specs.declared.lock.GivenBack.TheVariants as given;
-ghost use Rattle.gix_ref_file.specs.Tree.{file, is_path, node_at, bytes_at};
-ghost use Rattle.gix_ref_file.specs.Calls.{Achieves, HasFault, Passes};
-ghost use Rattle.gix_ref_way.specs.Ways.{SameFolders};
+ghost use Rattle.gix_ref_file.specs.Tree.{file, node_at, bytes_at};
+ghost use Rattle.gix_ref_file.specs.Calls.{HasFault, Passes};
+ghost use Rattle.gix_ref_lock.specs.Calls.{IsBusy, IsForMemory, EndsQuietly, IsUnlocked, KeepsFolders};
 ghost use Rattle.gix_ref_lock.specs.GivenBacks.{worse};
 ghost use Rattle.gix_ref_lock.specs.Locks.{lock_of, OthersStay, KeepsHeld, IsTaken, MayBePut, IsPut};
 
@@ -60,31 +60,18 @@ pub fn acquire<F: Files>(
     files: &mut F,
     place: &[u8],
 ) -> Result<Option<Lock>, FileError>
-    ensures honest { F.is_honest files.old → F.is_honest files.new }
+    ensures keeps { KeepsFolders F.Files (EndsQuietly IsForMemory result) files.old files.new }
     ensures place { IfOk result (λ found. IfSome found (λ lock. lock.place.items ≡ place.now)) }
     ensures moments { Passes F.is_honest F.history files.old files.new
         (OthersStay (lock_of place.now)) }
-    ensures folders { Passes F.is_honest F.history files.old files.new SameFolders }
     ensures fresh { Passes F.is_honest F.history files.old files.new (KeepsHeld (lock_of place.now)) }
     ensures taken { F.is_honest files.old → IfOk result (λ found. IfSome found (λ _.
         IsTaken (lock_of place.now) (F.history files.old).tree (F.history files.new).tree)) }
-    ensures held { F.is_honest files.old → IfOk result (λ found. found ≡ None
-        → node_at (F.history files.old).tree (lock_of place.now) ≢ None) }
-    ensures kept { F.is_honest files.old → IfOk result (λ found. found ≡ None
-        → (F.history files.new).tree ≡ (F.history files.old).tree) }
-    ensures refused { F.is_honest files.old → IsErrOf result Failed
-        → HasRisen (F.failures files.old) (F.failures files.new)
-        ⊎ ((F.history files.new).tree ≡ (F.history files.old).tree) }
-    ensures failed { F.is_honest files.old
-        → IsTrue (may_hold_file (F.history files.old).tree (lock_of place.now))
-        → IsErrOf result Failed → HasRisen (F.failures files.old) (F.failures files.new) }
-    ensures blamed { F.is_honest files.old
-        → IsTrue (may_hold_file (F.history files.old).tree place.now) → IsErrOf result Failed
-        → HasRisen (F.failures files.old) (F.failures files.new)
-        ⊎ (is_path (lock_of place.now) ≡ false) }
-    ensures later { F.failures files.old ≤ F.failures files.new }
-    ensures unfailed { OnOk result (F.failures files.new ≡ F.failures files.old) }
-    ensures memory { IsErrOf result Memory → F.failures files.new ≡ F.failures files.old }
+    ensures busy { F.is_honest files.old → IfOk result (λ found. found ≡ None
+        → IsBusy (lock_of place.now) (F.history files.old).tree (F.history files.new).tree) }
+    ensures failed { F.is_honest files.old → IsErrOf result Failed
+        → IsUnlocked place.now (F.history files.old).tree (F.history files.new).tree
+        (F.failures files.old) (F.failures files.new) }
 {
     let path = lock_path(alloc, place)?;
     let place = place.to_vec(alloc)?;
@@ -112,16 +99,12 @@ impl Lock {
         files: &mut F,
         bytes: &[u8],
     ) -> Result<(), FileError>
-        ensures honest { F.is_honest files.old → F.is_honest files.new }
-        ensures unfailed { OnOk result (F.failures files.new ≡ F.failures files.old) }
-        ensures memory { IsErrOf result Memory → F.failures files.new ≡ F.failures files.old }
+        ensures keeps { KeepsFolders F.Files (EndsQuietly IsForMemory result) files.old files.new }
         ensures moments { Passes F.is_honest F.history files.old files.new
             (OthersStay self.now.path.items) }
         ensures stays { F.is_honest files.old
             → IsTrue (is_file_at (F.history files.old).tree self.now.path.items)
             → IsTrue (is_file_at (F.history files.new).tree self.now.path.items) }
-        ensures folders { Passes F.is_honest F.history files.old files.new SameFolders }
-        ensures later { F.failures files.old ≤ F.failures files.new }
         ensures failed { F.is_honest files.old
             → IsTrue (is_file_at (F.history files.old).tree self.now.path.items)
             → IsErrOf result Failed → HasRisen (F.failures files.old) (F.failures files.new) }
@@ -133,13 +116,9 @@ impl Lock {
 
     /// Removes the lock. Returns `Failed` if there is none or a call of the files failed.
     pub fn give_back<F: Files>(&self, alloc: Global, files: &mut F) -> Result<(), FileError>
-        ensures honest { F.is_honest files.old → F.is_honest files.new }
-        ensures later { F.failures files.old ≤ F.failures files.new }
-        ensures unfailed { OnOk result (F.failures files.new ≡ F.failures files.old) }
-        ensures memory { IsErrOf result Memory → F.failures files.new ≡ F.failures files.old }
+        ensures keeps { KeepsFolders F.Files (EndsQuietly IsForMemory result) files.old files.new }
         ensures moments { Passes F.is_honest F.history files.old files.new
             (OthersStay self.now.path.items) }
-        ensures folders { Passes F.is_honest F.history files.old files.new SameFolders }
         ensures failed { F.is_honest files.old → IsErrOf result Failed
             → HasRisen (F.failures files.old) (F.failures files.new)
             ⊎ (is_file_at (F.history files.new).tree self.now.path.items ≡ false) }
@@ -155,12 +134,9 @@ impl Lock {
     /// Removes the lock, unless it is read that none is there. Returns `Failed` if its removal
     /// failed, and `Memory` if no memory is left.
     pub fn withdraw<F: Files>(&self, alloc: Global, files: &mut F) -> GivenBack
-        ensures honest { F.is_honest files.old → F.is_honest files.new }
-        ensures later { F.failures files.old ≤ F.failures files.new }
-        ensures unfailed { result ≢ given.Failed → F.failures files.new ≡ F.failures files.old }
+        ensures keeps { KeepsFolders F.Files (result ≢ given.Failed) files.old files.new }
         ensures moments { Passes F.is_honest F.history files.old files.new
             (OthersStay self.now.path.items) }
-        ensures folders { Passes F.is_honest F.history files.old files.new SameFolders }
         ensures failed { F.is_honest files.old → result ≡ given.Failed
             → HasFault F.failures F.reading_may_fail files.old files.new }
         ensures held { F.is_honest files.old
@@ -184,14 +160,10 @@ impl Lock {
     /// Puts the lock in its place, replacing a file there whole. Returns `Failed` if a folder is in
     /// the place or a call of the files failed.
     pub fn put<F: Files>(&self, alloc: Global, files: &mut F) -> Result<(), FileError>
-        ensures honest { F.is_honest files.old → F.is_honest files.new }
-        ensures later { F.failures files.old ≤ F.failures files.new }
-        ensures unfailed { OnOk result (F.failures files.new ≡ F.failures files.old) }
-        ensures memory { IsErrOf result Memory → F.failures files.new ≡ F.failures files.old }
+        ensures keeps { KeepsFolders F.Files (EndsQuietly IsForMemory result) files.old files.new }
         ensures moments { Passes F.is_honest F.history files.old files.new
             (MayBePut self.now.place.items self.now.path.items
             (bytes_at (F.history files.old).tree self.now.path.items)) }
-        ensures folders { Passes F.is_honest F.history files.old files.new SameFolders }
         ensures failed { F.is_honest files.old
             → IsTrue (is_file_at (F.history files.old).tree self.now.path.items)
             → IsTrue (may_hold_file (F.history files.old).tree self.now.place.items)

@@ -1,8 +1,9 @@
 //! Lines for logs.
 
-ghost use Rattle.std.specs.Prelude.{◌≡◌, ◌≤◌, ◌⊎◌, [], ◌∷◌, Some, IfErr, OnOk};
-ghost use Rattle.gix_ref_file.specs.Calls.{Achieves, HasFault, Passes};
-ghost use Rattle.gix_ref_way.specs.Ways.{FoldersOnlyOf, file_at};
+ghost use Rattle.std.specs.Prelude.{[], ◌∷◌, Some};
+ghost use Rattle.gix_ref_file.specs.Calls.{Achieves, Passes};
+ghost use Rattle.gix_ref_way.specs.Ways.{FoldersOnlyOf};
+ghost use Rattle.gix_ref_lock.specs.Calls.{FailsByFault, EndsQuietly, StaysHonest};
 ghost use Rattle.gix_ref_lock.specs.Contents.{noted};
 ghost use Rattle.gix_ref_lock.specs.Moments.{MayNote, NotesLog};
 ghost use Rattle.gix_ref_lock.specs.Needs.{CanNote, IsOutOfMemory, noted_logs};
@@ -19,19 +20,14 @@ pub(crate) fn note<F: Files>(
     log: &[u8],
     line: &Option<Vec<u8>>,
 ) -> Result<(), CommitError>
-    ensures honest { F.is_honest files.old → F.is_honest files.new }
-    ensures later { F.failures files.old ≤ F.failures files.new }
-    ensures unfailed { OnOk result (F.failures files.new ≡ F.failures files.old) }
-    ensures memory { IfErr result (λ error. IsOutOfMemory error
-        → F.failures files.new ≡ F.failures files.old) }
+    ensures keeps { StaysHonest F.Files (EndsQuietly IsOutOfMemory result) files.old files.new }
     ensures moments { Passes F.is_honest F.history files.old files.new (MayNote line.now log.now) }
     ensures noted { Achieves F.is_honest F.history files.old files.new result
         (NotesLog line.now log.now) }
     ensures folders { Passes F.is_honest F.history files.old files.new
         (FoldersOnlyOf (noted_logs line.now log.now)) }
     ensures failed { F.is_honest files.old → CanNote line.now log.now (F.history files.old).tree
-        → IfErr result (λ error.
-        IsOutOfMemory error ⊎ HasFault F.failures F.reading_may_fail files.old files.new) }
+        → FailsByFault F.Files IsOutOfMemory files.old files.new result }
 {
     match line {
         Some(line) => append(alloc, files, log, line),
@@ -45,11 +41,7 @@ fn append<F: Files>(
     log: &[u8],
     line: &Vec<u8>,
 ) -> Result<(), CommitError>
-    ensures honest { F.is_honest files.old → F.is_honest files.new }
-    ensures later { F.failures files.old ≤ F.failures files.new }
-    ensures unfailed { OnOk result (F.failures files.new ≡ F.failures files.old) }
-    ensures memory { IfErr result (λ error. IsOutOfMemory error
-        → F.failures files.new ≡ F.failures files.old) }
+    ensures keeps { StaysHonest F.Files (EndsQuietly IsOutOfMemory result) files.old files.new }
     ensures moments { Passes F.is_honest F.history files.old files.new
         (MayNote (Some line.now) log.now) }
     ensures noted { Achieves F.is_honest F.history files.old files.new result
@@ -58,8 +50,7 @@ fn append<F: Files>(
         (FoldersOnlyOf (log.now ∷ [])) }
     ensures failed { F.is_honest files.old
         → CanNote (Some line.now) log.now (F.history files.old).tree
-        → IfErr result (λ error.
-        IsOutOfMemory error ⊎ HasFault F.failures F.reading_may_fail files.old files.new) }
+        → FailsByFault F.Files IsOutOfMemory files.old files.new result }
 {
     told(
         make_way(alloc, files, log),

@@ -1,6 +1,6 @@
 //! Transactions of `packed-refs`: a held lock gets the new text and is then put in its place.
 
-ghost use Rattle.std.specs.Prelude.{◌≡◌, ◌≢◌, ◌≤◌, ◌⊎◌, [], true, false, Some, None, Err, map, option_map, IfOk, IfErr, IfSome, IsErrOf, OnOk, IsTrue};
+ghost use Rattle.std.specs.Prelude.{◌≡◌, ◌≢◌, ◌⊎◌, [], true, false, Some, None, Err, map, option_map, IfOk, IfErr, IfSome, OnOk, IsTrue};
 ghost use Rattle.gix_ref_file.specs.Tree.{node_at, bytes_at, bytes_of};
 ghost use Rattle.gix_ref_file.specs.Changes.{is_file_at, may_hold_file};
 ghost use Rattle.gix_ref_file.specs.Calls.{HasFault, Passes};
@@ -10,7 +10,7 @@ ghost use Rattle.gix_ref_format.specs.PackedKept.{IsKnownOf, kept};
 ghost use Rattle.gix_ref_format.specs.Edited.{line_of, lines_of};
 ghost use Rattle.gix_ref_lock.specs.Records.{records_in, IsTextOf, HoldsEdited};
 ghost use Rattle.gix_ref_lock.specs.RecordEdits.{line_in};
-ghost use Rattle.gix_ref_way.specs.Ways.{SameFolders};
+ghost use Rattle.gix_ref_lock.specs.Calls.{EndsQuietly, KeepsFolders, RestoresLock};
 ghost use Rattle.gix_ref_lock.specs.Locks.{lock_of, HasLockPlace, OthersStay, IsTaken, MayBePut, IsPut};
 ghost use Rattle.gix_ref_file.specs.declared.files.FileError.TheVariants as file_case;
 ghost use Rattle.gix_ref_lock.specs.declared.packed.Error.TheVariants.{BufferOpen};
@@ -135,7 +135,7 @@ pub struct Transaction {
 }
 
 impl Transaction {
-    ghost use Rattle.gix_ref_lock.specs.PackedEdits.{IsBegun, IsReadAt, place_of, lock_path_of};
+    ghost use Rattle.gix_ref_lock.specs.PackedEdits.{IsBegun, IsReadAt, IsSame, place_of, lock_path_of};
 
     /// Makes the lock of the file at this place, and reads the file, whose ids are of this kind. If it
     /// still has the bytes of `known`, what was read of it before, its records aren't parsed again.
@@ -148,7 +148,7 @@ impl Transaction {
         kind: Kind,
         known: Option<&Buffer>,
     ) -> Result<Transaction, Error>
-        ensures honest { F.is_honest files.old → F.is_honest files.new }
+        ensures keeps { KeepsFolders F.Files (EndsQuietly IsShort result) files.old files.new }
         ensures begun { F.is_honest files.old → IfOk result (IsBegun kind place.now
             (F.history files.old).tree (F.history files.new).tree) }
         ensures records { F.is_honest files.old
@@ -157,22 +157,15 @@ impl Transaction {
             → IfOk result (λ t. KeepsFile kind file (option_map kept t.buffer)) }
         ensures moments { Passes F.is_honest F.history files.old files.new
             (OthersStay (lock_of place.now)) }
-        ensures folders { Passes F.is_honest F.history files.old files.new SameFolders }
         ensures failed { F.is_honest files.old
             → HasLockPlace place.now (F.history files.old).tree
             → IsReadAt kind place.now (F.history files.old).tree → IfErr result (λ error.
             HasFault F.failures F.reading_may_fail files.old files.new ⊎ IsShort error) }
-        ensures later { F.failures files.old ≤ F.failures files.new }
-        ensures unfailed { OnOk result (F.failures files.new ≡ F.failures files.old) }
-        ensures memory { IfErr result (λ error. IsShort error
-            → F.failures files.new ≡ F.failures files.old) }
         ensures here { IfOk result (λ t. place_of t ≡ place.now) }
         ensures held { F.is_honest files.old → IfOk result (λ t.
             IsTrue (is_file_at (F.history files.new).tree (lock_path_of t))) }
-        ensures rolled_back { F.is_honest files.old → IfErr result (λ error.
-            (is_file_at (F.history files.new).tree (lock_of place.now)
-            ≡ is_file_at (F.history files.old).tree (lock_of place.now))
-            ⊎ (HasRisen (F.failures files.old) (F.failures files.new) ⊎ IsShort error)) }
+        ensures rolled_back { F.is_honest files.old
+            → IfErr result (RestoresLock F.Files IsShort (lock_of place.now) files.old files.new) }
     {
         let lock = take_lock(alloc, files, place)?;
         match Buffer::open_again(alloc, &*files, place, kind, known) {
@@ -210,10 +203,8 @@ impl Transaction {
         files: &mut F,
         edits: Vec<RecordEdit>,
     ) -> Result<Transaction, PrepareError>
-        ensures honest { F.is_honest files.old → F.is_honest files.new }
-        ensures lock { IfOk result (λ t. t.lock ≡ self.lock) }
-        ensures buffer { IfOk result (λ t. t.buffer ≡ self.buffer) }
-        ensures kind { IfOk result (λ t. t.kind ≡ self.kind) }
+        ensures keeps { KeepsFolders F.Files (EndsQuietly IsUnprepared result) files.old files.new }
+        ensures same { IfOk result (IsSame self) }
         ensures prepared { F.is_honest files.old → edits.items ≢ [] → IfOk result (λ _.
             HoldsEdited self.kind (records_in self.buffer) (map line_in edits.items)
             (lock_path_of self) (F.history files.new).tree) }
@@ -221,23 +212,13 @@ impl Transaction {
         ensures idle { edits.items ≡ [] → IfOk result (λ t. t.is_written ≡ self.is_written) }
         ensures moments { Passes F.is_honest F.history files.old files.new
             (OthersStay (lock_path_of self)) }
-        ensures folders { Passes F.is_honest F.history files.old files.new SameFolders }
         ensures failed { F.is_honest files.old
             → IsTrue (is_file_at (F.history files.old).tree (lock_path_of self))
             → IfErr result (λ error.
             HasRisen (F.failures files.old) (F.failures files.new) ⊎ IsUnprepared error) }
-        ensures later { F.failures files.old ≤ F.failures files.new }
-        ensures unfailed { OnOk result (F.failures files.new ≡ F.failures files.old) }
-        ensures memory { IfErr result (λ error. IsUnprepared error
-            → F.failures files.new ≡ F.failures files.old) }
         ensures held { F.is_honest files.old
             → IsTrue (is_file_at (F.history files.old).tree (lock_path_of self))
             → OnOk result (IsTrue (is_file_at (F.history files.new).tree (lock_path_of self))) }
-        ensures rolled_back { F.is_honest files.old
-            → IsTrue (is_file_at (F.history files.old).tree (lock_path_of self))
-            → IfErr result (λ error.
-            (is_file_at (F.history files.new).tree (lock_path_of self) ≡ false)
-            ⊎ (HasRisen (F.failures files.old) (F.failures files.new) ⊎ IsUnprepared error)) }
     {
         let Transaction {
             lock,
@@ -268,15 +249,10 @@ impl Transaction {
     /// the file stays. A stop leaves the file as before or with the whole new text. After an error
     /// the lock is removed, as far as that succeeds.
     pub fn commit<F: Files>(self, alloc: Global, files: &mut F) -> Result<(), CommitError>
-        ensures honest { F.is_honest files.old → F.is_honest files.new }
-        ensures later { F.failures files.old ≤ F.failures files.new }
-        ensures unfailed { OnOk result (F.failures files.new ≡ F.failures files.old) }
-        ensures memory { IsErrOf result commit_case.Memory
-            → F.failures files.new ≡ F.failures files.old }
+        ensures keeps { KeepsFolders F.Files (EndsQuietly IsUncommitted result) files.old files.new }
         ensures moments { Passes F.is_honest F.history files.old files.new
             (MayBePut (place_of self) (lock_path_of self)
             (bytes_at (F.history files.old).tree (lock_path_of self))) }
-        ensures folders { Passes F.is_honest F.history files.old files.new SameFolders }
         ensures failed { F.is_honest files.old
             → IsTrue (is_file_at (F.history files.old).tree (lock_path_of self))
             → IsTrue (may_hold_file (F.history files.old).tree (place_of self))
@@ -306,14 +282,9 @@ impl Transaction {
     /// Removes the lock; the file stays. Returns `Commit` if the lock couldn't be removed, and
     /// `Memory` if no memory is left.
     pub fn rollback<F: Files>(self, alloc: Global, files: &mut F) -> Result<(), CommitError>
-        ensures honest { F.is_honest files.old → F.is_honest files.new }
-        ensures later { F.failures files.old ≤ F.failures files.new }
-        ensures unfailed { OnOk result (F.failures files.new ≡ F.failures files.old) }
-        ensures memory { IsErrOf result commit_case.Memory
-            → F.failures files.new ≡ F.failures files.old }
+        ensures keeps { KeepsFolders F.Files (EndsQuietly IsUncommitted result) files.old files.new }
         ensures moments { Passes F.is_honest F.history files.old files.new
             (OthersStay (lock_path_of self)) }
-        ensures folders { Passes F.is_honest F.history files.old files.new SameFolders }
         ensures failed { F.is_honest files.old
             → IsTrue (is_file_at (F.history files.old).tree (lock_path_of self))
             → IfErr result (λ error.
@@ -336,11 +307,10 @@ impl Transaction {
 
 // Makes the lock of a place.
 fn take_lock<F: Files>(alloc: Global, files: &mut F, place: &[u8]) -> Result<Lock, Error>
-    ensures honest { F.is_honest files.old → F.is_honest files.new }
+    ensures keeps { KeepsFolders F.Files (EndsQuietly IsShort result) files.old files.new }
     ensures place { IfOk result (λ lock. lock.place.items ≡ place.now) }
     ensures moments { Passes F.is_honest F.history files.old files.new
         (OthersStay (lock_of place.now)) }
-    ensures folders { Passes F.is_honest F.history files.old files.new SameFolders }
     ensures taken { F.is_honest files.old → OnOk result
         (IsTaken (lock_of place.now) (F.history files.old).tree (F.history files.new).tree) }
     ensures rolled_back { F.is_honest files.old → IfErr result (λ error.
@@ -348,10 +318,6 @@ fn take_lock<F: Files>(alloc: Global, files: &mut F, place: &[u8]) -> Result<Loc
         ⊎ (HasRisen (F.failures files.old) (F.failures files.new) ⊎ IsShort error)) }
     ensures failed { F.is_honest files.old → HasLockPlace place.now (F.history files.old).tree
         → IfErr result (λ error. HasRisen (F.failures files.old) (F.failures files.new) ⊎ IsShort error) }
-    ensures later { F.failures files.old ≤ F.failures files.new }
-    ensures unfailed { OnOk result (F.failures files.new ≡ F.failures files.old) }
-    ensures memory { IfErr result (λ error. IsShort error
-        → F.failures files.new ≡ F.failures files.old) }
 {
     match acquire(alloc, files, place) {
         Ok(Some(lock)) => Ok(lock),
@@ -363,12 +329,9 @@ fn take_lock<F: Files>(alloc: Global, files: &mut F, place: &[u8]) -> Result<Loc
 
 // Removes the lock of a file that couldn't be opened, and returns why.
 fn unopened<F: Files>(alloc: Global, files: &mut F, lock: &Lock, error: buffer::Error) -> Error
-    ensures honest { F.is_honest files.old → F.is_honest files.new }
-    ensures later { F.failures files.old ≤ F.failures files.new }
+    ensures keeps { KeepsFolders F.Files (IsShort result) files.old files.new }
     ensures moments { Passes F.is_honest F.history files.old files.new
         (OthersStay lock.now.path.items) }
-    ensures folders { Passes F.is_honest F.history files.old files.new SameFolders }
-    ensures memory { IsShort result → F.failures files.new ≡ F.failures files.old }
     ensures told { F.is_honest files.old
         → IsTrue (is_file_at (F.history files.old).tree lock.now.path.items)
         → (result ≡ BufferOpen error)
@@ -394,23 +357,18 @@ fn write_edited<'a, F: Files>(
     kind: Kind,
     edits: &'a [RecordEdit],
 ) -> Result<(), PrepareError>
-    ensures honest { F.is_honest files.old → F.is_honest files.new }
+    ensures keeps { KeepsFolders F.Files (EndsQuietly IsUnprepared result) files.old files.new }
     ensures moments { Passes F.is_honest F.history files.old files.new
         (OthersStay lock.now.path.items) }
-    ensures folders { Passes F.is_honest F.history files.old files.new SameFolders }
     ensures failed { F.is_honest files.old
         → IsTrue (is_file_at (F.history files.old).tree lock.now.path.items)
         → IfErr result (λ error.
         HasRisen (F.failures files.old) (F.failures files.new) ⊎ IsUnprepared error) }
-    ensures unfailed { OnOk result (F.failures files.new ≡ F.failures files.old) }
-    ensures memory { IfErr result (λ error. IsUnprepared error
-        → F.failures files.new ≡ F.failures files.old) }
     ensures stays { F.is_honest files.old
         → IsTrue (is_file_at (F.history files.old).tree lock.now.path.items)
         → IsTrue (is_file_at (F.history files.new).tree lock.now.path.items) }
     ensures held { F.is_honest files.old → OnOk result (HoldsEdited kind (records_in buffer.now)
         (map line_in edits.now) lock.now.path.items (F.history files.new).tree) }
-    ensures later { F.failures files.old ≤ F.failures files.new }
 {
     let lines = lent(alloc, edits)?;
     let text = new_text(alloc, buffer, kind, &lines)?;
@@ -479,20 +437,13 @@ fn unprepared<F: Files>(
     lock: &Lock,
     error: PrepareError,
 ) -> PrepareError
-    ensures honest { F.is_honest files.old → F.is_honest files.new }
-    ensures later { F.failures files.old ≤ F.failures files.new }
+    ensures keeps { KeepsFolders F.Files (IsUnprepared result) files.old files.new }
     ensures moments { Passes F.is_honest F.history files.old files.new
         (OthersStay lock.now.path.items) }
-    ensures folders { Passes F.is_honest F.history files.old files.new SameFolders }
     ensures kept { IsUnprepared result → IsUnprepared error }
-    ensures memory { IsUnprepared result → F.failures files.new ≡ F.failures files.old }
     ensures told { F.is_honest files.old
         → IsTrue (is_file_at (F.history files.old).tree lock.now.path.items)
         → (result ≡ error) ⊎ HasRisen (F.failures files.old) (F.failures files.new) }
-    ensures rolled_back { F.is_honest files.old
-        → IsTrue (is_file_at (F.history files.old).tree lock.now.path.items)
-        → (is_file_at (F.history files.new).tree lock.now.path.items ≡ false)
-        ⊎ (HasRisen (F.failures files.old) (F.failures files.new) ⊎ (result ≡ error)) }
 {
     match lock.give_back(alloc, files) {
         Ok(()) => error,
@@ -503,15 +454,10 @@ fn unprepared<F: Files>(
 
 // Puts the lock in its place, and removes it if that fails.
 fn replace<F: Files>(alloc: Global, files: &mut F, lock: &Lock) -> Result<(), CommitError>
-    ensures honest { F.is_honest files.old → F.is_honest files.new }
-    ensures later { F.failures files.old ≤ F.failures files.new }
-    ensures unfailed { OnOk result (F.failures files.new ≡ F.failures files.old) }
-    ensures memory { IsErrOf result commit_case.Memory
-        → F.failures files.new ≡ F.failures files.old }
+    ensures keeps { KeepsFolders F.Files (EndsQuietly IsUncommitted result) files.old files.new }
     ensures moments { Passes F.is_honest F.history files.old files.new
         (MayBePut lock.now.place.items lock.now.path.items
         (bytes_at (F.history files.old).tree lock.now.path.items)) }
-    ensures folders { Passes F.is_honest F.history files.old files.new SameFolders }
     ensures failed { F.is_honest files.old
         → IsTrue (is_file_at (F.history files.old).tree lock.now.path.items)
         → IsTrue (may_hold_file (F.history files.old).tree lock.now.place.items)
@@ -529,14 +475,10 @@ fn replace<F: Files>(alloc: Global, files: &mut F, lock: &Lock) -> Result<(), Co
 
 // Removes the lock that couldn't be put in its place, if it is there, and returns why.
 fn unreplaced<F: Files>(alloc: Global, files: &mut F, lock: &Lock, error: FileError) -> CommitError
-    ensures honest { F.is_honest files.old → F.is_honest files.new }
-    ensures later { F.failures files.old ≤ F.failures files.new }
+    ensures keeps { KeepsFolders F.Files (IsUncommitted result) files.old files.new }
     ensures moments { Passes F.is_honest F.history files.old files.new
         (OthersStay lock.now.path.items) }
-    ensures folders { Passes F.is_honest F.history files.old files.new SameFolders }
-    ensures kept { result ≡ commit_case.Memory → error ≡ file_case.Memory }
-    ensures memory { result ≡ commit_case.Memory
-        → F.failures files.new ≡ F.failures files.old }
+    ensures kept { IsUncommitted result → error ≡ file_case.Memory }
     ensures told { F.is_honest files.old
         → (result ≡ as_commit error) ⊎ HasRisen (F.failures files.old) (F.failures files.new) }
 {
@@ -551,14 +493,9 @@ fn unreplaced<F: Files>(alloc: Global, files: &mut F, lock: &Lock, error: FileEr
 }
 
 fn given_back<F: Files>(alloc: Global, files: &mut F, lock: &Lock) -> Result<(), CommitError>
-    ensures honest { F.is_honest files.old → F.is_honest files.new }
-    ensures later { F.failures files.old ≤ F.failures files.new }
-    ensures unfailed { OnOk result (F.failures files.new ≡ F.failures files.old) }
-    ensures memory { IsErrOf result commit_case.Memory
-        → F.failures files.new ≡ F.failures files.old }
+    ensures keeps { KeepsFolders F.Files (EndsQuietly IsUncommitted result) files.old files.new }
     ensures moments { Passes F.is_honest F.history files.old files.new
         (OthersStay lock.now.path.items) }
-    ensures folders { Passes F.is_honest F.history files.old files.new SameFolders }
     ensures failed { F.is_honest files.old
         → IsTrue (is_file_at (F.history files.old).tree lock.now.path.items)
         → IfErr result (λ error.

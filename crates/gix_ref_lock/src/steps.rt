@@ -1,10 +1,11 @@
 //! The steps in which moves are made: first all updates, then removals of logs, then of files.
 
-ghost use Rattle.std.specs.Prelude.{◌≡◌, ◌≤◌, ◌⊎◌, IfErr, IsTrue, OnOk};
+ghost use Rattle.std.specs.Prelude.{IsTrue};
 ghost use Rattle.std.specs.List.{AllByRecursion};
 ghost use Rattle.gix_ref_file.specs.Changes.{is_file_at};
-ghost use Rattle.gix_ref_file.specs.Calls.{Achieves, HasFault, Passes};
-ghost use Rattle.gix_ref_way.specs.Ways.{FoldersOnlyOf, SameFolders};
+ghost use Rattle.gix_ref_file.specs.Calls.{Achieves, Passes};
+ghost use Rattle.gix_ref_way.specs.Ways.{FoldersOnlyOf};
+ghost use Rattle.gix_ref_lock.specs.Calls.{FailsByFault, EndsQuietly, KeepsFolders, StaysHonest};
 ghost use Rattle.gix_ref_lock.specs.Contents.{contents, forgotten, gone, lock_path_of, removed, updated};
 ghost use Rattle.gix_ref_lock.specs.Moments.{AreApart, Has, IsForgetting, IsGoing, IsGone, IsMaking, IsRemoving, IsUpdating, MayGo, MayMove, made_by};
 ghost use Rattle.gix_ref_lock.specs.Moves.{AllHave, AllMay, Once, all_paths, paths_of};
@@ -32,11 +33,7 @@ pub(crate) fn make_all<F: Files>(
     step: Step,
     moves: &[Move],
 ) -> Result<(), CommitError>
-    ensures honest { F.is_honest files.old → F.is_honest files.new }
-    ensures later { F.failures files.old ≤ F.failures files.new }
-    ensures unfailed { OnOk result (F.failures files.new ≡ F.failures files.old) }
-    ensures memory { IfErr result (λ error. IsOutOfMemory error
-        → F.failures files.new ≡ F.failures files.old) }
+    ensures keeps { StaysHonest F.Files (EndsQuietly IsOutOfMemory result) files.old files.new }
     ensures moments { Once (all_paths moves.now)
         → Passes F.is_honest F.history files.old files.new (AllMay (IsMaking step) moves.now) }
     ensures made { Once (all_paths moves.now)
@@ -47,8 +44,7 @@ pub(crate) fn make_all<F: Files>(
     ensures failed { Once (all_paths moves.now) → AreBeside (all_paths moves.now)
         → F.is_honest files.old
         → AllByRecursion (λ m. Needs step m (F.history files.old).tree) moves.now
-        → IfErr result (λ error.
-        IsOutOfMemory error ⊎ HasFault F.failures F.reading_may_fail files.old files.new) }
+        → FailsByFault F.Files IsOutOfMemory files.old files.new result }
 {
     let mut rest = moves;
     'moves: while let Some((first, others)) = rest.split_first() {
@@ -59,11 +55,7 @@ pub(crate) fn make_all<F: Files>(
 }
 
 fn make<F: Files>(alloc: Global, files: &mut F, step: Step, made: &Move) -> Result<(), CommitError>
-    ensures honest { F.is_honest files.old → F.is_honest files.new }
-    ensures later { F.failures files.old ≤ F.failures files.new }
-    ensures unfailed { OnOk result (F.failures files.new ≡ F.failures files.old) }
-    ensures memory { IfErr result (λ error. IsOutOfMemory error
-        → F.failures files.new ≡ F.failures files.old) }
+    ensures keeps { StaysHonest F.Files (EndsQuietly IsOutOfMemory result) files.old files.new }
     ensures moments { AreApart made.now
         → Passes F.is_honest F.history files.old files.new (MayMove (IsMaking step) made.now) }
     ensures made { AreApart made.now
@@ -72,8 +64,7 @@ fn make<F: Files>(alloc: Global, files: &mut F, step: Step, made: &Move) -> Resu
         (FoldersOnlyOf (logs_of made.now)) }
     ensures failed { AreApart made.now → AreBeside (paths_of made.now) → F.is_honest files.old
         → Needs step made.now (F.history files.old).tree
-        → IfErr result (λ error.
-        IsOutOfMemory error ⊎ HasFault F.failures F.reading_may_fail files.old files.new) }
+        → FailsByFault F.Files IsOutOfMemory files.old files.new result }
 {
     match step {
         Step::Update => update(alloc, files, made),
@@ -83,11 +74,7 @@ fn make<F: Files>(alloc: Global, files: &mut F, step: Step, made: &Move) -> Resu
 }
 
 fn update<F: Files>(alloc: Global, files: &mut F, made: &Move) -> Result<(), CommitError>
-    ensures honest { F.is_honest files.old → F.is_honest files.new }
-    ensures later { F.failures files.old ≤ F.failures files.new }
-    ensures unfailed { OnOk result (F.failures files.new ≡ F.failures files.old) }
-    ensures memory { IfErr result (λ error. IsOutOfMemory error
-        → F.failures files.new ≡ F.failures files.old) }
+    ensures keeps { StaysHonest F.Files (EndsQuietly IsOutOfMemory result) files.old files.new }
     ensures moments { AreApart made.now
         → Passes F.is_honest F.history files.old files.new (MayMove IsUpdating made.now) }
     ensures made { AreApart made.now
@@ -96,8 +83,7 @@ fn update<F: Files>(alloc: Global, files: &mut F, made: &Move) -> Result<(), Com
         (FoldersOnlyOf (logs_of made.now)) }
     ensures failed { AreApart made.now → AreBeside (paths_of made.now) → F.is_honest files.old
         → CanMove made.now (F.history files.old).tree
-        → IfErr result (λ error.
-        IsOutOfMemory error ⊎ HasFault F.failures F.reading_may_fail files.old files.new) }
+        → FailsByFault F.Files IsOutOfMemory files.old files.new result }
 {
     match &made.act {
         Act::Put(line) => {
@@ -114,19 +100,13 @@ fn update<F: Files>(alloc: Global, files: &mut F, made: &Move) -> Result<(), Com
 }
 
 fn forget<F: Files>(alloc: Global, files: &mut F, made: &Move) -> Result<(), CommitError>
-    ensures honest { F.is_honest files.old → F.is_honest files.new }
-    ensures later { F.failures files.old ≤ F.failures files.new }
-    ensures unfailed { OnOk result (F.failures files.new ≡ F.failures files.old) }
-    ensures memory { IfErr result (λ error. IsOutOfMemory error
-        → F.failures files.new ≡ F.failures files.old) }
+    ensures keeps { KeepsFolders F.Files (EndsQuietly IsOutOfMemory result) files.old files.new }
     ensures moments { AreApart made.now
         → Passes F.is_honest F.history files.old files.new (MayMove IsForgetting made.now) }
     ensures made { AreApart made.now
         → Achieves F.is_honest F.history files.old files.new result (Has forgotten made.now) }
-    ensures folders { Passes F.is_honest F.history files.old files.new SameFolders }
     ensures failed { F.is_honest files.old
-        → IfErr result (λ error.
-        IsOutOfMemory error ⊎ HasFault F.failures F.reading_may_fail files.old files.new) }
+        → FailsByFault F.Files IsOutOfMemory files.old files.new result }
 {
     match &made.act {
         Act::Put(_) | Act::Note(_) | Act::Pack(_) => Ok(()),
@@ -137,20 +117,14 @@ fn forget<F: Files>(alloc: Global, files: &mut F, made: &Move) -> Result<(), Com
 }
 
 fn remove<F: Files>(alloc: Global, files: &mut F, made: &Move) -> Result<(), CommitError>
-    ensures honest { F.is_honest files.old → F.is_honest files.new }
-    ensures later { F.failures files.old ≤ F.failures files.new }
-    ensures unfailed { OnOk result (F.failures files.new ≡ F.failures files.old) }
-    ensures memory { IfErr result (λ error. IsOutOfMemory error
-        → F.failures files.new ≡ F.failures files.old) }
+    ensures keeps { KeepsFolders F.Files (EndsQuietly IsOutOfMemory result) files.old files.new }
     ensures moments { AreApart made.now
         → Passes F.is_honest F.history files.old files.new (MayMove IsRemoving made.now) }
     ensures made { AreApart made.now
         → Achieves F.is_honest F.history files.old files.new result (Has removed made.now) }
-    ensures folders { Passes F.is_honest F.history files.old files.new SameFolders }
     ensures failed { AreApart made.now → F.is_honest files.old
         → KeepsLock made.now.act (contents made.now (F.history files.old).tree)
-        → IfErr result (λ error.
-        IsOutOfMemory error ⊎ HasFault F.failures F.reading_may_fail files.old files.new) }
+        → FailsByFault F.Files IsOutOfMemory files.old files.new result }
 {
     match &made.act {
         Act::Put(_) | Act::Note(_) => Ok(()),
@@ -162,20 +136,14 @@ fn remove<F: Files>(alloc: Global, files: &mut F, made: &Move) -> Result<(), Com
 
 // Removes the file, if it exists, and then gives its lock back.
 fn remove_locked<F: Files>(alloc: Global, files: &mut F, made: &Move) -> Result<(), CommitError>
-    ensures honest { F.is_honest files.old → F.is_honest files.new }
-    ensures later { F.failures files.old ≤ F.failures files.new }
-    ensures unfailed { OnOk result (F.failures files.new ≡ F.failures files.old) }
-    ensures memory { IfErr result (λ error. IsOutOfMemory error
-        → F.failures files.new ≡ F.failures files.old) }
+    ensures keeps { KeepsFolders F.Files (EndsQuietly IsOutOfMemory result) files.old files.new }
     ensures moments { AreApart made.now
         → Passes F.is_honest F.history files.old files.new (MayMove IsGoing made.now) }
     ensures made { AreApart made.now
         → Achieves F.is_honest F.history files.old files.new result (Has gone made.now) }
-    ensures folders { Passes F.is_honest F.history files.old files.new SameFolders }
     ensures failed { AreApart made.now → F.is_honest files.old
         → IsTrue (is_file_at (F.history files.old).tree (lock_path_of made.now))
-        → IfErr result (λ error.
-        IsOutOfMemory error ⊎ HasFault F.failures F.reading_may_fail files.old files.new) }
+        → FailsByFault F.Files IsOutOfMemory files.old files.new result }
 {
     remove_file(alloc, files, &made.lock.place, CommitError::DeleteReference)?;
     told(made.lock.give_back(alloc, files), CommitError::LockCommit)
@@ -188,17 +156,12 @@ fn remove_file<F: Files>(
     path: &[u8],
     why: CommitError,
 ) -> Result<(), CommitError>
-    ensures honest { F.is_honest files.old → F.is_honest files.new }
-    ensures later { F.failures files.old ≤ F.failures files.new }
-    ensures unfailed { OnOk result (F.failures files.new ≡ F.failures files.old) }
-    ensures memory { ¬ IsOutOfMemory why → IfErr result (λ error. IsOutOfMemory error
-        → F.failures files.new ≡ F.failures files.old) }
+    ensures keeps { KeepsFolders F.Files
+        (EndsQuietly (λ error. (¬ IsOutOfMemory why) × IsOutOfMemory error) result) files.old files.new }
     ensures moments { Passes F.is_honest F.history files.old files.new (MayGo path.now) }
     ensures gone { Achieves F.is_honest F.history files.old files.new result (IsGone path.now) }
-    ensures folders { Passes F.is_honest F.history files.old files.new SameFolders }
     ensures failed { F.is_honest files.old
-        → IfErr result (λ error.
-        IsOutOfMemory error ⊎ HasFault F.failures F.reading_may_fail files.old files.new) }
+        → FailsByFault F.Files IsOutOfMemory files.old files.new result }
 {
     match files.kind_of(path) {
         Ok(Place::File(_)) => told(files.remove_file(alloc, path), why),

@@ -7,3 +7,9 @@ pub mod LogFound
 pub mod LogPlace
 pub mod LogBackward
 pub mod LogReverse
+pub use Rattle.bstr.specs.BStr
+pub use Rattle.gix_hash.specs.Id
+pub use Rattle.gix_hash.specs.Views
+pub use Rattle.gix_object_lines.specs.Bytes
+pub use Rattle.gix_object_lines.specs.HexLine
+pub use Rattle.gix_ref_file.specs.Tree

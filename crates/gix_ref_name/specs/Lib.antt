@@ -5,3 +5,7 @@ pub mod Kinds
 pub mod Namespaces
 pub mod Targets
 pub mod Composed
+pub use Rattle.bstr.specs.BStr
+pub use Rattle.gix_hash.specs.Id
+pub use Rattle.gix_hash.specs.Views
+pub use Rattle.gix_object_lines.specs.NameTest

@@ -1,11 +1,14 @@
 -- What names that a listing wants have in common.
-use Rattle.std.proofs.Common.{◌≡◌, ◌∙◌, sym, ap, subst, refl, inl, inr, ◌⊎◌, ℕ, Bool, true, false, ◌&&◌, ◌||◌, List, [], ◌∷◌, ◌++◌, append-nil, append_assoc, length}
-use Rattle.std.specs.Prelude.{IsTrue, codes, bytes_eq, drop, if◌then◌else◌}
+use Rattle.std.proofs.Common.{◌≡◌, ◌<◌, ◌∙◌, sym, ap, subst, refl, inl, inr, ◌⊎◌, ℕ, Bool, true, false, ◌&&◌, ◌||◌, List, [], ◌∷◌, ◌++◌, Option, Some, None, append-nil, append_assoc, length, arith}
+use Rattle.std.specs.Prelude.{IsTrue, IsFalse, IfSome, MatchOption, codes, bytes_eq, drop, if◌then◌else◌}
 use Rattle.std.proofs.lemmas.Slice.Eq.{bytes_eq-Decides}
+use Rattle.std.specs.List.{after_last}
 use Rattle.std.proofs.Math.Seq.{drop-append_seam}
-use Rattle.gix_object_lines.specs.NameTest.{begins, ends}
+use Rattle.gix_object_lines.specs.NameTest.{begins, ends, is_full_name}
 use Rattle.gix_object_lines.proofs.NameTests.{begins-Decides}
 use Rattle.gix_ref_name.proofs.FrontLemmas.{begins_some}
+use Rattle.gix_ref_file.specs.Tree.{is_slash, parent}
+use Rattle.gix_ref_file.proofs.Below.{path_in_folder}
 use Rattle.gix_ref_store.specs.Asks.{fits, is_asked, leads}
 use Rattle.gix_ref_store.specs.Folders.{is_below}
 use Rattle.gix_ref_store.specs.Known.{known_as, is_known}
@@ -38,6 +41,19 @@ asked_front asked name so = by_whole asked.is_whole (and_parts (fits asked name)
     by_whole true h = within_front asked.front.now name h
     by_whole false h = h
 
+pub some_bytes : (text : List ℕ) → (length text ≡ 0 → ⊥) → 0 < length text
+some_bytes [] some = absurd (some refl)
+some_bytes (byte ∷ text) some = omega arith
+
+-- what begins with a path is in the path's folder
+pub in_folder : (path name : List ℕ) → 0 < length (parent path) → IsTrue (begins path name) → IsTrue (begins (parent path ++ 47 ∷ []) name)
+in_folder path name some so =
+    let folder = parent path in
+    let last = after_last is_slash path in
+    let b = (begins-Decides path name).0 so in
+    begins_some (folder ++ 47 ∷ []) name (last ++ b.0)
+    (b.1 ∙ ap (λ p. p ++ b.0) (path_in_folder path some) ∙ append_assoc folder (47 ∷ last) b.0 ∙ sym (append_assoc folder (47 ∷ []) (last ++ b.0)))
+
 pub asked_refs : (asked : Asked) → HasFront (codes "refs/") (is_asked asked)
 asked_refs asked name so = (and_parts (begins (codes "refs/") name) (fits asked name && is_known asked.composes name) so).0
 
@@ -48,6 +64,27 @@ asked_fits asked name so = (and_parts (fits asked name) (is_known asked.composes
 pub asked_known : (asked : Asked) (name : List ℕ) → IsTrue (is_asked asked name) → known_as asked.composes name ≡ name
 asked_known asked name so =
     (bytes_eq-Decides (known_as asked.composes name) name).0 (and_parts (fits asked name) (is_known asked.composes name) (and_parts (begins (codes "refs/") name) (fits asked name && is_known asked.composes name) so).1).1
+
+pub asked_from : (asked : Asked) (name : List ℕ) → begins (codes "refs/") name ≡ true → fits asked name ≡ true → known_as asked.composes name ≡ name → IsTrue (is_asked asked name)
+asked_from asked name refs fit known =
+    and_from (begins (codes "refs/") name) (fits asked name && is_known asked.composes name) refs (and_from (fits asked name) (is_known asked.composes name) fit ((bytes_eq-Decides (known_as asked.composes name) name).1 known))
+
+-- a name of these bytes, if they are a full one
+module _ (bytes : List ℕ) where
+  abbrev pub IsNameOf : Option (List ℕ) → Type 0
+  IsNameOf found = MatchOption found (IsFalse (is_full_name bytes)) (λ name. (name ≡ bytes) × IsTrue (is_full_name bytes))
+
+  pub full_of : (found : Option (List ℕ)) → IsNameOf found → IfSome found (λ name. IsTrue (is_full_name name))
+  full_of None none = tt
+  full_of (Some name) (same, full) = subst (λ n. IsTrue (is_full_name n)) (sym same) full
+
+  pub asked_of : (asked : List ℕ → Bool) (found : Option (List ℕ)) → IsNameOf found → IsTrue (asked bytes) → IfSome found (λ name. IsTrue (asked name))
+  asked_of asked None none so = tt
+  asked_of asked (Some name) (same, full) so = subst (λ n. IsTrue (asked n)) (sym same) so
+
+  pub found_of : (found : Option (List ℕ)) → IsNameOf found → IsTrue (is_full_name bytes) → found ≡ Some bytes
+  found_of None none full = absurd (cc (sym none ∙ full))
+  found_of (Some name) (same, full) also = ap (λ n. Some n) same
 
 -- ---- where wanted names may be
 

@@ -16,15 +16,15 @@ use Rattle.gix_ref_format.specs.Packed.{Record}
 use Rattle.gix_ref_format.specs.PackedBuffer.{hit}
 use Rattle.std.proofs.lemmas.Bool.{and_parts}
 
--- ---- all names below `refs/`
-pub gathers_all : (tree : Tree) (base : List ℕ) (asked : List ℕ → Bool) (names : List (List ℕ)) → HasFront (codes "refs/") asked → GathersBelow tree base asked (codes "refs") names → Gathers tree base asked names
-gathers_all tree base asked names refs gathers name it =
-    let b = (begins-Decides (codes "refs/") name).0 (refs name it.asked_for) in
-    gathers name b.0 (ap (under base) b.1 ∙ at_base base b.0) it
+-- ---- all names in a folder
+pub gathers_all : (tree : Tree) (base : List ℕ) (asked : List ℕ → Bool) (folder : List ℕ) (names : List (List ℕ)) → HasFront (folder ++ 47 ∷ []) asked → GathersBelow tree base asked folder names → Gathers tree base asked names
+gathers_all tree base asked folder names front gathers name it =
+    let b = (begins-Decides (folder ++ 47 ∷ []) name).0 (front name it.asked_for) in
+    gathers name b.0 (ap (under base) (b.1 ∙ append_assoc folder (47 ∷ []) b.0) ∙ at_base base b.0) it
   where
-    at_base : (base rest : List ℕ) → under base (codes "refs/" ++ rest) ≡ under base (codes "refs") ++ 47 ∷ rest
+    at_base : (base rest : List ℕ) → under base (folder ++ 47 ∷ rest) ≡ under base folder ++ 47 ∷ rest
     at_base [] rest = refl
-    at_base (x ∷ base) rest = sym (append_assoc (x ∷ base) (47 ∷ codes "refs") (47 ∷ rest))
+    at_base (x ∷ base) rest = sym (append_assoc (x ∷ base) (47 ∷ folder) (47 ∷ rest))
 
 -- the place of a name below `refs/`
 place_refs : (b : Base) (rest : List ℕ) → (place b (codes "refs/" ++ rest) ≡ under b.git (codes "refs/" ++ rest)) ⊎ (place b (codes "refs/" ++ rest) ≡ under b.common (codes "refs/" ++ rest))

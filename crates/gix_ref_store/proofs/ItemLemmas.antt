@@ -1,25 +1,29 @@
 -- One step of a listing.
-use Rattle.std.proofs.Common.{◌≡◌, ◌⊎◌, inl, inr, ℕ, Bool, true, false, cond, List, [], ◌∷◌, ◌++◌, map, Option, Some, None, refl, sym, ◌∙◌, ap, subst}
+use Rattle.std.proofs.Common.{◌≡◌, ◌⊎◌, inl, inr, ℕ, Bool, true, false, cond, List, [], ◌∷◌, ◌++◌, Option, Some, None, refl, sym, ◌∙◌, ap, subst}
 use Rattle.std.specs.Prelude.{Result, Ok, Err, IsTrue, IsSome, codes, option_and_then}
 use Rattle.std.specs.Borrow.{Bor}
-use Rattle.std.specs.List.{filter}
+use Rattle.std.specs.List.Sorted.{IsStrictlySortedBy}
+use Rattle.std.specs.Map.{keys_of}
 use Rattle.gix_object_lines.specs.NameTest.{begins}
 use Rattle.gix_object_lines.proofs.NameTests.{begins-Decides}
-use Rattle.gix_ref_file.specs.Tree.{Tree}
+use Rattle.gix_ref_file.specs.Tree.{Tree, path_cmp}
 use Rattle.gix_ref_format.specs.Packed.{Record}
 use Rattle.gix_ref_format.specs.PackedBuffer.{hit}
 use Rattle.gix_ref_format.specs.Lookup.{packed_hit, packed_key, is_own}
 use Rattle.gix_ref_format.specs.declared.packed.buffer.Buffer.{Buffer}
-use Rattle.gix_ref_store.specs.RefStates.{RefState, Stands, Absent, Faulty, Met, state_among}
+use Rattle.gix_ref_store.specs.RefStates.{RefState, Stands, Absent, Faulty, Met, packed_state, state_among}
 use Rattle.gix_ref_store.specs.Finds.{records_in, TellsState}
 use Rattle.gix_ref_store.specs.Searches.{reads_in}
 use Rattle.gix_ref_store.specs.Items.{is_there, met_by, mets_of, left_in, GivesNext, TellsName}
+use Rattle.gix_ref_store.specs.OwnFiles.{Listed, KnowsFiles, state_by}
 use Rattle.gix_ref_store.specs.Listings.{IsListing}
 use Rattle.gix_ref_store.specs.Stores.{base_of}
 use Rattle.gix_ref_store.specs.Walks.{Keeps, GathersPlaces}
 use Rattle.gix_ref_store.specs.Places.{Base}
 use Rattle.gix_ref_store.specs.declared.reference.Reference.{Reference}
 use Rattle.gix_ref_store.specs.declared.store.file.Store.{Store}
+use Rattle.gix_ref_store.specs.declared.store.file.own.OwnFile.{OwnFile}
+use Rattle.gix_ref_store.proofs.ListingLemmas.{name_mets, same_mets}
 use Rattle.gix_ref_store.specs.declared.store.file.iter.Error.{Error}
 use Rattle.gix_ref_store.specs.declared.store.file.iter.Error.TheVariants.{Traversal, ReadFileContents, ReferenceCreation, Memory}
 use Rattle.gix_ref_store.specs.declared.store.file.iter.LooseThenPacked.{LooseThenPacked}
@@ -29,30 +33,36 @@ not_there Absent is = refl
 not_there (Stands points peeled) is = cc
 not_there (Faulty why) is = cc
 
-module _ (read : List ℕ → RefState) (n : List ℕ) (rest : List (List ℕ)) where
-  is_next : is_there (read n) ≡ true → mets_of read (n ∷ rest) ≡ met_by read n ∷ mets_of read rest
-  is_next is = ap (λ b. map (met_by read) (cond b (n ∷ filter (λ name. is_there (read name)) rest) (filter (λ name. is_there (read name)) rest))) is
+-- what a name reads as, by what is known of its own file
+abbrev pub reads_by : (List ℕ → RefState) → List Record → List ℕ × OwnFile → RefState
+reads_by read records e = state_by e.1 (read e.0) (packed_state (packed_hit records e.0))
 
-  is_over : is_there (read n) ≡ false → mets_of read (n ∷ rest) ≡ mets_of read rest
-  is_over is = ap (λ b. map (met_by read) (cond b (n ∷ filter (λ name. is_there (read name)) rest) (filter (λ name. is_there (read name)) rest))) is
+module _ (read : List ℕ → RefState) (records : List Record) (e : List ℕ × OwnFile) (rest : Listed) where
+  is_next : is_there (reads_by read records e) ≡ true → mets_of read records (e ∷ rest) ≡ met_by read records e ∷ mets_of read records rest
+  is_next is = ap (λ b. cond b (met_by read records e ∷ mets_of read records rest) (mets_of read records rest)) is
+
+  is_over : is_there (reads_by read records e) ≡ false → mets_of read records (e ∷ rest) ≡ mets_of read records rest
+  is_over is = ap (λ b. cond b (met_by read records e ∷ mets_of read records rest) (mets_of read records rest)) is
 
   -- an absent one is passed over
-  pub passed_over : TellsName n (read n) None → mets_of read (n ∷ rest) ≡ mets_of read rest
+  pub passed_over : TellsName e.0 (read e.0) (reads_by read records e) None → mets_of read records (e ∷ rest) ≡ mets_of read records rest
   passed_over absent = is_over (ap is_there absent)
 
   -- another is given
-  pub given : (item : Result Reference Error) → TellsName n (read n) (Some item) → GivesNext read (mets_of read (n ∷ rest)) (Some item) (mets_of read rest)
-  given (Ok r) (same, reads) = is_next (ap is_there reads) ∙ (λ i. record { name = same i; ref_state = reads i } ∷ mets_of read rest)
-  given (Err (ReferenceCreation name reason)) (same, reads) = is_next (ap is_there reads) ∙ (λ i. record { name = same i; ref_state = reads i } ∷ mets_of read rest)
-  given (Err (ReadFileContents name)) same = by_case (is_there (read n)) refl
+  pub given : (item : Result Reference Error) → TellsName e.0 (read e.0) (reads_by read records e) (Some item)
+      → GivesNext read (mets_of read records (e ∷ rest)) (Some item) (mets_of read records rest)
+  given (Ok r) (same, reads) = is_next (ap is_there reads) ∙ (λ i. record { name = same i; ref_state = reads i } ∷ mets_of read records rest)
+  given (Err (ReferenceCreation name reason)) (same, reads) = is_next (ap is_there reads) ∙ (λ i. record { name = same i; ref_state = reads i } ∷ mets_of read records rest)
+  given (Err (ReadFileContents name)) (same, reads) = by_case (is_there (reads_by read records e)) refl
     where
-      by_case : (b : Bool) → is_there (read n) ≡ b → ((read name ≡ Absent) × (mets_of read (n ∷ rest) ≡ mets_of read rest)) ⊎ ((r : RefState) × (mets_of read (n ∷ rest) ≡ record { name = name; ref_state = r } ∷ mets_of read rest))
-      by_case true is = inr (read n, is_next is ∙ (λ i. record { name = same i; ref_state = read n } ∷ mets_of read rest))
-      by_case false is = inl (sym (ap read same) ∙ not_there (read n) is, is_over is)
-  given (Err Memory) told = by_case (is_there (read n)) refl
+      by_case : (b : Bool) → is_there (reads_by read records e) ≡ b
+          → ((read name ≡ Absent) × (mets_of read records (e ∷ rest) ≡ mets_of read records rest)) ⊎ ((r : RefState) × (mets_of read records (e ∷ rest) ≡ record { name = name; ref_state = r } ∷ mets_of read records rest))
+      by_case true is = inr (reads_by read records e, is_next is ∙ (λ i. record { name = same i; ref_state = reads_by read records e } ∷ mets_of read records rest))
+      by_case false is = inl (sym (ap read same) ∙ sym reads ∙ not_there (reads_by read records e) is, is_over is)
+  given (Err Memory) told = by_case (is_there (reads_by read records e)) refl
     where
-      by_case : (b : Bool) → is_there (read n) ≡ b → (mets_of read (n ∷ rest) ≡ mets_of read rest) ⊎ ((met : Met) × (mets_of read (n ∷ rest) ≡ met ∷ mets_of read rest))
-      by_case true is = inr (met_by read n, is_next is)
+      by_case : (b : Bool) → is_there (reads_by read records e) ≡ b → (mets_of read records (e ∷ rest) ≡ mets_of read records rest) ⊎ ((met : Met) × (mets_of read records (e ∷ rest) ≡ met ∷ mets_of read records rest))
+      by_case true is = inr (met_by read records e, is_next is)
       by_case false is = inl (is_over is)
   given (Err Traversal) told = told
 
@@ -61,13 +71,14 @@ pub gives_from : (read : List ℕ → RefState) (before left after : List Met) (
 gives_from read before left after item is gives = subst (λ (l : List Met). GivesNext read l item after) is gives
 
 -- ---- what a listing is made of
-pub of_items : {F : Type 0} (tree : Tree) (asked : List ℕ → Bool) (store : Store F) (packed : Option (Bor Buffer)) (names : List (List ℕ)) (items : LooseThenPacked F)
-    → items.search.store.now ≡ store → items.search.packed ≡ packed → items.names ≡ names
-    → IsListing (state_among (base_of store) tree (records_in packed)) asked (mets_of (state_among (base_of store) tree (records_in packed)) names)
+pub of_items : {F : Type 0} (tree : Tree) (asked : List ℕ → Bool) (store : Store F) (packed : Option (Bor Buffer)) (listed : Listed) (items : LooseThenPacked F)
+    → items.search.store.now ≡ store → items.search.packed ≡ packed → items.names ≡ listed → IsStrictlySortedBy path_cmp (keys_of listed) → KnowsFiles (base_of store) tree listed
+    → IsListing (state_among (base_of store) tree (records_in packed)) asked (name_mets (state_among (base_of store) tree (records_in packed)) (keys_of listed))
     → IsListing (state_among (base_of store) tree (records_in packed)) asked (left_in tree items)
-of_items tree asked store packed names items s p n listing =
+of_items tree asked store packed listed items s p n order knows listing =
+    let left : left_in tree items ≡ mets_of (state_among (base_of store) tree (records_in packed)) (records_in packed) listed = λ i. mets_of (state_among (base_of (s i)) tree (records_in (p i))) (records_in (p i)) (n i) in
     subst (λ (out : List Met). IsListing (state_among (base_of store) tree (records_in packed)) asked out)
-    (λ i. mets_of (state_among (base_of (sym s i)) tree (records_in (sym p i))) (sym n i)) listing
+    (sym (left ∙ same_mets (base_of store) tree (records_in packed) listed order knows)) listing
 
 pub still_places : (b : Base) (tree : Tree) (asked : List ℕ → Bool) (old new : List (List ℕ)) → Keeps old new → GathersPlaces b tree asked old → GathersPlaces b tree asked new
 still_places b tree asked old new keeps gathers name file full so = keeps name (gathers name file full so)
@@ -93,18 +104,21 @@ no_record name is = by_key (packed_key name) is
     by_key (Some k) h = cc
 
 -- ---- one call of `next`
-pub step : {F : Type 0} (tree : Tree) (start now : LooseThenPacked F) (name : List ℕ) (rest : List (List ℕ)) (item : Result Reference Error) → now.search ≡ start.search → now.names ≡ name ∷ rest → left_in tree now ≡ left_in tree start
-    → TellsName name (reads_in tree start.search name) (Some item) → GivesNext (reads_in tree start.search) (left_in tree start) (Some item) (left_in {F = F} tree (record { search = now.search; names = rest }))
-step {F} tree start now name rest item same names left told =
-    let after = left_in {F = F} tree (record { search = now.search; names = rest }) in
-    gives_from (reads_in tree start.search) (left_in tree start) (left_in tree now) after (Some item) left
-    (subst (λ s. GivesNext (reads_in tree s) (left_in tree now) (Some item) after) same
-    (subst (λ (ns : List (List ℕ)). GivesNext (reads_in tree now.search) (mets_of (reads_in tree now.search) ns) (Some item) (mets_of (reads_in tree now.search) rest)) (sym names)
-    (given (reads_in tree now.search) name rest item (subst (λ s. TellsName name (reads_in tree s name) (Some item)) (sym same) told))))
+pub told_found : (name : List ℕ) (read r : RefState) (found : Reference) → TellsState name r (Ok (Some found)) → TellsName name read r (Some (Ok found))
+told_found name read r found (same, reads) = (sym same, reads)
 
-pub told_found : (name : List ℕ) (r : RefState) (found : Reference) → TellsState name r (Ok (Some found)) → TellsName name r (Some (Ok found))
-told_found name r found (same, reads) = (sym same, reads)
+module _ {F : Type 0} (tree : Tree) where
+  pub step : (start now : LooseThenPacked F) (e : List ℕ × OwnFile) (rest : Listed) (item : Result Reference Error) → now.search ≡ start.search → now.names ≡ e ∷ rest → left_in tree now ≡ left_in tree start
+      → TellsName e.0 (reads_in tree start.search e.0) (reads_by (reads_in tree start.search) (records_in start.search.packed) e) (Some item)
+      → GivesNext (reads_in tree start.search) (left_in tree start) (Some item) (left_in {F = F} tree (record { search = now.search; names = rest }))
+  step start now e rest item same names left told =
+      let after = left_in {F = F} tree (record { search = now.search; names = rest }) in
+      gives_from (reads_in tree start.search) (left_in tree start) (left_in tree now) after (Some item) left
+      (subst (λ s. GivesNext (reads_in tree s) (left_in tree now) (Some item) after) same
+      (subst (λ (ns : Listed). GivesNext (reads_in tree now.search) (mets_of (reads_in tree now.search) (records_in now.search.packed) ns) (Some item) (mets_of (reads_in tree now.search) (records_in now.search.packed) rest)) (sym names)
+      (given (reads_in tree now.search) (records_in now.search.packed) e rest item (subst (λ s. TellsName e.0 (reads_in tree s e.0) (reads_by (reads_in tree s) (records_in s.packed) e) (Some item)) (sym same) told))))
 
-pub left_on : {F : Type 0} (tree : Tree) (now : LooseThenPacked F) (name : List ℕ) (rest : List (List ℕ)) → now.names ≡ name ∷ rest → TellsName name (reads_in tree now.search name) None
-    → left_in {F = F} tree (record { search = now.search; names = rest }) ≡ left_in tree now
-left_on tree now name rest names told = sym (ap (mets_of (reads_in tree now.search)) names ∙ passed_over (reads_in tree now.search) name rest told)
+  pub left_on : (now : LooseThenPacked F) (e : List ℕ × OwnFile) (rest : Listed) → now.names ≡ e ∷ rest → TellsName e.0 (reads_in tree now.search e.0) (reads_by (reads_in tree now.search) (records_in now.search.packed) e) None
+      → left_in {F = F} tree (record { search = now.search; names = rest }) ≡ left_in tree now
+  left_on now e rest names told =
+      sym (ap (mets_of (reads_in tree now.search) (records_in now.search.packed)) names ∙ passed_over (reads_in tree now.search) (records_in now.search.packed) e rest told)

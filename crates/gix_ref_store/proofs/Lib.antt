@@ -2,6 +2,7 @@ pub mod Homes
 pub mod MetLemmas
 pub mod AskLemmas
 pub mod Among
+pub mod FileLemmas
 pub mod NameSets
 pub mod Descents
 pub mod WalkSteps

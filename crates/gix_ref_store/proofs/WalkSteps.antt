@@ -1,16 +1,13 @@
 -- What one name of a folder adds to a walk below it.
-use Rattle.std.proofs.Common.{◌≡◌, ◌⊎◌, inl, inr, ℕ, Vec, ◌+◌, ◌<◌, ◌≤◌, Bool, true, false, ◌&&◌, List, [], ◌∷◌, ◌++◌, length, map, Option, Some, None, refl, sym, ◌∙◌, ap, subst, arith, length-append, append_assoc}
-use Rattle.std.specs.Prelude.{IsTrue, IsSome, is_some, nat_le, nat_lt, codes}
+use Rattle.std.proofs.Common.{◌≡◌, ◌⊎◌, inl, inr, ℕ, Vec, ◌+◌, ◌<◌, ◌≤◌, Bool, true, false, ◌&&◌, List, [], ◌∷◌, ◌++◌, length, map, refl, sym, ◌∙◌, ap, subst, arith, length-append, append_assoc}
+use Rattle.std.specs.Prelude.{IsTrue, nat_le, nat_lt, codes}
 use Rattle.std.specs.List.{list_all, slice_split, after_last}
 use Rattle.std.specs.declared.alloc.Global.{Global}
 use Rattle.std.proofs.lemmas.Bool.Decides.{nat_tests}
 use borrow.Author.Tests.{ltb-true, ltb-false, leb-true}
-use Rattle.std.specs.FinMap.{get}
 use Rattle.std.proofs.Math.ListN.{get_or}
 use Rattle.gix_object_lines.specs.NameTest.{begins, ends, is_full_name, is_capital, is_capitals}
-use Rattle.gix_ref_file.specs.declared.files.Place.{Place}
-use Rattle.gix_ref_file.specs.declared.files.Place.TheVariants as places
-use Rattle.gix_ref_file.specs.Tree.{Tree, Node, file, folder, is_slash, is_component, is_path, parent, node_at, place_of, is_folder, bytes_of, names_at, IsRooted, max_path, under}
+use Rattle.gix_ref_file.specs.Tree.{Tree, is_slash, is_component, is_path, parent, node_at, is_folder, names_at, IsRooted, max_path, under}
 use Rattle.gix_ref_file.specs.Changes.{is_file_at}
 use Rattle.gix_ref_file.proofs.Below.{path_in_folder}
 use Rattle.gix_ref_file.proofs.Listings.{listed_stands, item_is, map_length}
@@ -93,41 +90,16 @@ folder_above tree rooted path (b ∷ place) rest some is there =
     let w = on_way tree rooted b place (length path) path rest (omega arith) is (file_stands tree path there) in
     subst (λ q. IsTrue (is_folder (node_at tree q))) w.here (rooted w.step w.there).1
 
-module _ (tree : Tree) (rooted : IsRooted tree) (base : List ℕ) (lead asked : List ℕ → Bool) (led : IsLed lead asked) (path : List ℕ) (some : 0 < length path) (kind : Place) (kind_is : IsTrue (lead path) → kind ≡ place_of (node_at tree (under base path))) (names : List (List ℕ)) where
+module _ (tree : Tree) (rooted : IsRooted tree) (base : List ℕ) (lead asked : List ℕ → Bool) (led : IsLed lead asked) (path : List ℕ) (some : 0 < length path) (names : List (List ℕ)) (there : IsTrue (is_full_name path) → IsTrue (asked path) → IsTrue (has names path)) where
   long : 0 < length (under base path)
   long = let n = nonempty base path some in omega (arith, ap length n.2)
 
-  is_file : (o : Option Node) → IsTrue (is_some (bytes_of o)) → (is_folder o ≡ false) × ((size : ℕ) × (place_of o ≡ places.File size))
-  is_file None h = absurd (cc h)
-  is_file (Some (file bytes)) h = (refl, (length bytes, refl))
-  is_file (Some folder) h = absurd (cc h)
-
-  folder_place : (o : Option Node) → IsTrue (is_folder o) → place_of o ≡ places.Folder
-  folder_place None h = absurd (cc h)
-  folder_place (Some (file bytes)) h = absurd (cc h)
-  folder_place (Some folder) h = refl
-
-  at_kind : (name : List ℕ) → IsAtOrBelow (under base name) (under base path) → HasFile tree base asked name → kind ≡ place_of (node_at tree (under base path))
-  at_kind name at it = kind_is (led path name it.asked_for (without_base base name path at))
-
-  here : (name : List ℕ) → under base name ≡ under base path → HasFile tree base asked name → (size : ℕ) × (kind ≡ places.File size)
-  here name same it =
-      let f = is_file (node_at tree (under base path)) (subst (λ p. IsTrue (is_file_at tree p)) same it.file) in
-      (f.1.0, at_kind name (inl same) it ∙ f.1.1)
-
-  below : (name rest : List ℕ) → under base name ≡ under base path ++ 47 ∷ rest → HasFile tree base asked name → kind ≡ places.Folder
-  below name rest is it = at_kind name (inr (rest, is)) it ∙ folder_place (node_at tree (under base path)) (folder_above tree rooted (under base name) (under base path) rest long is it.file)
-
-  pub with_folder : kind ≡ places.Folder → GathersBelow tree base asked path names → IsGathered tree base asked names (under base path)
-  with_folder is gathers name (inl same) it = let f = here name same it in absurd (cc (sym is ∙ f.1))
-  with_folder is gathers name (inr (rest, at)) it = gathers name rest at it
-
-  pub with_file : (size : ℕ) → kind ≡ places.File size → (IsTrue (is_full_name path) → IsTrue (asked path) → IsTrue (has names path)) → IsGathered tree base asked names (under base path)
-  with_file size is put name (inr (rest, at)) it = absurd (cc (sym is ∙ below name rest at it))
-  with_file size is put name (inl same) it = by_case (without_base base name path (inl same))
+  -- a file at the path itself
+  here : (name : List ℕ) → under base name ≡ under base path → HasFile tree base asked name → IsTrue (has names name)
+  here name same it = by_case (without_base base name path (inl same))
     where
       same_name : name ≡ path → IsTrue (has names name)
-      same_name e = subst (λ n. IsTrue (has names n)) (sym e) (put (subst (λ n. IsTrue (is_full_name n)) e it.full) (subst (λ n. IsTrue (asked n)) e it.asked_for))
+      same_name e = subst (λ n. IsTrue (has names n)) (sym e) (there (subst (λ n. IsTrue (is_full_name n)) e it.full) (subst (λ n. IsTrue (asked n)) e it.asked_for))
 
       longer : (rest : List ℕ) → name ≡ path ++ 47 ∷ rest → length (under base name) ≡ length (under base path) → ⊥
       longer rest e lengths = apart base lengths
@@ -140,9 +112,15 @@ module _ (tree : Tree) (rooted : IsRooted tree) (base : List ℕ) (lead asked : 
       by_case (inl e) = same_name e
       by_case (inr (rest, e)) = absurd (longer rest e (ap length same))
 
-  pub with_absent : kind ≡ places.Absent → IsGathered tree base asked names (under base path)
-  with_absent is name (inl same) it = let f = here name same it in absurd (cc (sym is ∙ f.1))
-  with_absent is name (inr (rest, at)) it = absurd (cc (sym is ∙ below name rest at it))
+  pub entered : GathersBelow tree base asked path names → IsGathered tree base asked names (under base path)
+  entered gathers name (inl same) it = here name same it
+  entered gathers name (inr (rest, at)) it = gathers name rest at it
+
+  -- nothing is below what is no folder
+  pub passed : (more : Bool) → (IsTrue (lead path) → IsTrue (is_folder (node_at tree (under base path))) → IsTrue more) → more ≡ false → IsGathered tree base asked names (under base path)
+  passed more enters none name (inl same) it = here name same it
+  passed more enters none name (inr (rest, at)) it =
+      absurd (cc (sym none ∙ enters (led path name it.asked_for (without_base base name path (inr (rest, at)))) (folder_above tree rooted (under base name) (under base path) rest long at it.file)))
 
 -- ---- a folder's names
 -- the path of a name that the folder lists

@@ -13,9 +13,17 @@ pub mod LogReaders
 pub mod Known
 pub mod Listings
 pub mod Asks
+pub mod OwnFiles
 pub mod Walks
 pub mod Items
 pub mod Lookups
 pub mod Pristine
 pub mod Follows
 pub mod Peels
+pub use Rattle.gix_hash.specs.Id
+pub use Rattle.gix_object_lines.specs.NameTest
+pub use Rattle.gix_ref_file.specs.Tree
+pub use Rattle.gix_ref_log.specs.LogForward
+pub use Rattle.gix_ref_log.specs.LogReverse
+pub use Rattle.gix_ref_name.specs.Names
+pub use Rattle.gix_ref_name.specs.Targets

@@ -61,7 +61,7 @@ MayTell may_fail (ReadFileContents name) = may_fail
 MayTell may_fail (ReferenceCreation name source) = Unit {0}
 MayTell may_fail Memory = Unit {0}
 
--- a walk reads folders alone
+-- a walk gives up at a folder alone: a file that can't be read is read again at its turn
 abbrev pub MayStop : Type 0 → Error → Type 0
 MayStop may_fail Traversal = may_fail
 MayStop may_fail (ReadFileContents name) = ⊥

@@ -1,7 +1,8 @@
 -- What came of giving all locks back.
-use Rattle.std.proofs.Common.{◌≡◌, ◌≢◌, ◌⊎◌, inl, inr, refl, ◌∙◌, subst, ℕ, ◌≤◌, arith}
-use Rattle.std.specs.Prelude.{Result, Ok, Err, IfErr, IsErrOf, OnOk}
+use Rattle.std.proofs.Common.{◌≡◌, ◌≢◌, ◌⊎◌, inl, inr, refl, sym, ◌∙◌, subst, ℕ, ◌≤◌, arith}
+use Rattle.std.specs.Prelude.{Result, Ok, Err, IfErr, OnOk}
 use Rattle.gix_ref_file.specs.History.{HasRisen}
+use Rattle.gix_ref_lock.specs.Calls.{EndsQuietly}
 use Rattle.gix_ref_lock.specs.GivenBacks.{worse}
 use Rattle.gix_ref_lock.specs.PackedErrors.{IsUncommitted}
 use Rattle.gix_ref_lock.specs.declared.lock.GivenBack.{GivenBack}
@@ -27,10 +28,10 @@ commit_failed P (Err packed_case.Commit) (inl p) is = p
 commit_failed P (Err packed_case.Commit) (inr short) is = absurd short
 commit_failed P (Err packed_case.Memory) h is = cc
 
-pub commit_unfailed : (P : Type 0) (r : Result (Unit {0}) PackedError) → OnOk r P → (IsErrOf r packed_case.Memory → P) → of_commit r ≢ given.Failed → P
-commit_unfailed P (Ok u) p memory none = p
-commit_unfailed P (Err packed_case.Commit) p memory none = absurd (none refl)
-commit_unfailed P (Err packed_case.Memory) p memory none = memory refl
+pub commit_quiet : (r : Result (Unit {0}) PackedError) → of_commit r ≢ given.Failed → EndsQuietly IsUncommitted r
+commit_quiet (Ok u) none = tt
+commit_quiet (Err packed_case.Commit) none = absurd (none refl)
+commit_quiet (Err packed_case.Memory) none = tt
 
 -- ---- of both
 pub both_risen : (a b c : ℕ) (one other : GivenBack) → a ≤ b → b ≤ c → (one ≡ given.Failed → HasRisen a b) → (other ≡ given.Failed → HasRisen b c) → worse one other ≡ given.Failed → HasRisen a c
@@ -71,3 +72,6 @@ pub giving_failed : (one other : GivenBack) (error : CommitError) → of_giving 
 giving_failed given.Failed other error is = inr refl
 giving_failed given.Done other error is = back_failed (worse given.Done other) error is
 giving_failed given.Memory other error is = back_failed (worse given.Memory other) error is
+
+pub none_of_done : {w : GivenBack} → w ≡ given.Done → w ≢ given.Failed
+none_of_done is failed = let wrong : given.Done ≡ given.Failed = sym is ∙ failed in cc

@@ -2,7 +2,6 @@ mod PathEnds
 mod Alikes
 mod Twice
 mod Repacked
-mod LineLemmas
 mod PathKeys
 mod KeyLines
 mod Readings
@@ -12,6 +11,7 @@ mod Faults
 mod RecordKinds
 mod Prepares
 mod Rollbacks
+mod Stores
 mod Lockings
 mod Committable
 mod Counting

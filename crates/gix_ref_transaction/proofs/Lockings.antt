@@ -35,11 +35,6 @@ place_own b e path among = Contains-append_left (place b e.name ∷ []) (lock_of
 pub lock_own : (b : Base) (e : RefEdit) → Contains (own_paths b e) (lock_of (place b e.name))
 lock_own b e = among_rest (place b e.name) (lock_of (place b e.name)) (lock_of (place b e.name) ∷ log_place b e.name ∷ []) (among_first (lock_of (place b e.name)) (log_place b e.name ∷ []))
 
-pub log_own : (b : Base) (e : RefEdit) → Contains (own_paths b e) (log_place b e.name)
-log_own b e =
-    among_rest (place b e.name) (log_place b e.name) (lock_of (place b e.name) ∷ log_place b e.name ∷ [])
-    (among_rest (lock_of (place b e.name)) (log_place b e.name) (log_place b e.name ∷ []) (among_first (log_place b e.name) []))
-
 pub places_front : (b : Base) (done rest : List RefEdit) (path : Bytes) → Contains (places_of b done) path → Contains (name_paths b (done ++ rest)) path
 places_front b [] rest path among = absurd (omega (arith, among.1))
 places_front b (d ∷ done) rest path among =

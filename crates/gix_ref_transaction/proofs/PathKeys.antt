@@ -35,9 +35,6 @@ not_own_home : (b : Base) (name : Bytes) → is_own name ≡ false → home b na
 not_own_home b name own = ap (λ c. cond {A = Home} c (record { folder = b.git; path = name }) (OfWorktree b name)) own
 
 -- ---- of names after a worktree's front
-by_rest : Bytes → Bytes → Bool → Bool → Option Bytes
-by_rest name rest own below = cond own None (cond below (Some rest) (Some name))
-
 inner : {r s : Bytes} → Some r ≡ Some s → r ≡ s
 inner e = cc
 

@@ -1,6 +1,6 @@
 -- Edits that are planned, one after another.
-use Rattle.std.proofs.Common.{◌≡◌, ◌≢◌, refl, sym, ◌∙◌, ap, subst, Bool, true, false, cond, List, [], ◌∷◌, ◌++◌, append_assoc, append-nil, length, arith, ℕ, Vec, Option, Some, None}
-use Rattle.std.specs.Prelude.{Contains, Result, Ok, Err, IfOk, IfSome, OnOk, is_some, option_map, option_copied}
+use Rattle.std.proofs.Common.{◌≡◌, refl, sym, ◌∙◌, ap, subst, Bool, true, false, cond, List, [], ◌∷◌, ◌++◌, append_assoc, append-nil, length, arith, ℕ, Vec, Option, Some, None}
+use Rattle.std.specs.Prelude.{Contains, is_some, option_map, option_copied}
 use Rattle.std.proofs.lemmas.List.Elements.{Contains-append_right}
 use Rattle.std.specs.Borrow.{Bor}
 use Rattle.std.specs.declared.alloc.Global.{Global}
@@ -22,9 +22,7 @@ use Rattle.gix_ref_store.proofs.Among.{kept_reads, none_reads}
 use Rattle.gix_ref_format.specs.PackedBuffer.{KeepsFile}
 use Rattle.gix_ref_format.specs.PackedKept.{kept}
 use Rattle.gix_ref_format.specs.declared.packed.buffer.Buffer.{Buffer}
-use Rattle.gix_ref_file.specs.declared.files.FileError.{FileError}
 use Rattle.gix_ref_lock.specs.Locks.{lock_of, OthersStay}
-use Rattle.gix_ref_lock.specs.declared.lock.Lock.{Lock}
 use Rattle.gix_ref_transaction.specs.declared.error.PrepareError.{PrepareError}
 use Rattle.gix_ref_way.specs.Ways.{Bytes, file_at, SameFiles}
 use Rattle.gix_ref_lock.specs.Contents.{lock_path_of}
@@ -51,10 +49,6 @@ keeps_same old new same path text stood = same path ∙ stood
 
 pub keeps_joined : (old mid new : Tree) → KeepsFiles old mid → KeepsFiles mid new → KeepsFiles old new
 keeps_joined old mid new first second path text stood = second path text (first path text stood)
-
--- if one file changes that didn't exist
-pub keeps_others : (lock : Bytes) (old new : Tree) → file_at old lock ≡ None → ((path : Bytes) → path ≢ lock → file_at new path ≡ file_at old path) → KeepsFiles old new
-keeps_others lock old new free others path text stood = others path (λ same. let wrong : None ≡ Some text = sym free ∙ ap (file_at old) (sym same) ∙ stood in cc) ∙ stood
 
 pub holds_on : (change : Change) (act : Act) (lock : Bytes) (old new : Tree) → KeepsFiles old new → HoldsText change act lock old → HoldsText change act lock new
 holds_on (Update log expected new) act lock old now keeps holds = λ put. keeps lock _ (holds put)
@@ -139,10 +133,6 @@ tested_alike one other same [] all = tt
 tested_alike one other same (e ∷ edits) all = (subst (IsTested e) (same e.name) all.0, tested_alike one other same edits all.1)
 
 -- ---- a lock that was made
-pub on_held : (P Q : Type 0) (r : Result Lock PrepareError) (made : Result (Option Lock) FileError) → IfOk r (λ lock. made ≡ Ok (Some lock)) → (P → Q) → IfOk made (λ found. IfSome found (λ lock. P)) → OnOk r Q
-on_held P Q (Err e) made is then taken = tt
-on_held P Q (Ok lock) made is then taken = then (subst (λ r. IfOk r (λ found. IfSome found (λ lock. P))) is taken)
-
 -- ---- records that a buffer keeps
 pub given_reads : (b : Base) (tree : Tree) (records : Option Buffer) (lent : Option (Bor Buffer)) → option_copied lent ≡ records → KeepsFile b.kind (packed_text_in b tree) (option_map kept records)
     → (name : Bytes) → state_among b tree (records_in lent) name ≡ ref_state b tree name

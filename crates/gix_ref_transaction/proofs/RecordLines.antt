@@ -9,17 +9,10 @@ use Rattle.gix_hash.specs.declared.object_id.ObjectId.{ObjectId}
 use Rattle.gix_hash.specs.declared.kind.Kind.{Kind}
 use Rattle.gix_object_lookup.specs.Table.{Table}
 use Rattle.gix_ref_file.specs.Tree.{Tree, bytes_of, node_at}
-use Rattle.gix_ref_name.specs.Targets.{Points, ToObject, ToName, target_view}
-use Rattle.gix_ref_name.specs.declared.target.Target.{Target}
-use Rattle.gix_ref_edit.specs.declared.change.Change.{Change}
-use Rattle.gix_ref_edit.specs.declared.change.Change.TheVariants.{Update, Delete}
-use Rattle.gix_ref_edit.specs.declared.change.PreviousValue.{PreviousValue}
+use Rattle.gix_ref_name.specs.Targets.{ToObject, target_view}
 use Rattle.gix_ref_edit.specs.declared.change.RefEdit.{RefEdit}
-use Rattle.gix_ref_edit.specs.declared.log.LogChange.{LogChange}
-use Rattle.gix_ref_edit.specs.declared.log.RefLog.{RefLog}
-use Rattle.gix_ref_edit.specs.declared.log.RefLog.TheVariants.{AndReference, Only}
 use Rattle.std.specs.Borrow.{Bor}
-use Rattle.gix_ref_format.specs.Lookup.{packed_key, packed_hit}
+use Rattle.gix_ref_format.specs.Lookup.{packed_key}
 use Rattle.gix_ref_format.specs.Packed.{Record}
 use Rattle.gix_ref_format.specs.PackedBuffer.{Keeps, KeepsFile, Holds, hit}
 use Rattle.gix_ref_format.specs.PackedKept.{IsKnownOf, kept, text_of}
@@ -39,43 +32,9 @@ use Rattle.gix_ref_lock.specs.Records.{records_in, IsTextOf, HoldsEdited}
 use Rattle.gix_ref_lock.specs.declared.lock.Lock.{Lock}
 use Rattle.gix_ref_lock.specs.declared.packed.Transaction.{Transaction}
 use Rattle.gix_ref_way.specs.Ways.{Bytes, file_at}
-use Rattle.gix_ref_transaction.specs.Repacking.{SaysOfRecord, SaysByKey, SayOfRecords, UpdatesRecord, WritesRecord, ChangesRecord, removal_line, changes_record, changes_records, HoldsRecords, AreRepacked}
+use Rattle.gix_ref_transaction.specs.Repacking.{SaysOfRecord, SayOfRecords, changes_record, changes_records, HoldsRecords, AreRepacked}
 
 -- ---- one edit
-pub says_none : (packs : Option Table) (edit : RefEdit) → packed_key edit.name ≡ None → SaysOfRecord packs edit None
-says_none packs edit is = subst (λ k. SaysByKey packs edit.change k None) (sym is) refl
-
-pub says_change : (packs : Option Table) (edit : RefEdit) (key : Bytes) (own : Option Line) → packed_key edit.name ≡ Some key → ChangesRecord packs edit.change key own → SaysOfRecord packs edit own
-says_change packs edit key own is says = subst (λ k. SaysByKey packs edit.change k own) (sym is) says
-
-pub update_says : (packs : Option Table) (change : Change) (log : LogChange) (expected : PreviousValue) (new : Target) (key : Bytes) (own : Option Line) → change ≡ Update log expected new → UpdatesRecord packs log.mode (target_view new) key own → ChangesRecord packs change key own
-update_says packs change log expected new key own is says = subst (λ c. ChangesRecord packs c key own) (sym is) says
-
-pub deletion_says : (packs : Option Table) (change : Change) (log : RefLog) (expected : PreviousValue) (key : Bytes) (own : Option Line) → change ≡ Delete expected log → own ≡ removal_line log key → ChangesRecord packs change key own
-deletion_says packs change log expected key own is says = subst (λ c. ChangesRecord packs c key own) (sym is) says
-
-pub unpacked : (packs : Option Table) (log : RefLog) (new : Points) (key : Bytes) → packs ≡ None → UpdatesRecord packs log new key None
-unpacked packs log new key is = subst (λ p. UpdatesRecord p log new key None) (sym is) refl
-
-pub symbolic : (packs : Option Table) (log : RefLog) (new : Points) (name : Bytes) (key : Bytes) → new ≡ ToName name → UpdatesRecord packs log new key None
-symbolic packs log new name key is = subst (λ n. UpdatesRecord packs log n key None) (sym is) (by_case packs log)
-  where
-    by_case : (packs : Option Table) (log : RefLog) → UpdatesRecord packs log (ToName name) key None
-    by_case None log = refl
-    by_case (Some table) AndReference = refl
-    by_case (Some table) Only = refl
-
-pub log_only : (packs : Option Table) (log : RefLog) (new : Points) (key : Bytes) → log ≡ Only → UpdatesRecord packs log new key None
-log_only packs log new key is = subst (λ l. UpdatesRecord packs l new key None) (sym is) (by_case packs)
-  where
-    by_case : (packs : Option Table) → UpdatesRecord packs Only new key None
-    by_case None = refl
-    by_case (Some table) = refl
-
-pub packed : (packs : Option Table) (table : Table) (log : RefLog) (new : Points) (id : Id) (key : Bytes) (own : Option Line) → packs ≡ Some table → log ≡ AndReference → new ≡ ToObject id → WritesRecord table id key own → UpdatesRecord packs log new key own
-packed packs table log new id key own has mode to says =
-    subst (λ p. UpdatesRecord p log new key own) (sym has) (subst (λ l. UpdatesRecord (Some table) l new key own) (sym mode) (subst (λ n. UpdatesRecord (Some table) AndReference n key own) (sym to) says))
-
 -- ---- one after another: what is said so far, before whatever the rest says
 abbrev pub SaidSoFar : Option Table → List RefEdit → List RefEdit → List Line → Type 0
 SaidSoFar packs edits rest lines = (after : List Line) → SayOfRecords packs rest after → SayOfRecords packs edits (lines ++ after)
@@ -99,10 +58,6 @@ some_change records lines changes none = let wrong : true ≡ false = sym change
 pub none_hit : (key : Option Bytes) → is_some (option_and_then (hit []) key) ≡ false
 none_hit None = refl
 none_hit (Some key) = refl
-
-pub found_hit : {X : Type 0} (found : Option X) (record_of : X → Record) (records : List Record) (name : Bytes) → option_map record_of found ≡ packed_hit records name → is_some found ≡ is_some (packed_hit records name)
-found_hit None record_of records name is = ap is_some is
-found_hit (Some x) record_of records name is = ap is_some is
 
 same_hit : (records kept : List Record) (key : Option Bytes) → Holds records kept → option_and_then (hit records) key ≡ option_and_then (hit kept) key
 same_hit records kept None holds = refl

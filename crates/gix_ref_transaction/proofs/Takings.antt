@@ -1,6 +1,6 @@
 -- The lock of one file, taken and given back.
 use Rattle.std.proofs.Common.{◌≡◌, ◌≢◌, ◌<◌, ◌⊎◌, ⊎_elim, inl, inr, Bool, true, false, List, [], ◌∷◌, length, refl, sym, ◌∙◌, ap, subst, Option, Some, None, arith}
-use Rattle.std.specs.Prelude.{Contains, IsTrue, bytes_eq, IfSome, Err, IsErrOf}
+use Rattle.std.specs.Prelude.{Contains, IsTrue, bytes_eq, IfSome}
 use Rattle.std.proofs.lemmas.Slice.Eq.{bytes_eq-Decides}
 use Rattle.std.proofs.lemmas.List.Elements.{Contains-push_cases}
 use Rattle.gix_ref_file.specs.Changes.{may_hold_file}
@@ -21,10 +21,6 @@ use Rattle.gix_ref_transaction.specs.Errors.{TakeFault, of_file}
 use Rattle.gix_ref_transaction.specs.Plans.{KeepsFiles}
 use Rattle.gix_ref_transaction.specs.declared.error.PrepareError.TheVariants as fault
 use Rattle.gix_ref_transaction.proofs.Plannings.{keeps_joined, keeps_same}
-
--- the errors of two outcomes
-pub err_same : {T E : Type 0} (a b : E) → IsErrOf {T = T} {E = E} (Err a) b → a ≡ b
-err_same a b is = cc
 
 pub file_take : (may : Type 0) (e : FileError) → TakeFault may (of_file e)
 file_take may file_case.Failed = tt

@@ -4,14 +4,9 @@ use Rattle.std.proofs.lemmas.List.Elements.{Contains-append_right}
 use Rattle.std.specs.Prelude.{Contains}
 use Rattle.gix_hash.specs.Id.{Id, id_of}
 use Rattle.gix_object_lookup.specs.Table.{Table}
-use Rattle.gix_ref_name.specs.Targets.{Points, ToObject, target_view}
-use Rattle.gix_ref_name.specs.declared.target.Target.{Target}
-use Rattle.gix_ref_edit.specs.declared.change.Change.{Change}
-use Rattle.gix_ref_edit.specs.declared.change.Change.TheVariants.{Update}
-use Rattle.gix_ref_edit.specs.declared.change.PreviousValue.{PreviousValue}
+use Rattle.gix_ref_name.specs.Targets.{ToObject, target_view}
 use Rattle.gix_ref_edit.specs.declared.change.RefEdit.{RefEdit}
-use Rattle.gix_ref_edit.specs.declared.log.LogChange.{LogChange}
-use Rattle.gix_ref_store.specs.Follows.{Ends, Followed, FollowFault, IsGiven, EndsAt, follow, follow_from}
+use Rattle.gix_ref_store.specs.Follows.{Ends, Followed, FollowFault, IsGiven, follow}
 use Rattle.gix_ref_store.specs.Follows as follows
 use Rattle.gix_ref_store.specs.Peels.{PeelFault, MayTell, IsLost}
 use Rattle.gix_ref_store.specs.RefStates.{RefState, Stands}
@@ -23,7 +18,8 @@ use Rattle.gix_ref_store.specs.declared.store.file.follow.Error.TheVariants as f
 use Rattle.gix_ref_store.specs.declared.store.file.peel.Error.{Error}
 use Rattle.gix_ref_store.specs.declared.store.file.peel.Error.TheVariants.{FollowToObject, Find, NotFound, Memory}
 use Rattle.gix_ref_way.specs.Ways.{Bytes}
-use Rattle.gix_ref_transaction.specs.Resolving.{GivesUp, ResolveFault, TargetFault, ChangeFault, IfUnresolved}
+use Rattle.gix_ref_transaction.specs.RecordsRollback.{IsEarly}
+use Rattle.gix_ref_transaction.specs.Resolving.{GivesUp, ResolveFault, IfUnresolved}
 use Rattle.gix_ref_transaction.specs.declared.repacking.error.RepackError.{RepackError}
 use Rattle.gix_ref_transaction.specs.declared.repacking.error.RepackError.TheVariants as repack
 use Rattle.gix_ref_transaction.proofs.RecordLines.{ends_id}
@@ -54,18 +50,18 @@ anyhow Why (repack.PackedTransactionAcquire e) h = tt
 anyhow Why (repack.PackedTransactionPrepare e) h = tt
 anyhow Why repack.Memory h = tt
 
+-- nor is one that isn't early
+pub unearly : (Why : Error → Type 0) (error : RepackError) → ¬ IsEarly error → IfUnresolved Why error
+unearly Why (repack.Resolve e) late = absurd (late tt)
+unearly Why (repack.PackedTransactionAcquire e) late = tt
+unearly Why (repack.PackedTransactionPrepare e) late = tt
+unearly Why repack.Memory late = tt
+
 pub by_reason : (P Q : Error → Type 0) (error : RepackError) → ((e : Error) → P e → Q e) → IfUnresolved P error → IfUnresolved Q error
 by_reason P Q (repack.Resolve e) f h = f e h
 by_reason P Q (repack.PackedTransactionAcquire e) f h = tt
 by_reason P Q (repack.PackedTransactionPrepare e) f h = tt
 by_reason P Q repack.Memory f h = tt
-
-pub of_update : (Why : Id → Error → Type 0) (change : Change) (log : LogChange) (expected : PreviousValue) (new : Target) → change ≡ Update log expected new → (error : RepackError)
-    → IfUnresolved (TargetFault Why (target_view new)) error → IfUnresolved (ChangeFault Why change) error
-of_update Why change log expected new is error h = subst (λ c. IfUnresolved (ChangeFault Why c) error) (sym is) h
-
-pub of_target : (Why : Id → Error → Type 0) (new : Points) (id : Id) → new ≡ ToObject id → (error : RepackError) → IfUnresolved (Why id) error → IfUnresolved (TargetFault Why new) error
-of_target Why new id is error h = subst (λ n. IfUnresolved (TargetFault Why n) error) (sym is) h
 
 -- the rest of a list, and what comes before it
 abbrev pub IsSplit : List RefEdit → List RefEdit → Type 0

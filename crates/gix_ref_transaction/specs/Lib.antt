@@ -1,6 +1,7 @@
 pub mod Alike
 pub mod Asked
 pub mod Begun
+pub mod Calls
 pub mod Causes
 pub mod Errors
 pub mod Found
@@ -16,3 +17,16 @@ pub mod RecordsRollback
 pub mod Repacking
 pub mod Resolving
 pub mod Rollback
+pub use Rattle.gix_object_lookup.specs.Table
+pub use Rattle.gix_ref_file.specs.Calls as FileCalls
+pub use Rattle.gix_ref_file.specs.History
+pub use Rattle.gix_ref_file.specs.Tree
+pub use Rattle.gix_ref_lock.specs.Calls as LockCalls
+pub use Rattle.gix_ref_lock.specs.Committing
+pub use Rattle.gix_ref_lock.specs.Locks
+pub use Rattle.gix_ref_lock.specs.Moments
+pub use Rattle.gix_ref_lock.specs.Needs
+pub use Rattle.gix_ref_lock.specs.PackedEdits
+pub use Rattle.gix_ref_store.specs.Places
+pub use Rattle.gix_ref_store.specs.Stores
+pub use Rattle.gix_ref_way.specs.Ways

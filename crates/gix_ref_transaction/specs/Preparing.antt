@@ -1,13 +1,14 @@
 -- What a transaction is asked, what of it is prepared, and what is left if it isn't.
-use Rattle.std.specs.Prelude.{ℕ, ◌≡◌, ◌≤◌, ◌⊎◌, Bool, false, List, Option, IsTrue}
+use Rattle.std.specs.Prelude.{ℕ, ◌≡◌, ◌≤◌, ◌⊎◌, Bool, false, List, Option, IfSome, IsTrue}
 use Rattle.std.specs.List.{list_all}
 use Rattle.std.specs.Borrow.{Bor}
-use Rattle.gix_hash.specs.Id.{Id}
 use Rattle.gix_object_lines.specs.declared.lines.actor.ActorRef.{ActorRef}
 use Rattle.gix_object_lookup.specs.Table.{Table}
+use Rattle.gix_object_lookup.specs.declared.traits.Lookup.{Ghosts as LookupGhosts}
 use Rattle.gix_ref_file.specs.Calls.{Passes}
 use Rattle.gix_ref_file.specs.History.{History, HasRisen}
 use Rattle.gix_ref_file.specs.Tree.{Tree, is_path}
+use Rattle.gix_ref_file.specs.declared.files.Files.{Ghosts}
 use Rattle.gix_ref_edit.specs.Names.{AllOnce, names_of}
 use Rattle.gix_ref_edit.specs.declared.change.RefEdit.{RefEdit}
 use Rattle.gix_ref_format.specs.declared.packed.buffer.Buffer.{Buffer}
@@ -18,19 +19,21 @@ use Rattle.gix_ref_store.specs.Places.{Base}
 use Rattle.gix_ref_store.specs.RefStates.{RefState, ref_state}
 use Rattle.gix_ref_store.specs.Stores.{base_of}
 use Rattle.gix_ref_store.specs.declared.store.file.Store.{Store}
-use Rattle.gix_ref_store.specs.declared.store.file.peel.Error.{Error as PeelError}
 use Rattle.gix_ref_way.specs.Ways.{Bytes}
 use Rattle.gix_ref_transaction.specs.Alike.{ReadsAlike}
 use Rattle.gix_ref_transaction.specs.Causes.{GivenFault, IfUnresolved, PrepareFault}
 use Rattle.gix_ref_transaction.specs.Errors.{Counts, IsOfRecords, IsQuiet}
 use Rattle.gix_ref_transaction.specs.Locking.{AreHeld, AreRecordsLockable, HaveRoom, are_known}
 use Rattle.gix_ref_transaction.specs.LogLines.{AllLined, Logging, logging}
+use Rattle.gix_ref_transaction.specs.Modes.{objects_in, packs_in, removes}
 use Rattle.gix_ref_transaction.specs.Paths.{edit_paths, has_twice}
-use Rattle.gix_ref_transaction.specs.Plans.{AllHold, AllTested, AreSplit, FoldersOfEdits}
+use Rattle.gix_ref_transaction.specs.Plans.{AllHold, AllPlanned, AllTested, AreSplit, FoldersOfEdits}
 use Rattle.gix_ref_transaction.specs.Reads.{AllGiveKind, IsAsPrepared, Prepared}
-use Rattle.gix_ref_transaction.specs.Repacking.{AreRepacked}
+use Rattle.gix_ref_transaction.specs.Repacking.{AreRepacked, KnowsRecords}
+use Rattle.gix_ref_transaction.specs.Resolving.{PackCause}
 use Rattle.gix_ref_transaction.specs.Rollback.{IsRolledBack, SameFilesBut, all_locks}
 use Rattle.gix_ref_transaction.specs.declared.error.PrepareError.{PrepareError}
+use Rattle.gix_ref_transaction.specs.declared.repacking.packed_refs.PackedRefs.{PackedRefs}
 
 -- what a transaction is asked: these edits, of a store in this tree, with lines of these logs
 pub record Asked : Type 0 where
@@ -93,17 +96,36 @@ pub record IsPacked (b : Base) (packs : Option Table) (removes : Bool) (old new 
   pub repacked : AreRepacked b packs old new t.edits t.packed
   pub prepared : AllGiveKind b.kind t.edits → IsAsPrepared b packs removes old new t
 
+-- The same of a store that was in these files, with the records that are known of it.
+abbrev pub Packs : {F O : Type 0} → Ghosts F → LookupGhosts O → PackedRefs O → Store F
+    → Option (Bor Buffer) → Store F → Prepared → Type 0
+Packs files objects mode old records new t =
+    let b = base_of old in let tree = (files.history old.files).tree in
+    files.is_honest old.files → IfSome (objects_in mode) objects.is_honest
+    → KnowsRecords b tree records
+    → IsPacked b (packs_in objects mode) (removes mode) tree (files.history new.files).tree t
+
 -- Whatever comes of it, references, logs and records read as before at each moment, and locks alone
 -- change; the store stays of its folders and options.
-pub record KeepsReferences {F : Type 0} (IsHonest : F → Type 0) (history : F → History)
-    (failures : F → ℕ) (a : Asked) (old new : Store F) : Type 0 where
-  pub honest : IsHonest old.files → IsHonest new.files
+pub record KeepsReferences {F : Type 0} (files : Ghosts F) (a : Asked) (old new : Store F) : Type 0 where
+  pub honest : files.is_honest old.files → files.is_honest new.files
   pub base : base_of new ≡ base_of old
   pub options : new.options ≡ old.options
-  pub moments : Passes IsHonest history old.files new.files SameButLocks
-  pub alike : Passes IsHonest history old.files new.files (ReadsAlike (base_of old))
-  pub folders : Passes IsHonest history old.files new.files (FoldersFor a)
-  pub later : failures old.files ≤ failures new.files
+  pub moments : Passes files.is_honest files.history old.files new.files SameButLocks
+  pub alike : Passes files.is_honest files.history old.files new.files (ReadsAlike (base_of old))
+  pub folders : Passes files.is_honest files.history old.files new.files (FoldersFor a)
+  pub later : files.failures old.files ≤ files.failures new.files
+
+-- No call failed, the edits are ready and planned, and what is prepared holds its locks and the packed
+-- records that the mode says.
+pub record Prepares {F O : Type 0} (files : Ghosts F) (objects : LookupGhosts O) (mode : PackedRefs O)
+    (a : Asked) (old new : Store F) (t : Prepared) : Type 0 where
+  pub unfailed : files.failures new.files ≡ files.failures old.files
+  pub ready : AreReady a.base a.composes t.edits
+  pub planned : AllPlanned a.base (removes mode) t.edits t.moves
+  pub prepared : files.is_honest old.files → IsPrepared a (files.history new.files).tree t
+  pub packed : files.is_honest old.files → IfSome (objects_in mode) objects.is_honest
+      → IsPacked a.base (packs_in objects mode) (removes mode) a.tree (files.history new.files).tree t
 
 -- ---- it isn't prepared
 
@@ -123,12 +145,19 @@ pub record FailsToPrepare (Why : Asked → Type 0 → PrepareError → Type 0) (
   pub records : AreRecordsLockable a.base a.tree → IsOfRecords error → HasRisen before now ⊎ may_fail
   pub rolled_back : IsRolledBack before now a.tree new error
 
--- The same of a store, over whatever files and objects: errors for which no change failed count none,
--- and no object is found only for this reason.
-pub record LeavesUnprepared {F : Type 0} (IsHonest : F → Type 0) (history : F → History)
-    (failures : F → ℕ) (may_fail HasObjects : Type 0) (why : Id → PeelError → Type 0) (a : Asked)
-    (old new : Store F) (error : PrepareError) : Type 0 where
-  pub memory : IsQuiet error → failures new.files ≡ failures old.files
-  pub failed : IsHonest old.files → FailsToPrepare PrepareCause a (failures old.files)
-      (failures new.files) may_fail (history new.files).tree error
-  pub resolves : IsHonest old.files → HasObjects → IfUnresolved a.lines.read why a.edits error
+-- the same of a store
+abbrev pub Unprepares : {F : Type 0} → Ghosts F → (Asked → Type 0 → PrepareError → Type 0) → Asked
+    → Store F → Store F → PrepareError → Type 0
+Unprepares files Why a old new error =
+    FailsToPrepare Why a (files.failures old.files) (files.failures new.files) files.reading_may_fail
+    (files.history new.files).tree error
+
+-- So it does over whatever files and objects: errors for which no change failed count none, and no
+-- object is found only for this reason.
+pub record LeavesUnprepared {F O : Type 0} (files : Ghosts F) (objects : LookupGhosts O)
+    (given : Option O) (Why : Asked → Type 0 → PrepareError → Type 0) (a : Asked) (old new : Store F)
+    (error : PrepareError) : Type 0 where
+  pub memory : IsQuiet error → files.failures new.files ≡ files.failures old.files
+  pub failed : files.is_honest old.files → Unprepares files Why a old new error
+  pub resolves : files.is_honest old.files → IfSome given objects.is_honest
+      → IfUnresolved a.lines.read (PackCause files objects given) a.edits error

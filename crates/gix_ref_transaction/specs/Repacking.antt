@@ -1,13 +1,16 @@
 -- What edits make of packed records (git-pack-refs; gitrepository-layout, "packed-refs"): the
 -- records of what is removed are removed, and those of updates to objects are added if updates are
 -- packed. Names that each worktree has of its own have no record.
-use Rattle.std.specs.Prelude.{◌≡◌, ◌≢◌, ◌||◌, Bool, true, false, is_some, List, [], ◌∷◌, ◌++◌, Option, Some, None, option_map}
+use Rattle.std.specs.Prelude.{◌≡◌, ◌≢◌, ◌||◌, Bool, true, false, is_some, List, [], ◌∷◌, ◌++◌, Option, Some, None, option_map, IfSome}
+use Rattle.std.specs.Borrow.{Bor}
 use Rattle.std.specs.List.{list_any}
 use Rattle.std.specs.Option.{option_to_list}
 use Rattle.gix_hash.specs.Id.{Id}
 use Rattle.gix_hash.specs.declared.kind.Kind.{Kind}
 use Rattle.gix_object_lookup.specs.Table.{Table}
+use Rattle.gix_object_lookup.specs.declared.traits.Lookup.{Ghosts as LookupGhosts}
 use Rattle.gix_ref_file.specs.Tree.{Tree, node_at}
+use Rattle.gix_ref_file.specs.declared.files.Files.{Ghosts}
 use Rattle.gix_ref_name.specs.Targets.{Points, ToObject, ToName, target_view}
 use Rattle.gix_ref_edit.specs.declared.change.Change.{Change}
 use Rattle.gix_ref_edit.specs.declared.change.Change.TheVariants.{Update, Delete}
@@ -18,14 +21,19 @@ use Rattle.gix_ref_format.specs.Lookup.{packed_key, packed_hit}
 use Rattle.gix_ref_format.specs.Packed.{Record}
 use Rattle.gix_ref_format.specs.PackedBuffer.{KeepsFile}
 use Rattle.gix_ref_format.specs.PackedKept.{kept}
+use Rattle.gix_ref_format.specs.declared.packed.buffer.Buffer.{Buffer}
 use Rattle.gix_ref_format.specs.Edited.{Line}
 use Rattle.gix_ref_store.specs.Peels.{PeelsTo}
 use Rattle.gix_ref_store.specs.Places.{Base, packed_place}
 use Rattle.gix_ref_store.specs.RefStates.{packed_text_in, records_of}
+use Rattle.gix_ref_store.specs.Stores.{base_of}
+use Rattle.gix_ref_store.specs.declared.store.file.Store.{Store}
 use Rattle.gix_ref_lock.specs.PackedEdits.{place_of, lock_path_of}
 use Rattle.gix_ref_lock.specs.Records.{records_in, IsTextOf}
 use Rattle.gix_ref_lock.specs.declared.packed.Transaction.{Transaction}
 use Rattle.gix_ref_way.specs.Ways.{Bytes, file_at}
+use Rattle.gix_ref_transaction.specs.Modes.{objects_in, packs_in}
+use Rattle.gix_ref_transaction.specs.declared.repacking.packed_refs.PackedRefs.{PackedRefs}
 
 -- what a record holds besides this id: nothing if the id is that of an object that is no tag, else
 -- the id that tags lead to
@@ -104,6 +112,11 @@ pub record HoldsRecords (kind : Kind) (place : Bytes) (old new : Tree) (lines : 
   pub holds : file_at new (lock_path_of t) ≡ Some text
   pub told : IsTextOf kind (records_in t.buffer) lines text
 
+-- these are the packed records of the tree, if its file can be read
+abbrev pub KnowsRecords : Base → Tree → Option (Bor Buffer) → Type 0
+KnowsRecords b tree records =
+    KeepsFile b.kind (packed_text_in b tree) (option_map (λ buffer. kept buffer.now) records)
+
 -- it is held if records change; otherwise no record does
 abbrev pub HoldsIf : Base → Tree → Tree → List Line → Option Transaction → Type 0
 HoldsIf b old new lines None = changes_tree b old lines ≡ false
@@ -116,3 +129,12 @@ abbrev pub AreRepacked : Base → Option Table → Tree → Tree → List RefEdi
     → Type 0
 AreRepacked b packs old new edits t =
     (lines : List Line) × SayOfRecords packs edits lines × HoldsIf b old new lines t
+
+-- The same of a store that was in these files, with the records that are known of it.
+abbrev pub Repacks : {F O : Type 0} → Ghosts F → LookupGhosts O → PackedRefs O → Store F
+    → Option (Bor Buffer) → Store F → List RefEdit → Option Transaction → Type 0
+Repacks files objects mode old records new edits t =
+    let b = base_of old in let tree = (files.history old.files).tree in
+    files.is_honest old.files → IfSome (objects_in mode) objects.is_honest
+    → KnowsRecords b tree records
+    → AreRepacked b (packs_in objects mode) tree (files.history new.files).tree edits t

@@ -3,6 +3,8 @@ use Rattle.std.specs.Prelude.{◌≡◌, List, Option, Some, Contains}
 use Rattle.gix_hash.specs.Id.{Id, id_of}
 use Rattle.gix_object_lookup.specs.Existing.{LookupFault}
 use Rattle.gix_object_lookup.specs.Table.{Table}
+use Rattle.gix_object_lookup.specs.declared.traits.Lookup.{Ghosts as LookupGhosts}
+use Rattle.gix_ref_file.specs.declared.files.Files.{Ghosts}
 use Rattle.gix_ref_name.specs.Targets.{Points, ToObject, ToName, target_view}
 use Rattle.gix_ref_edit.specs.declared.change.Change.{Change}
 use Rattle.gix_ref_edit.specs.declared.change.Change.TheVariants.{Update, Delete}
@@ -41,6 +43,11 @@ abbrev pub PackFault : {O : Type 0} → Type 0 → (O → Type 0) → (O → Tab
 PackFault {O} R may_fail table given id error =
     (objects : O) × (given ≡ Some objects)
     × ResolveFault R (may_fail objects) (table objects) id error
+
+-- the same of these files and objects
+abbrev pub PackCause : {F O : Type 0} → Ghosts F → LookupGhosts O → Option O → Id → Error → Type 0
+PackCause files objects given =
+    PackFault files.reading_may_fail objects.may_fail objects.table given
 
 -- of the id that a target or a change gives
 abbrev pub TargetFault : (Id → Error → Type 0) → Points → Error → Type 0

@@ -57,10 +57,6 @@ pub record AllGone (moves : List Move) (t : Option Transaction) (old new : Tree)
   pub packed : PackedGone t new
   pub none : NoFileMore old new
 
-abbrev pub FailsStaying : {T : Type 0} → Result T PrepareError → Type 0
-FailsStaying (Ok x) = ⊥
-FailsStaying (Err error) = MayStay error
-
 abbrev pub FailsForMemory : {T : Type 0} → Result T CommitError → Type 0
 FailsForMemory (Ok x) = ⊥
 FailsForMemory (Err error) = IsOutOfMemory error

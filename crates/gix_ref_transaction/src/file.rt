@@ -1,13 +1,10 @@
 //! Transactions that a store begins: it is lent to them until they are committed or rolled back.
 
-ghost use Rattle.std.specs.Prelude.{◌≡◌, option_map, IfErr, IfOk, IfSome};
+ghost use Rattle.std.specs.Prelude.{◌≡◌, IfErr, IfOk};
 ghost use Rattle.std.specs.Borrow.{sem};
-ghost use Rattle.gix_ref_store.specs.Stores.{base_of};
-ghost use Rattle.gix_ref_transaction.specs.Modes.{objects_in, removes};
-ghost use Rattle.gix_ref_transaction.specs.Plans.{AllPlanned};
-ghost use Rattle.gix_ref_transaction.specs.Preparing.{AreReady, IsPacked, IsPrepared, KeepsReferences, LeavesUnprepared, asked_of};
-ghost use Rattle.gix_ref_transaction.specs.Reads.{prepared_of};
-ghost use Rattle.gix_ref_transaction.specs.Resolving.{PackFault};
+ghost use Rattle.gix_ref_transaction.specs.Modes.{objects_in};
+ghost use Rattle.gix_ref_transaction.specs.Parts.{parts};
+ghost use Rattle.gix_ref_transaction.specs.Preparing.{KeepsReferences, LeavesUnprepared, PrepareCause, Prepares, asked_of};
 
 use crate::error::PrepareError;
 use crate::repacking::PackedRefs;
@@ -60,30 +57,16 @@ impl<'s, F: Files> Transaction<'s, F, Begun> {
     ) -> Result<Transaction<'s, F, Prepared>, PrepareError>
         ensures* left { sem 𝓛 (LendsOrLeaves F.row self.entry.store result (λ left.
             let a = asked_of F.history self.entry.store.now committer.entry edits.items in
-            KeepsReferences F.is_honest F.history F.failures a self.entry.store.now left
-            × IfErr result (LeavesUnprepared F.is_honest F.history F.failures F.reading_may_fail
-            (IfSome (objects_in packed_refs.entry) O.is_honest) (PackFault F.reading_may_fail
-            O.may_fail O.table (objects_in packed_refs.entry)) a self.entry.store.now left))) }
+            KeepsReferences F.Files a self.entry.store.now left
+            × IfErr result (LeavesUnprepared F.Files O.Lookup (objects_in packed_refs.entry)
+            PrepareCause a self.entry.store.now left))) }
         ensures same_reference { IfOk result (λ t.
             t.store.ghost_name ≡ self.entry.store.ghost_name) }
         ensures keeps { let a = asked_of F.history self.entry.store.now committer.entry edits.items in
-            IfOk result (λ t. KeepsReferences F.is_honest F.history F.failures a
-            self.entry.store.now t.store.now) }
-        ensures unfailed { IfOk result (λ t.
-            F.failures t.store.now.files ≡ F.failures self.entry.store.now.files) }
-        ensures ready { let options = self.entry.store.now.options in IfOk result (λ t. AreReady
-            (base_of self.entry.store.now) options.precompose_unicode t.state.edits.items) }
-        ensures planned { IfOk result (λ t. AllPlanned (base_of self.entry.store.now)
-            (removes packed_refs.entry) t.state.edits.items t.state.moves.items) }
-        ensures prepared { F.is_honest self.entry.store.now.files → IfOk result (λ t. IsPrepared
+            IfOk result (λ t. KeepsReferences F.Files a self.entry.store.now t.store.now) }
+        ensures prepared { IfOk result (λ t. Prepares F.Files O.Lookup packed_refs.entry
             (asked_of F.history self.entry.store.now committer.entry edits.items)
-            (F.history t.store.now.files).tree
-            (prepared_of t.state.edits.items t.state.moves.items t.state.packed)) }
-        ensures packed { let mode = packed_refs.entry in F.is_honest self.entry.store.now.files
-            → IfSome (objects_in mode) O.is_honest → IfOk result (λ t.
-            IsPacked (base_of self.entry.store.now) (option_map O.table (objects_in mode))
-            (removes mode) (F.history self.entry.store.now.files).tree (F.history t.store.now.files).tree
-            (prepared_of t.state.edits.items t.state.moves.items t.state.packed)) }
+            self.entry.store.now t.store.now (parts t.state)) }
     {
         let Transaction { store, state: _ } = self;
         match prepare(alloc, store, edits, committer, packed_refs) {
@@ -99,9 +82,10 @@ impl<'s, F: Files> Transaction<'s, F, Begun> {
 impl<'s, F: Files> Transaction<'s, F, Prepared> {
     ghost use Rattle.gix_ref_transaction.specs.Begun.{Commits, RollsBack};
 
-    /// Makes the edits, and returns them, as the prepared transaction's `commit` does.
+    /// Makes the edits, and returns them, as the prepared transaction's `commit` does. Fails as
+    /// that does.
     pub fn commit(self, alloc: Global) -> Result<Vec<RefEdit>, CommitError>
-        ensures commits { Commits F.is_honest F.history F.failures F.reading_may_fail
+        ensures commits { Commits F.Files
             self.entry.state self.entry.store.now.files self.exit.0.now.files result }
         ensures store { self.exit.0.now ≡ record self.entry.store.now {
           files = self.exit.0.now.files;
@@ -112,8 +96,9 @@ impl<'s, F: Files> Transaction<'s, F, Prepared> {
     }
 
     /// Gives all locks back, and returns the edits, as the prepared transaction's `rollback` does.
+    /// Fails as that does.
     pub fn rollback(self, alloc: Global) -> Result<Vec<RefEdit>, CommitError>
-        ensures rolls_back { RollsBack F.is_honest F.history F.failures F.reading_may_fail
+        ensures rolls_back { RollsBack F.Files
             self.entry.state self.entry.store.now.files self.exit.0.now.files result }
         ensures store { self.exit.0.now ≡ record self.entry.store.now {
           files = self.exit.0.now.files;

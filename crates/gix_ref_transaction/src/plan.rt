@@ -1,6 +1,6 @@
 //! What becomes of one reference: its lock is made, what it is is tested, and its new text is written into the lock.
 
-ghost use Rattle.std.specs.Prelude.{◌≡◌, ◌≢◌, ◌≤◌, ◌⊎◌, ℕ, [], ◌∷◌, false, None, Some, Ok, IfErr, IfOk, IsErrOf, IsTrue, OnOk};
+ghost use Rattle.std.specs.Prelude.{◌≡◌, ◌≢◌, ◌≤◌, ◌⊎◌, ℕ, [], ◌∷◌, false, Some, IfErr, IfOk, IsTrue, OnOk};
 ghost use Rattle.gix_object_lines.specs.NameTest.{is_full_name};
 ghost use Rattle.gix_ref_file.specs.Calls.{Passes};
 ghost use Rattle.gix_ref_file.specs.Changes.{is_file_at, may_hold_file};
@@ -10,19 +10,20 @@ ghost use Rattle.gix_ref_format.specs.Loose.{loose_text};
 ghost use Rattle.gix_ref_store.specs.Lookups.{reads_with};
 ghost use Rattle.gix_ref_store.specs.Places.{place};
 ghost use Rattle.gix_ref_store.specs.Stores.{base_of};
-ghost use Rattle.gix_ref_lock.specs.Locks.{lock_of, OthersStay};
-ghost use Rattle.gix_ref_way.specs.Ways.{file_at, FoldersOnlyOf, HasWay, SameFiles, SameFolders};
-ghost use Rattle.gix_ref_lock.specs.Contents.{lock_path_of, place_of};
+ghost use Rattle.gix_ref_lock.specs.Calls.{EndsQuietly, KeepsFolders, StaysHonest};
+ghost use Rattle.gix_ref_lock.specs.Locks.{OthersStay};
+ghost use Rattle.gix_ref_way.specs.Ways.{FoldersOnlyOf, HasWay, SameFiles, SameFolders};
 ghost use Rattle.gix_ref_lock.specs.Moments.{SameButLocks};
-ghost use Rattle.gix_ref_transaction.specs.Causes.{EditFault, TestFault};
+ghost use Rattle.gix_ref_transaction.specs.Calls.{HasTaken, IsActed, IsNoIo, IsPlanned, IsUnacted, IsUnplanned, IsUntaken, KeepsStore};
+ghost use Rattle.gix_ref_transaction.specs.Causes.{TestFault};
 ghost use Rattle.gix_ref_transaction.specs.Errors.{Counts, IsAfter, MayBeLeft, TakeFault, after_giving};
 ghost use Rattle.gix_ref_transaction.specs.Errors as errors;
-ghost use Rattle.gix_ref_transaction.specs.Locking.{ArePaths, IsLockable};
-ghost use Rattle.gix_ref_transaction.specs.LogLines.{IsLineOf, has_log, line_in, logging};
+ghost use Rattle.gix_ref_transaction.specs.Locking.{ArePaths};
+ghost use Rattle.gix_ref_transaction.specs.LogLines.{line_in};
 ghost use Rattle.gix_ref_transaction.specs.Modes.{removes};
 ghost use Rattle.gix_ref_transaction.specs.Plans as spec;
-ghost use Rattle.gix_ref_transaction.specs.Plans.{HoldsText, IsActOf, IsFoundSo, IsPlanOf, IsPut, IsTested, IsUpdateBy, KeepsFiles};
-ghost use Rattle.gix_ref_transaction.specs.Rollback.{IsRolledBack, MoreFilesAt};
+ghost use Rattle.gix_ref_transaction.specs.Plans.{IsActOf, IsFoundSo, IsPlanOf, IsPut, IsUpdateBy, KeepsFiles};
+ghost use Rattle.gix_ref_transaction.specs.Preparing.{asked_with};
 ghost use Rattle.gix_ref_transaction.specs.declared.error.PrepareError.TheVariants.{Io, LockAcquire, Memory};
 
 use crate::PackedRefs;
@@ -54,47 +55,21 @@ pub(crate) fn plan<F: Files, O>(
     packed_refs: &PackedRefs<'_, O>,
 ) -> Result<Move, PrepareError>
     requires { ArePaths (place (base_of store.old) edit.now.name) }
-    ensures honest { F.is_honest store.old.files → F.is_honest store.new.files }
-    ensures base { base_of store.new ≡ base_of store.old }
-    ensures options { store.new.options ≡ store.old.options }
+    ensures keeps { KeepsStore F.Files (EndsQuietly IsNoIo result) store.old store.new }
     ensures full { IsTrue (is_full_name edit.now.name) }
     ensures moments { Passes F.is_honest F.history store.old.files store.new.files SameButLocks }
     ensures folders { Passes F.is_honest F.history store.old.files store.new.files
         (FoldersOnlyOf (place (base_of store.old) edit.now.name ∷ [])) }
-    ensures tested { F.is_honest store.old.files → IfOk result (λ _. IsTested edit.now
-        (reads_with store.old (F.history store.old.files).tree packed.entry edit.now.name)) }
-    ensures planned { IfOk result (IsPlanOf (base_of store.old) (removes packed_refs.now) edit.now) }
-    ensures text { F.is_honest store.old.files → IfOk result (λ made. HoldsText edit.now.change
-        made.act (lock_path_of made) (F.history store.new.files).tree) }
-    ensures line { F.is_honest store.old.files → let tree = (F.history store.old.files).tree in
-        let l = logging store.old.options (reads_with store.old tree packed.entry) committer.entry in
-        let name = edit.now.name in IfOk result (λ made.
-        IsLineOf l (has_log (base_of store.old) tree name) name edit.now.change (line_in made.act)) }
-    ensures failed { F.is_honest store.old.files → let tree = (F.history store.old.files).tree in
-        let l = logging store.old.options (reads_with store.old tree packed.entry) committer.entry in
-        IfErr result (EditFault l (has_log (base_of store.old) tree edit.now.name)
-        F.reading_may_fail edit.now) }
-    ensures refused { F.is_honest store.old.files → IsErrOf result LockAcquire
-        → ¬ IsLockable (F.history store.old.files).tree (place (base_of store.old) edit.now.name) }
-    ensures counted { F.is_honest store.old.files
-        → IfErr result (Counts (F.failures store.old.files) (F.failures store.new.files)) }
-    ensures memory { IfErr result (λ error. error ≢ Io
-        → F.failures store.new.files ≡ F.failures store.old.files) }
-    ensures later { F.failures store.old.files ≤ F.failures store.new.files }
-    ensures unfailed { IfOk result (λ _. F.failures store.new.files ≡ F.failures store.old.files) }
-    ensures rolled_back { F.is_honest store.old.files → IfErr result (λ error.
-        IsRolledBack (F.failures store.old.files) (F.failures store.new.files)
-        (F.history store.old.files).tree (F.history store.new.files).tree error) }
-    ensures locked { F.is_honest store.old.files → IfOk result (λ made. MoreFilesAt
-        (lock_path_of made ∷ []) (F.history store.old.files).tree (F.history store.new.files).tree) }
-    ensures free { F.is_honest store.old.files → IfOk result (λ made.
-        file_at (F.history store.old.files).tree (lock_path_of made) ≡ None) }
-    ensures held { F.is_honest store.old.files → IfOk result (λ made.
-        IsTrue (is_file_at (F.history store.new.files).tree (lock_path_of made))) }
-    ensures room { F.is_honest store.old.files → IfOk result (λ made.
-        IsTrue (may_hold_file (F.history store.new.files).tree (place_of made))) }
-    ensures keeps { F.is_honest store.old.files
+    ensures stay { F.is_honest store.old.files
         → KeepsFiles (F.history store.old.files).tree (F.history store.new.files).tree }
+    ensures planned { IfOk result (IsPlanOf (base_of store.old) (removes packed_refs.now) edit.now) }
+    ensures made { F.is_honest store.old.files → IfOk result (IsPlanned
+        (asked_with F.history store.old packed.entry committer.entry (edit.now ∷ [])) edit.now
+        (F.history store.new.files).tree) }
+    ensures failed { F.is_honest store.old.files → IfErr result (IsUnplanned
+        (asked_with F.history store.old packed.entry committer.entry (edit.now ∷ [])) edit.now
+        (F.failures store.old.files) (F.failures store.new.files) F.reading_may_fail
+        (F.history store.new.files).tree) }
 {
     let place = store.reference_path(alloc, edit.name.as_ref())?;
     let log = store.reflog_path(alloc, edit.name.as_ref())?;
@@ -155,33 +130,19 @@ fn unless_failed(error: PrepareError, other: PrepareError) -> PrepareError
 // Makes room for a file, and its lock.
 fn take<F: Files>(alloc: Global, files: &mut F, place: &[u8]) -> Result<Lock, PrepareError>
     requires { ArePaths place.now }
-    ensures honest { F.is_honest files.old → F.is_honest files.new }
+    ensures keeps { StaysHonest F.Files (EndsQuietly IsNoIo result) files.old files.new }
     ensures moments { Passes F.is_honest F.history files.old files.new SameButLocks }
     ensures folders { Passes F.is_honest F.history files.old files.new
         (FoldersOnlyOf (place.now ∷ [])) }
-    ensures place { IfOk result (λ lock. lock.place.items ≡ place.now) }
-    ensures free { F.is_honest files.old → OnOk result
-        (file_at (F.history files.old).tree (lock_of place.now) ≡ None) }
-    ensures keeps { F.is_honest files.old
+    ensures stay { F.is_honest files.old
         → KeepsFiles (F.history files.old).tree (F.history files.new).tree }
-    ensures later { F.failures files.old ≤ F.failures files.new }
-    ensures unfailed { IfOk result (λ _. F.failures files.new ≡ F.failures files.old) }
-    ensures counted { F.is_honest files.old
-        → IfErr result (Counts (F.failures files.old) (F.failures files.new)) }
-    ensures memory { IfErr result (λ error. error ≢ Io
-        → F.failures files.new ≡ F.failures files.old) }
-    ensures rolled_back { F.is_honest files.old → IfErr result (λ error. IsRolledBack
-        (F.failures files.old) (F.failures files.new) (F.history files.old).tree
-        (F.history files.new).tree error) }
-    ensures locked { F.is_honest files.old → IfOk result (λ _. MoreFilesAt
-        (lock_of place.now ∷ []) (F.history files.old).tree (F.history files.new).tree) }
-    ensures held { F.is_honest files.old → OnOk result
-        (IsTrue (is_file_at (F.history files.new).tree (lock_of place.now))) }
-    ensures room { F.is_honest files.old → OnOk result
-        (IsTrue (may_hold_file (F.history files.new).tree place.now)) }
-    ensures refused { F.is_honest files.old → IsErrOf result LockAcquire
-        → ¬ IsLockable (F.history files.old).tree place.now }
+    ensures place { IfOk result (λ lock. lock.place.items ≡ place.now) }
+    ensures taken { F.is_honest files.old → OnOk result
+        (HasTaken place.now (F.history files.old).tree (F.history files.new).tree) }
     ensures failed { IfErr result (TakeFault F.reading_may_fail) }
+    ensures untaken { F.is_honest files.old → IfErr result (IsUntaken place.now
+        (F.failures files.old) (F.failures files.new)
+        (F.history files.old).tree (F.history files.new).tree) }
 {
     clear(alloc, files, place)?;
     let made = acquire(alloc, files, place)?;
@@ -194,20 +155,16 @@ fn take<F: Files>(alloc: Global, files: &mut F, place: &[u8]) -> Result<Lock, Pr
 // Makes room for a file.
 fn clear<F: Files>(alloc: Global, files: &mut F, place: &[u8]) -> Result<(), PrepareError>
     requires { IsTrue (is_path place.now) }
-    ensures honest { F.is_honest files.old → F.is_honest files.new }
+    ensures keeps { StaysHonest F.Files (EndsQuietly IsNoIo result) files.old files.new }
     ensures moments { Passes F.is_honest F.history files.old files.new SameFiles }
     ensures folders { Passes F.is_honest F.history files.old files.new
         (FoldersOnlyOf (place.now ∷ [])) }
-    ensures later { F.failures files.old ≤ F.failures files.new }
-    ensures unfailed { OnOk result (F.failures files.new ≡ F.failures files.old) }
     ensures counted { F.is_honest files.old
         → IfErr result (Counts (F.failures files.old) (F.failures files.new)) }
-    ensures memory { IfErr result (λ error. error ≢ Io
-        → F.failures files.new ≡ F.failures files.old) }
     ensures room { F.is_honest files.old → OnOk result
         (IsTrue (may_hold_file (F.history files.new).tree place.now)) }
-    ensures refused { F.is_honest files.old → IsErrOf result LockAcquire
-        → ¬ HasWay place.now (F.history files.old).tree }
+    ensures refused { F.is_honest files.old → IfErr result (λ error. error ≡ LockAcquire
+        → ¬ HasWay place.now (F.history files.old).tree) }
     ensures failed { IfErr result (TakeFault F.reading_may_fail) }
 {
     match try_make_way(alloc, files, place)? {
@@ -227,36 +184,21 @@ fn act_of<F: Files, O>(
     packed_refs: &PackedRefs<'_, O>,
     lock: &Lock,
 ) -> Result<Act, PrepareError>
-    ensures honest { F.is_honest store.old.files → F.is_honest store.new.files }
-    ensures base { base_of store.new ≡ base_of store.old }
-    ensures later { F.failures store.old.files ≤ F.failures store.new.files }
-    ensures unfailed { IfOk result (λ _. F.failures store.new.files ≡ F.failures store.old.files) }
+    ensures keeps { KeepsStore F.Files (EndsQuietly IsNoIo result) store.old store.new }
     ensures moments { Passes F.is_honest F.history store.old.files store.new.files
         (OthersStay lock.now.path.items) }
-    ensures tested { F.is_honest store.old.files → IfOk result (λ _. IsTested edit.now
-        (reads_with store.old (F.history store.old.files).tree packed.entry edit.now.name)) }
-    ensures act { IfOk result (IsActOf (removes packed_refs.now) edit.now.name edit.now.change) }
-    ensures text { F.is_honest store.old.files → IfOk result (λ act. HoldsText edit.now.change act
-        lock.now.path.items (F.history store.new.files).tree) }
-    ensures options { store.new.options ≡ store.old.options }
     ensures folders { Passes F.is_honest F.history store.old.files store.new.files SameFolders }
     ensures held { F.is_honest store.old.files
         → IsTrue (is_file_at (F.history store.old.files).tree lock.now.path.items)
         → IsTrue (is_file_at (F.history store.new.files).tree lock.now.path.items) }
-    ensures locked { F.is_honest store.old.files → ¬ IsErrOf result LockAcquire }
-    ensures counted { F.is_honest store.old.files
-        → IsTrue (is_file_at (F.history store.old.files).tree lock.now.path.items)
-        → IfErr result (Counts (F.failures store.old.files) (F.failures store.new.files)) }
-    ensures memory { IfErr result (λ error. error ≢ Io
-        → F.failures store.new.files ≡ F.failures store.old.files) }
-    ensures line { F.is_honest store.old.files → let tree = (F.history store.old.files).tree in
-        let l = logging store.old.options (reads_with store.old tree packed.entry) committer.entry in
-        let name = edit.now.name in IfOk result (λ act.
-        IsLineOf l (has_log (base_of store.old) tree name) name edit.now.change (line_in act)) }
-    ensures failed { F.is_honest store.old.files → let tree = (F.history store.old.files).tree in
-        let l = logging store.old.options (reads_with store.old tree packed.entry) committer.entry in
-        IfErr result (EditFault l (has_log (base_of store.old) tree edit.now.name)
-        F.reading_may_fail edit.now) }
+    ensures act { IfOk result (IsActOf (removes packed_refs.now) edit.now.name edit.now.change) }
+    ensures acted { F.is_honest store.old.files → IfOk result (IsActed
+        (asked_with F.history store.old packed.entry committer.entry (edit.now ∷ [])) edit.now
+        lock.now.path.items (F.history store.new.files).tree) }
+    ensures failed { F.is_honest store.old.files → IfErr result (IsUnacted
+        (asked_with F.history store.old packed.entry committer.entry (edit.now ∷ [])) edit.now
+        lock.now.path.items (F.failures store.old.files) (F.failures store.new.files)
+        F.reading_may_fail) }
 {
     let found = tested(alloc, &*store, edit, packed)?;
     let line = line_of(alloc, &*store, edit, &found, packed, committer)?;
@@ -301,9 +243,7 @@ fn update_by<F: Files>(
     lock: &Lock,
     line: Option<Vec<u8>>,
 ) -> Result<Act, PrepareError>
-    ensures honest { F.is_honest files.old → F.is_honest files.new }
-    ensures later { F.failures files.old ≤ F.failures files.new }
-    ensures unfailed { IfOk result (λ _. F.failures files.new ≡ F.failures files.old) }
+    ensures keeps { KeepsFolders F.Files (EndsQuietly IsNoIo result) files.old files.new }
     ensures moments { Passes F.is_honest F.history files.old files.new
         (OthersStay lock.now.path.items) }
     ensures act { IfOk result (IsUpdateBy log is_packed_alone) }
@@ -311,15 +251,12 @@ fn update_by<F: Files>(
     ensures text { F.is_honest files.old → IfOk result (λ act. IsPut act
         → node_at (F.history files.new).tree lock.now.path.items
         ≡ Some (file (loose_text (target_view new.now)))) }
-    ensures folders { Passes F.is_honest F.history files.old files.new SameFolders }
     ensures held { F.is_honest files.old
         → IsTrue (is_file_at (F.history files.old).tree lock.now.path.items)
         → IsTrue (is_file_at (F.history files.new).tree lock.now.path.items) }
     ensures counted { F.is_honest files.old
         → IsTrue (is_file_at (F.history files.old).tree lock.now.path.items)
         → IfErr result (Counts (F.failures files.old) (F.failures files.new)) }
-    ensures memory { IfErr result (λ error. error ≢ Io
-        → F.failures files.new ≡ F.failures files.old) }
     ensures failed { IfErr result (λ error. (error ≡ Io) ⊎ (error ≡ Memory)) }
 {
     match log {
@@ -360,23 +297,18 @@ fn fill<F: Files>(
     lock: &Lock,
     target: &Target,
 ) -> Result<(), PrepareError>
-    ensures honest { F.is_honest files.old → F.is_honest files.new }
-    ensures later { F.failures files.old ≤ F.failures files.new }
-    ensures unfailed { IfOk result (λ _. F.failures files.new ≡ F.failures files.old) }
+    ensures keeps { KeepsFolders F.Files (EndsQuietly IsNoIo result) files.old files.new }
     ensures moments { Passes F.is_honest F.history files.old files.new
         (OthersStay lock.now.path.items) }
     ensures filled { F.is_honest files.old → OnOk result
         (node_at (F.history files.new).tree lock.now.path.items
         ≡ Some (file (loose_text (target_view target.now)))) }
-    ensures folders { Passes F.is_honest F.history files.old files.new SameFolders }
     ensures held { F.is_honest files.old
         → IsTrue (is_file_at (F.history files.old).tree lock.now.path.items)
         → IsTrue (is_file_at (F.history files.new).tree lock.now.path.items) }
     ensures counted { F.is_honest files.old
         → IsTrue (is_file_at (F.history files.old).tree lock.now.path.items)
         → IfErr result (Counts (F.failures files.old) (F.failures files.new)) }
-    ensures memory { IfErr result (λ error. error ≢ Io
-        → F.failures files.new ≡ F.failures files.old) }
     ensures failed { IfErr result (λ error. (error ≡ Io) ⊎ (error ≡ Memory)) }
 {
     let mut text = Vec::new(alloc);

@@ -1,39 +1,32 @@
 //! Transactions: prepared, and then committed or rolled back.
 
-ghost use Rattle.std.specs.Prelude.{◌≡◌, ◌≤◌, ◌⊎◌, ◌≢◌, ℕ, [], Bool, List, true, false, None, Option, option_map, Ok, IfErr, IfOk, IfSome, IsErrOf, IsTrue, OnOk};
-ghost use Rattle.std.specs.List.{AllByRecursion, list_all};
-ghost use Rattle.gix_object_lookup.specs.Table.{Table};
+ghost use Rattle.std.specs.Prelude.{◌≡◌, ◌≤◌, ◌⊎◌, ◌≢◌, ℕ, [], List, false, IfErr, IfOk, IfSome, IsTrue, MatchResult, OnOk};
+ghost use Rattle.std.specs.List.{list_all};
 ghost use Rattle.gix_ref_file.specs.History.{Adds, HasRisen};
-ghost use Rattle.gix_ref_file.specs.Tree.{Tree, is_path};
-ghost use Rattle.gix_ref_file.specs.Changes.{may_hold_file};
-ghost use Rattle.gix_ref_file.specs.Calls.{Achieves, HasFault, Passes};
-ghost use Rattle.gix_ref_way.specs.Ways.{FoldersOnlyOf, SameFolders, file_at};
-ghost use Rattle.gix_ref_format.specs.PackedBuffer.{KeepsFile};
-ghost use Rattle.gix_ref_format.specs.PackedKept.{kept};
+ghost use Rattle.gix_ref_file.specs.Tree.{is_path};
+ghost use Rattle.gix_ref_file.specs.Calls.{Achieves, Passes};
+ghost use Rattle.gix_ref_way.specs.Ways.{FoldersOnlyOf, SameFolders};
 ghost use Rattle.gix_ref_store.specs.Lookups.{reads_with};
-ghost use Rattle.gix_ref_store.specs.Places.{Base, place};
-ghost use Rattle.gix_ref_store.specs.RefStates.{packed_text_in};
 ghost use Rattle.gix_ref_store.specs.Stores.{base_of};
 ghost use Rattle.gix_ref_lock.specs.declared.lock.GivenBack.TheVariants as given;
-ghost use Rattle.gix_ref_lock.specs.Contents.{lock_path_of, place_of};
+ghost use Rattle.gix_ref_lock.specs.Calls.{EndsQuietly, FailsByFault, KeepsFolders, StaysHonest};
 ghost use Rattle.gix_ref_lock.specs.Moments.{NoFileMore, SameButLocks};
-ghost use Rattle.gix_ref_lock.specs.Moves.{LocksHeld, Once, lock_paths};
-ghost use Rattle.gix_ref_lock.specs.Needs.{AreBeside, CanCommit, IsOutOfMemory, log_paths};
+ghost use Rattle.gix_ref_lock.specs.Moves.{Once};
+ghost use Rattle.gix_ref_lock.specs.Needs.{CanCommit, IsOutOfMemory, log_paths};
 ghost use Rattle.gix_ref_lock.specs.Committing.{IsCommitted, OnTheWay, commit_paths};
 ghost use Rattle.gix_ref_transaction.specs.Modes.{objects_in, removes};
-ghost use Rattle.gix_ref_transaction.specs.Resolving.{PackFault, SomeChangeFault};
-ghost use Rattle.gix_ref_transaction.specs.Alike.{ReadsAlike};
-ghost use Rattle.gix_ref_transaction.specs.Causes.{IfUnresolved, NotAllowed, ReadyFault, SomeEditFault, Unresolved};
+ghost use Rattle.gix_ref_transaction.specs.Resolving.{PackCause, SomeChangeFault};
+ghost use Rattle.gix_ref_transaction.specs.Calls.{ArePlanned, AreTaken, IsNoIo, KeepsStore, LeavesUnplanned, StorePasses, StoreTurns};
+ghost use Rattle.gix_ref_transaction.specs.Causes.{NotAllowed, ReadyFault, Unresolved};
 ghost use Rattle.gix_ref_transaction.specs.Errors.{Counts, IsAfter, IsQuiet, MayBeLeft};
-ghost use Rattle.gix_ref_transaction.specs.Locking.{AreHeld, IsLockable, RecordsHeld, are_known};
-ghost use Rattle.gix_ref_transaction.specs.LogLines.{AllLined, logging};
+ghost use Rattle.gix_ref_transaction.specs.Locking.{AreHeld, RecordsHeld, are_known};
 ghost use Rattle.gix_ref_transaction.specs.Paths.{edit_paths, has_twice, name_paths, places_of};
-ghost use Rattle.gix_ref_transaction.specs.Plans.{AllHold, AllPlanned, AllTested, AreSplit, KeepsFiles};
-ghost use Rattle.gix_ref_transaction.specs.Preparing.{AreReady, FailsToPrepare, FoldersFor, GivenCause, IsPacked, IsPrepared, KeepsReferences, LeavesUnprepared, asked_of, asked_with};
-ghost use Rattle.gix_ref_transaction.specs.Reads.{AllGiveKind, AllReadBack, IsAsPrepared, prepared_of, ReadsEdited, ReadsOnWay};
-ghost use Rattle.gix_ref_transaction.specs.Rollback.{AllGone, FailsForMemory, FailsStaying, MoreFilesAt, PackedGone, SameFilesBut, all_locks, of_giving, packed_locks};
+ghost use Rattle.gix_ref_transaction.specs.Plans.{AllPlanned, AreSplit, KeepsFiles};
+ghost use Rattle.gix_ref_transaction.specs.Preparing.{AreReady, GivenCause, IsPrepared, KeepsReferences, LeavesUnprepared, Packs, PrepareCause, Prepares, Unprepares, asked_of, asked_with};
+ghost use Rattle.gix_ref_transaction.specs.Reads.{AllGiveKind, AllReadBack, ReadsEdited, ReadsOnWay, prepared_of};
+ghost use Rattle.gix_ref_transaction.specs.Rollback.{AllGone, FailsForMemory, PackedGone, SameFilesBut, all_locks, of_giving, packed_locks};
 ghost use Rattle.gix_ref_transaction.specs.Rollback as rolls;
-ghost use Rattle.gix_ref_transaction.specs.declared.error.PrepareError.TheVariants.{Io, LockAcquire};
+ghost use Rattle.gix_ref_transaction.specs.declared.error.PrepareError.TheVariants.{Io};
 
 use crate::PackedRefs;
 use crate::error::PrepareError;
@@ -87,25 +80,14 @@ pub fn prepare<F: Files, O: FindInto>(
     committer: Option<ActorRef<'_>>,
     packed_refs: PackedRefs<'_, O>,
 ) -> Result<Transaction, PrepareError>
-    ensures keeps { KeepsReferences F.is_honest F.history F.failures
+    ensures keeps { KeepsReferences F.Files
         (asked_of F.history store.old committer.entry edits.items) store.old store.new }
-    ensures unfailed { IfOk result (λ _. F.failures store.new.files ≡ F.failures store.old.files) }
-    ensures ready { IfOk result (λ t.
-        AreReady (base_of store.old) store.old.options.precompose_unicode t.edits.items) }
-    ensures planned { IfOk result (λ t. AllPlanned (base_of store.old) (removes packed_refs.entry)
-        t.edits.items t.moves.items) }
-    ensures prepared { F.is_honest store.old.files → IfOk result (λ t. IsPrepared
-        (asked_of F.history store.old committer.entry edits.items)
-        (F.history store.new.files).tree (prepared_of t.edits.items t.moves.items t.packed)) }
-    ensures packed { F.is_honest store.old.files → IfSome (objects_in packed_refs.entry) O.is_honest
-        → IfOk result (λ t. IsPacked (base_of store.old)
-        (option_map O.table (objects_in packed_refs.entry)) (removes packed_refs.entry)
-        (F.history store.old.files).tree (F.history store.new.files).tree
+    ensures prepared { IfOk result (λ t. Prepares F.Files O.Lookup packed_refs.entry
+        (asked_of F.history store.old committer.entry edits.items) store.old store.new
         (prepared_of t.edits.items t.moves.items t.packed)) }
-    ensures failed { IfErr result (LeavesUnprepared F.is_honest F.history F.failures
-        F.reading_may_fail (IfSome (objects_in packed_refs.entry) O.is_honest)
-        (PackFault F.reading_may_fail O.may_fail O.table (objects_in packed_refs.entry))
-        (asked_of F.history store.old committer.entry edits.items) store.old store.new) }
+    ensures failed { IfErr result (LeavesUnprepared F.Files O.Lookup (objects_in packed_refs.entry)
+        PrepareCause (asked_of F.history store.old committer.entry edits.items)
+        store.old store.new) }
 {
     let records = store.open_packed_buffer(alloc)?;
     prepare_with(
@@ -128,14 +110,10 @@ pub fn prepare_with<F: Files, O: FindInto>(
     committer: Option<ActorRef<'_>>,
     packed_refs: PackedRefs<'_, O>,
 ) -> Result<Transaction, PrepareError>
-    ensures honest { F.is_honest store.old.files → F.is_honest store.new.files }
-    ensures base { base_of store.new ≡ base_of store.old }
-    ensures options { store.new.options ≡ store.old.options }
-    ensures moments { Passes F.is_honest F.history store.old.files store.new.files SameButLocks }
-    ensures alike { Passes F.is_honest F.history store.old.files store.new.files
-        (ReadsAlike (base_of store.old)) }
-    ensures folders { Passes F.is_honest F.history store.old.files store.new.files
-        (FoldersFor (asked_with F.history store.old packed.entry committer.entry edits.items)) }
+    ensures keeps { KeepsReferences F.Files
+        (asked_with F.history store.old packed.entry committer.entry edits.items)
+        store.old store.new }
+    ensures unfailed { OnOk result (F.failures store.new.files ≡ F.failures store.old.files) }
     ensures ready { IfOk result (λ t.
         AreReady (base_of store.old) store.old.options.precompose_unicode t.edits.items) }
     ensures planned { IfOk result (λ t. AllPlanned (base_of store.old) (removes packed_refs.entry)
@@ -143,26 +121,11 @@ pub fn prepare_with<F: Files, O: FindInto>(
     ensures prepared { F.is_honest store.old.files → IfOk result (λ t. IsPrepared
         (asked_with F.history store.old packed.entry committer.entry edits.items)
         (F.history store.new.files).tree (prepared_of t.edits.items t.moves.items t.packed)) }
-    ensures packed { F.is_honest store.old.files → IfSome (objects_in packed_refs.entry) O.is_honest
-        → let b = base_of store.old in let old = (F.history store.old.files).tree in
-        KeepsFile b.kind (packed_text_in b old) (option_map (λ buffer. kept buffer.now) packed.entry)
-        → IfOk result (λ t. IsPacked b (option_map O.table (objects_in packed_refs.entry))
-        (removes packed_refs.entry) old (F.history store.new.files).tree
-        (prepared_of t.edits.items t.moves.items t.packed)) }
-    ensures later { F.failures store.old.files ≤ F.failures store.new.files }
-    ensures unfailed { IfOk result (λ _. F.failures store.new.files ≡ F.failures store.old.files) }
-    // Errors for which no change failed count none.
-    ensures memory { IfErr result (λ error. IsQuiet error
-        → F.failures store.new.files ≡ F.failures store.old.files) }
-    ensures failed { F.is_honest store.old.files → IfErr result (FailsToPrepare GivenCause
-        (asked_with F.history store.old packed.entry committer.entry edits.items)
-        (F.failures store.old.files) (F.failures store.new.files) F.reading_may_fail
-        (F.history store.new.files).tree) }
-    // No object is found only if one is missing.
-    ensures resolves { F.is_honest store.old.files → IfSome (objects_in packed_refs.entry) O.is_honest
-        → let why = PackFault F.reading_may_fail O.may_fail O.table (objects_in packed_refs.entry) in
-        let tree = (F.history store.old.files).tree in
-        IfErr result (IfUnresolved (reads_with store.old tree packed.entry) why edits.items) }
+    ensures packed { IfOk result (λ t. Packs F.Files O.Lookup packed_refs.entry
+        store.old packed.entry store.new (prepared_of t.edits.items t.moves.items t.packed)) }
+    ensures failed { IfErr result (LeavesUnprepared F.Files O.Lookup (objects_in packed_refs.entry)
+        GivenCause (asked_with F.history store.old packed.entry committer.entry edits.items)
+        store.old store.new) }
 {
     let mut edits = edits;
     ready(alloc, &*store, packed, &mut edits)?;
@@ -220,38 +183,24 @@ fn locked<F: Files, O: FindInto>(
     packed_refs: &PackedRefs<'_, O>,
 ) -> Result<Transaction, PrepareError>
     requires { AreReady (base_of store.old) store.old.options.precompose_unicode edits.items }
-    ensures honest { F.is_honest store.old.files → F.is_honest store.new.files }
-    ensures base { base_of store.new ≡ base_of store.old }
-    ensures options { store.new.options ≡ store.old.options }
-    ensures moments { Passes F.is_honest F.history store.old.files store.new.files SameButLocks }
-    ensures folders { Passes F.is_honest F.history store.old.files store.new.files
+    ensures keeps { KeepsStore F.Files (EndsQuietly IsQuiet result) store.old store.new }
+    ensures moments { StorePasses F.Files store.old store.new SameButLocks }
+    ensures folders { StorePasses F.Files store.old store.new
         (FoldersOnlyOf (places_of (base_of store.old) edits.items)) }
     ensures edits { IfOk result (λ t. t.edits ≡ edits) }
     ensures planned { IfOk result (λ t. AllPlanned (base_of store.old) (removes packed_refs.now)
         t.edits.items t.moves.items) }
-    ensures prepared { (asked : List RefEdit) → F.is_honest store.old.files
+    ensures packed { IfOk result (λ t. Packs F.Files O.Lookup packed_refs.now
+        store.old packed.entry store.new (prepared_of t.edits.items t.moves.items t.packed)) }
+    ensures locked { (asked : List RefEdit) → F.is_honest store.old.files
         → let a = asked_with F.history store.old packed.entry committer.entry asked in
         AreSplit a.lines.read asked edits.items
-        → IfOk result (λ t. IsPrepared a (F.history store.new.files).tree
-        (prepared_of t.edits.items t.moves.items t.packed)) }
-    ensures packed { F.is_honest store.old.files → IfSome (objects_in packed_refs.now) O.is_honest
-        → let b = base_of store.old in let old = (F.history store.old.files).tree in
-        KeepsFile b.kind (packed_text_in b old) (option_map (λ buffer. kept buffer.now) packed.entry)
-        → IfOk result (λ t. IsPacked b (option_map O.table (objects_in packed_refs.now))
-        (removes packed_refs.now) old (F.history store.new.files).tree
-        (prepared_of t.edits.items t.moves.items t.packed)) }
-    ensures later { F.failures store.old.files ≤ F.failures store.new.files }
-    ensures unfailed { IfOk result (λ _. F.failures store.new.files ≡ F.failures store.old.files) }
-    ensures memory { IfErr result (λ error. IsQuiet error
-        → F.failures store.new.files ≡ F.failures store.old.files) }
-    ensures failed { (asked : List RefEdit) → F.is_honest store.old.files
-        → let a = asked_with F.history store.old packed.entry committer.entry asked in
-        AreSplit a.lines.read asked edits.items → IfErr result (FailsToPrepare GivenCause a
-        (F.failures store.old.files) (F.failures store.new.files) F.reading_may_fail
-        (F.history store.new.files).tree) }
+        → MatchResult result (λ t. IsPrepared a (F.history store.new.files).tree
+        (prepared_of t.edits.items t.moves.items t.packed))
+        (Unprepares F.Files GivenCause a store.old store.new) }
     ensures resolves { F.is_honest store.old.files → IfSome (objects_in packed_refs.now) O.is_honest
-        → let why = PackFault F.reading_may_fail O.may_fail O.table (objects_in packed_refs.now) in
-        IfErr result (Unresolved (SomeChangeFault why edits.items)) }
+        → IfErr result (Unresolved (SomeChangeFault
+        (PackCause F.Files O.Lookup (objects_in packed_refs.now)) edits.items)) }
 {
     let records = repack(alloc, store, packed, &edits, packed_refs)?;
     let mut moves = Vec::new(alloc);
@@ -281,57 +230,21 @@ fn plan_all<F: Files, O>(
 ) -> Result<(), PrepareError>
     requires paths { IsTrue (list_all is_path (name_paths (base_of store.old) edits.now)) }
     requires none { moves.old.items ≡ [] }
-    ensures honest { F.is_honest store.old.files → F.is_honest store.new.files }
-    ensures base { base_of store.new ≡ base_of store.old }
-    ensures options { store.new.options ≡ store.old.options }
-    ensures later { F.failures store.old.files ≤ F.failures store.new.files }
-    ensures unfailed { IfOk result (λ _. F.failures store.new.files ≡ F.failures store.old.files) }
-    ensures counted { F.is_honest store.old.files
-        → IfErr result (Counts (F.failures store.old.files) (F.failures store.new.files)) }
-    ensures memory { IfErr result (λ error. error ≢ Io
-        → F.failures store.new.files ≡ F.failures store.old.files) }
-    ensures rolled_back { F.is_honest store.old.files
-        → let old = (F.history store.old.files).tree in
-        let new = (F.history store.new.files).tree in
-        MoreFilesAt (lock_paths moves.new.items) old new
-        ⊎ (HasRisen (F.failures store.old.files) (F.failures store.new.files)
-        ⊎ FailsStaying result) }
-    ensures keeps { F.is_honest store.old.files
-        → KeepsFiles (F.history store.old.files).tree (F.history store.new.files).tree }
-    ensures locked { F.is_honest store.old.files → OnOk result (MoreFilesAt
-        (lock_paths moves.new.items) (F.history store.old.files).tree
-        (F.history store.new.files).tree) }
-    // The locks of all planned edits exist, also after an error, and none existed before.
-    ensures held { F.is_honest store.old.files
-        → LocksHeld moves.new.items (F.history store.new.files).tree }
-    ensures fresh { F.is_honest store.old.files → AllByRecursion
-        (λ m. file_at (F.history store.old.files).tree (lock_path_of m) ≡ None) moves.new.items }
-    ensures once { F.is_honest store.old.files → Once (lock_paths moves.new.items) }
-    ensures folders { Passes F.is_honest F.history store.old.files store.new.files
+    ensures keeps { KeepsStore F.Files (EndsQuietly IsNoIo result) store.old store.new }
+    ensures moments { StorePasses F.Files store.old store.new SameButLocks }
+    ensures folders { StorePasses F.Files store.old store.new
         (FoldersOnlyOf (places_of (base_of store.old) edits.now)) }
-    ensures room { F.is_honest store.old.files → AreBeside (name_paths (base_of store.old) edits.now)
-        → OnOk result (AllByRecursion (λ m.
-        IsTrue (may_hold_file (F.history store.new.files).tree (place_of m))) moves.new.items) }
-    ensures refused { F.is_honest store.old.files → let b = base_of store.old in
-        IsErrOf result LockAcquire → has_twice (name_paths b edits.now) ≡ false
-        → AreBeside (name_paths b edits.now)
-        → ¬ AllByRecursion (λ edit. IsLockable (F.history store.old.files).tree (place b edit.name))
-        edits.now }
-    ensures lines { F.is_honest store.old.files → let tree = (F.history store.old.files).tree in
-        let b = base_of store.old in
-        let l = logging store.old.options (reads_with store.old tree packed.entry) committer.entry in
-        OnOk result (AllLined l b tree edits.now moves.new.items) }
-    ensures failed { F.is_honest store.old.files → let tree = (F.history store.old.files).tree in
-        let b = base_of store.old in
-        let l = logging store.old.options (reads_with store.old tree packed.entry) committer.entry in
-        IfErr result (SomeEditFault l b tree F.reading_may_fail edits.now) }
-    ensures moments { Passes F.is_honest F.history store.old.files store.new.files SameButLocks }
-    ensures tested { F.is_honest store.old.files → let tree = (F.history store.old.files).tree in
-        OnOk result (AllTested (reads_with store.old tree packed.entry) edits.now) }
+    ensures stay { StoreTurns F.Files store.old store.new KeepsFiles }
+    // The locks of all planned edits exist, also after an error, and none existed before.
+    ensures taken { StoreTurns F.Files store.old store.new (AreTaken moves.new.items) }
     ensures planned { OnOk result (AllPlanned (base_of store.old) (removes packed_refs.now) edits.now
         moves.new.items) }
-    ensures texts { F.is_honest store.old.files → OnOk result
-        (AllHold (F.history store.new.files).tree edits.now moves.new.items) }
+    ensures made { F.is_honest store.old.files → OnOk result (ArePlanned
+        (asked_with F.history store.old packed.entry committer.entry edits.now)
+        (F.history store.new.files).tree moves.new.items) }
+    ensures failed { F.is_honest store.old.files → IfErr result (LeavesUnplanned F.Files
+        (asked_with F.history store.old packed.entry committer.entry edits.now) store.old store.new
+        moves.new.items) }
 {
     let mut rest = edits;
     'edits: while let Some((edit, others)) = rest.split_first() {
@@ -397,13 +310,10 @@ fn drop_records<F: Files>(
     files: &mut F,
     packed: Option<packed::Transaction>,
 ) -> GivenBack
-    ensures honest { F.is_honest files.old → F.is_honest files.new }
-    ensures later { F.failures files.old ≤ F.failures files.new }
-    ensures unfailed { result ≢ given.Failed → F.failures files.new ≡ F.failures files.old }
+    ensures keeps { KeepsFolders F.Files (result ≢ given.Failed) files.old files.new }
     ensures failed { F.is_honest files.old → RecordsHeld packed (F.history files.old).tree
         → result ≡ given.Failed → HasRisen (F.failures files.old) (F.failures files.new) }
     ensures moments { Passes F.is_honest F.history files.old files.new SameButLocks }
-    ensures folders { Passes F.is_honest F.history files.old files.new SameFolders }
     ensures others { F.is_honest files.old → SameFilesBut (packed_locks packed)
         (F.history files.old).tree (F.history files.new).tree }
     ensures gone { F.is_honest files.old → result ≡ given.Done
@@ -448,7 +358,7 @@ fn of_back(locks: GivenBack) -> Result<(), CommitError>
 }
 
 impl Transaction {
-    ghost use Rattle.gix_ref_transaction.specs.Parts.{parts};
+    ghost use Rattle.gix_ref_transaction.specs.Parts.{OncePrepared, parts};
 
     /// The edits, those of symbolic references split.
     pub fn edits(&self) -> &[RefEdit]
@@ -464,31 +374,22 @@ impl Transaction {
     /// The errors name the call of the files that failed. After one, no lock exists, as far as
     /// giving them back succeeds.
     pub fn commit<F: Files>(self, alloc: Global, files: &mut F) -> Result<Vec<RefEdit>, CommitError>
-        ensures honest { F.is_honest files.old → F.is_honest files.new }
-        ensures later { F.failures files.old ≤ F.failures files.new }
-        ensures unfailed { IfOk result (λ _. F.failures files.new ≡ F.failures files.old) }
+        ensures keeps { StaysHonest F.Files (EndsQuietly IsOutOfMemory result) files.old files.new }
         ensures folders { Passes F.is_honest F.history files.old files.new
             (FoldersOnlyOf (log_paths self.moves.items)) }
-        ensures memory { IfErr result (λ error. IsOutOfMemory error
-            → F.failures files.new ≡ F.failures files.old) }
         ensures failed { F.is_honest files.old
             → CanCommit self.packed self.moves.items (F.history files.old).tree
-            → IfErr result (λ error.
-            IsOutOfMemory error ⊎ HasFault F.failures F.reading_may_fail files.old files.new) }
+            → FailsByFault F.Files IsOutOfMemory files.old files.new result }
         ensures edits { IfOk result (λ edits. edits ≡ self.edits) }
         ensures moments { Passes F.is_honest F.history files.old files.new
             (OnTheWay self.packed self.moves.items) }
         ensures done { Achieves F.is_honest F.history files.old files.new result
             (IsCommitted self.packed self.moves.items) }
-        ensures on_way { (b : Base) (packs : Option Table) (removes : Bool) (before : Tree)
-            → F.is_honest files.old
-            → IsAsPrepared b packs removes before (F.history files.old).tree (parts self)
-            → Adds (ReadsOnWay b packs removes before (parts self)) (F.history files.old)
-            (F.history files.new) }
-        ensures read { (b : Base) (packs : Option Table) (removes : Bool) (before : Tree)
-            → F.is_honest files.old
-            → IsAsPrepared b packs removes before (F.history files.old).tree (parts self)
-            → OnOk result (ReadsEdited b packs removes before (parts self) (F.history files.new).tree) }
+        ensures on_way { OncePrepared F.Files self files.old (λ b packs removes before.
+            Adds (ReadsOnWay b packs removes before (parts self)) (F.history files.old)
+            (F.history files.new)) }
+        ensures read { OncePrepared F.Files self files.old (λ b packs removes before.
+            OnOk result (ReadsEdited b packs removes before (parts self) (F.history files.new).tree)) }
     {
         let Transaction {
             edits,
@@ -507,23 +408,16 @@ impl Transaction {
         alloc: Global,
         files: &mut F,
     ) -> Result<Vec<RefEdit>, CommitError>
-        ensures honest { F.is_honest files.old → F.is_honest files.new }
-        ensures later { F.failures files.old ≤ F.failures files.new }
-        ensures unfailed { IfOk result (λ _. F.failures files.new ≡ F.failures files.old) }
-        ensures folders { Passes F.is_honest F.history files.old files.new SameFolders }
+        ensures keeps { KeepsFolders F.Files (EndsQuietly IsOutOfMemory result) files.old files.new }
         ensures edits { IfOk result (λ edits. edits ≡ self.edits) }
         ensures moments { Passes F.is_honest F.history files.old files.new SameButLocks }
         // No lock is left.
         ensures gone { Achieves F.is_honest F.history files.old files.new result
             (AllGone self.moves.items self.packed) }
-        // Want of memory counts no failure, and if the locks exist, each other error is that of a
-        // call that failed.
-        ensures memory { IfErr result (λ error. IsOutOfMemory error
-            → F.failures files.new ≡ F.failures files.old) }
+        // If the locks exist, each error but want of memory is that of a call that failed.
         ensures failed { F.is_honest files.old
             → AreHeld self.packed self.moves.items (F.history files.old).tree
-            → IfErr result (λ error.
-            IsOutOfMemory error ⊎ HasFault F.failures F.reading_may_fail files.old files.new) }
+            → FailsByFault F.Files IsOutOfMemory files.old files.new result }
         // No lock is left, also after an error, unless a failure was counted or memory was wanting.
         ensures rolled_back { F.is_honest files.old
             → AreHeld self.packed self.moves.items (F.history files.old).tree

@@ -5,6 +5,7 @@ ghost use Rattle.gix_ref_file.specs.Changes.{is_file_at};
 ghost use Rattle.gix_ref_file.specs.History.{HasRisen};
 ghost use Rattle.gix_ref_file.specs.Tree.{is_path, parent, node_at, is_folder};
 ghost use Rattle.gix_ref_file.specs.declared.files.FileError.TheVariants.{Failed, Memory};
+ghost use Rattle.gix_ref_way.specs.Halts.{IsQuiet};
 ghost use Rattle.gix_ref_way.specs.declared.error.Halt.TheVariants as halt;
 ghost use Rattle.gix_ref_way.specs.Ways.{SameFiles, OneFolderMore, FoldersAbove, NoFileAbove, HasFoldersAbove, KeepsFolders, TellsAbove};
 
@@ -44,10 +45,7 @@ pub(crate) fn make_missing<F: Files>(alloc: Global, files: &mut F, path: &[u8]) 
     ensures folders { Passes F.is_honest F.history files.old files.new (FoldersAbove path.now) }
     ensures stay { Passes F.is_honest F.history files.old files.new KeepsFolders }
     ensures later { F.failures files.old ≤ F.failures files.new }
-    ensures unfailed { OnOk result (F.failures files.new ≡ F.failures files.old) }
-    ensures memory { IsErrOf result halt.Memory → F.failures files.new ≡ F.failures files.old }
-    ensures barred { IsErrOf result halt.Blocked → F.failures files.new ≡ F.failures files.old }
-    ensures silent { IsErrOf result halt.Unread → F.failures files.new ≡ F.failures files.old }
+    ensures quiet { IsQuiet result (F.failures files.old) (F.failures files.new) }
     ensures made { F.is_honest files.old
         → OnOk result (HasFoldersAbove path.now (F.history files.new).tree) }
     ensures blocked { F.is_honest files.old → IsErrOf result halt.Blocked
@@ -72,10 +70,7 @@ fn make_each<F: Files>(alloc: Global, files: &mut F, path: &[u8]) -> Result<(), 
     ensures folders { Passes F.is_honest F.history files.old files.new (FoldersAbove path.now) }
     ensures stay { Passes F.is_honest F.history files.old files.new KeepsFolders }
     ensures later { F.failures files.old ≤ F.failures files.new }
-    ensures unfailed { OnOk result (F.failures files.new ≡ F.failures files.old) }
-    ensures memory { IsErrOf result halt.Memory → F.failures files.new ≡ F.failures files.old }
-    ensures barred { IsErrOf result halt.Blocked → F.failures files.new ≡ F.failures files.old }
-    ensures silent { IsErrOf result halt.Unread → F.failures files.new ≡ F.failures files.old }
+    ensures quiet { IsQuiet result (F.failures files.old) (F.failures files.new) }
     ensures made { F.is_honest files.old
         → OnOk result (HasFoldersAbove path.now (F.history files.new).tree) }
     ensures blocked { F.is_honest files.old → IsErrOf result halt.Blocked
@@ -110,10 +105,7 @@ fn make_folder<F: Files>(alloc: Global, files: &mut F, folder: &[u8]) -> Result<
     ensures moments { Passes F.is_honest F.history files.old files.new SameFiles }
     ensures folders { Passes F.is_honest F.history files.old files.new (OneFolderMore folder.now) }
     ensures later { F.failures files.old ≤ F.failures files.new }
-    ensures unfailed { OnOk result (F.failures files.new ≡ F.failures files.old) }
-    ensures memory { IsErrOf result halt.Memory → F.failures files.new ≡ F.failures files.old }
-    ensures barred { IsErrOf result halt.Blocked → F.failures files.new ≡ F.failures files.old }
-    ensures silent { IsErrOf result halt.Unread → F.failures files.new ≡ F.failures files.old }
+    ensures quiet { IsQuiet result (F.failures files.old) (F.failures files.new) }
     ensures stay { Passes F.is_honest F.history files.old files.new KeepsFolders }
     ensures kept { Achieves F.is_honest F.history files.old files.new result KeepsFolders }
     ensures made { F.is_honest files.old

@@ -6,6 +6,7 @@ ghost use Rattle.gix_ref_file.specs.Changes.{is_file_at, may_hold_file};
 ghost use Rattle.gix_ref_file.specs.Calls.{Achieves, HasFault, Passes};
 ghost use Rattle.gix_ref_file.specs.History.{HasRisen};
 ghost use Rattle.gix_ref_file.specs.declared.files.FileError.TheVariants.{Failed, Memory};
+ghost use Rattle.gix_ref_way.specs.Halts.{IsQuiet};
 ghost use Rattle.gix_ref_way.specs.declared.error.Halt.TheVariants as halt;
 ghost use Rattle.gix_ref_way.specs.declared.error.Way.TheVariants.{Free, Blocked, Unread};
 ghost use Rattle.gix_ref_way.specs.Ways.{SameFiles, FoldersAbove, KeepsOtherFolders, ClearsWay, HasWay, TellsBelow};
@@ -75,10 +76,7 @@ fn make_room<F: Files>(alloc: Global, files: &mut F, path: &[u8]) -> Result<(), 
     ensures folders { Passes F.is_honest F.history files.old files.new (FoldersAbove path.now) }
     ensures stay { Passes F.is_honest F.history files.old files.new (KeepsOtherFolders path.now) }
     ensures later { F.failures files.old ≤ F.failures files.new }
-    ensures unfailed { OnOk result (F.failures files.new ≡ F.failures files.old) }
-    ensures memory { IsErrOf result halt.Memory → F.failures files.new ≡ F.failures files.old }
-    ensures barred { IsErrOf result halt.Blocked → F.failures files.new ≡ F.failures files.old }
-    ensures silent { IsErrOf result halt.Unread → F.failures files.new ≡ F.failures files.old }
+    ensures quiet { IsQuiet result (F.failures files.old) (F.failures files.new) }
     ensures room { F.is_honest files.old → IsTrue (is_path path.now)
         → OnOk result (IsTrue (may_hold_file (F.history files.new).tree path.now)) }
     ensures blocked { F.is_honest files.old → IsErrOf result halt.Blocked
@@ -104,10 +102,7 @@ fn replace_folder<F: Files>(alloc: Global, files: &mut F, path: &[u8]) -> Result
     ensures folders { Passes F.is_honest F.history files.old files.new (FoldersAbove path.now) }
     ensures stay { Passes F.is_honest F.history files.old files.new (KeepsOtherFolders path.now) }
     ensures later { F.failures files.old ≤ F.failures files.new }
-    ensures unfailed { OnOk result (F.failures files.new ≡ F.failures files.old) }
-    ensures memory { IsErrOf result halt.Memory → F.failures files.new ≡ F.failures files.old }
-    ensures barred { IsErrOf result halt.Blocked → F.failures files.new ≡ F.failures files.old }
-    ensures silent { IsErrOf result halt.Unread → F.failures files.new ≡ F.failures files.old }
+    ensures quiet { IsQuiet result (F.failures files.old) (F.failures files.new) }
     ensures room { F.is_honest files.old → IsTrue (is_path path.now)
         → OnOk result (IsTrue (may_hold_file (F.history files.new).tree path.now)) }
     ensures blocked { F.is_honest files.old → IsErrOf result halt.Blocked
@@ -129,10 +124,7 @@ fn clear_way<F: Files>(alloc: Global, files: &mut F, place: &[u8]) -> Result<(),
     ensures gone { Achieves F.is_honest F.history files.old files.new result
         (λ old new. place.now ≢ [] → get new place.now ≡ None) }
     ensures later { F.failures files.old ≤ F.failures files.new }
-    ensures unfailed { OnOk result (F.failures files.new ≡ F.failures files.old) }
-    ensures memory { IsErrOf result halt.Memory → F.failures files.new ≡ F.failures files.old }
-    ensures barred { IsErrOf result halt.Blocked → F.failures files.new ≡ F.failures files.old }
-    ensures silent { IsErrOf result halt.Unread → F.failures files.new ≡ F.failures files.old }
+    ensures quiet { IsQuiet result (F.failures files.old) (F.failures files.new) }
     ensures blocked { F.is_honest files.old → IsErrOf result halt.Blocked
         → IsTrue (is_file_at (F.history files.old).tree place.now)
         ⊎ TellsBelow place.now (F.history files.old).tree true }

@@ -12,7 +12,8 @@ use Rattle.gix_traverse_graph.specs.Numbered.{same_id}
 use Rattle.gix_traverse_graph.specs.Order.{At}
 use Rattle.gix_traverse_graph.specs.Rows.{AllHeld}
 use Rattle.gix_traverse_graph.specs.Sorting.{in_time}
-use Rattle.gix_traverse_commit.specs.Awaited.{AwaitsSome, LooksUp, MeetsToo, PaintsOnly, times_of}
+use Rattle.gix_traverse_commit_known.specs.Fetching.{LooksUpAtMost}
+use Rattle.gix_traverse_commit.specs.Awaited.{AwaitsSome, MeetsToo, PaintsOnly, times_of}
 use Rattle.gix_traverse_commit_known.specs.Ending.{times_in, times_waiting}
 use Rattle.gix_traverse_commit_known.specs.Known.{KnownCommits, turns_of}
 use Rattle.gix_traverse_commit_known.specs.Meeting.{CountsAll, CountsTimes, IsFresh, MarksAll, MarksMet}
@@ -35,13 +36,13 @@ use Rattle.gix_traverse_commit_known.proofs.Timely.{in_first, in_rest}
 
 -- ---- what is read
 
-pub reads_none : {F : Type 0} (source : Source F) → LooksUp 0 source source
+pub reads_none : {F : Type 0} (source : Source F) → LooksUpAtMost 0 source source
 reads_none source = record { objects = refl; rows = refl; least = omega arith; most = omega arith }
 
-pub reads_within : {F : Type 0} (m n : ℕ) (a b : Source F) → m ≤ n → LooksUp m a b → LooksUp n a b
+pub reads_within : {F : Type 0} (m n : ℕ) (a b : Source F) → m ≤ n → LooksUpAtMost m a b → LooksUpAtMost n a b
 reads_within m n a b l w = record { objects = w.objects; rows = w.rows; least = w.least; most = omega (arith, l, w.most) }
 
-pub reads_more : {F : Type 0} (m n : ℕ) (a b c : Source F) → LooksUp m a b → LooksUp n b c → LooksUp (m + n) a c
+pub reads_more : {F : Type 0} (m n : ℕ) (a b c : Source F) → LooksUpAtMost m a b → LooksUpAtMost n b c → LooksUpAtMost (m + n) a c
 reads_more m n a b c v w = record {
   objects = w.objects ∙ v.objects;
   rows = w.rows ∙ v.rows;
@@ -53,7 +54,7 @@ pub times_most : (t : Option Timing) (xs : List ObjectId) → times_of t xs ≤ 
 times_most None xs = omega arith
 times_most (Some timing) xs = omega arith
 
-pub reads_timed : {F : Type 0} (t : Option Timing) (xs : List ObjectId) (a b : Source F) → IsSome t → LooksUp (length xs) a b → LooksUp (times_of t xs) a b
+pub reads_timed : {F : Type 0} (t : Option Timing) (xs : List ObjectId) (a b : Source F) → IsSome t → LooksUpAtMost (length xs) a b → LooksUpAtMost (times_of t xs) a b
 reads_timed None xs a b s w = let z : ⊥ = cc in absurd z
 reads_timed (Some timing) xs a b s w = w
 

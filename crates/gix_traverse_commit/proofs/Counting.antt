@@ -1,18 +1,19 @@
 -- How many objects were looked up.
-use Rattle.std.proofs.Common.{Option, Bool, ◌≡◌, ℕ, zero, suc, ◌+◌, ◌≤◌, List, [], ◌∷◌, ◌++◌, length, take, refl, sym, ◌∙◌, ap, subst, arith, add-one}
+use Rattle.std.proofs.Common.{Option, Bool, ◌≡◌, ℕ, ◌≤◌, List, [], length, take, refl, subst, arith}
 use Rattle.std.specs.Prelude.{IsTrue}
 use Rattle.gix_hash.specs.Id.{Id}
 use Rattle.gix_hash.specs.declared.object_id.ObjectId.{ObjectId}
 use Rattle.gix_object_lookup.specs.Table.{Table}
 use Rattle.gix_traverse_graph.specs.Commits.{Commits, Reached, tip, parent}
 use Rattle.gix_object_lines.specs.Counts.{one_more}
-use Rattle.gix_traverse_commit_known.specs.Fetching.{FetchFault}
+use Rattle.gix_traverse_commit_known.specs.Fetching.{ReadFault}
+use Rattle.gix_traverse_graph.specs.declared.parents.Parents.{Parents}
 use Rattle.gix_traverse_commit_known.specs.Keeping.{KeptAll}
 use Rattle.gix_traverse_commit_known.specs.Nodes.{is_hidden, Node}
-use Rattle.gix_traverse_graph.specs.Order.{At, IsListOf}
+use Rattle.gix_traverse_graph.specs.Order.{IsListOf}
 use Rattle.gix_traverse_commit_known.specs.Painting.{CountsUnread, IsPainted, PaintsSome, ReachedFrom, every}
 use Rattle.gix_traverse_graph.specs.Rows.{Holds}
-use Rattle.gix_traverse_commit_known.specs.Meeting.{CountsAll, CountsOne}
+use Rattle.gix_traverse_commit_known.specs.Meeting.{CountsAll}
 use Rattle.gix_traverse_commit.specs.Giving.{CountsFault, MeetsParents}
 use Rattle.gix_traverse_commit_known.specs.Faults.{error_of}
 use Rattle.gix_traverse_graph.specs.declared.info.Info.{Info}
@@ -25,27 +26,6 @@ use Rattle.gix_traverse_graph.proofs.Lists.{at_from_contains, at_from_take, none
 use Rattle.gix_traverse_commit_known.specs.Told.{AreTold}
 use Rattle.gix_traverse_commit_known.proofs.Painting.{painted_reached}
 use Rattle.gix_traverse_commit_known.proofs.Timely.{in_nil}
-
-counts_push : (rows : List Row) (xs : List ObjectId) (x : ObjectId) (a b c : ℕ) → CountsAll rows xs a b → CountsOne rows x b c → CountsAll rows (xs ++ x ∷ []) a c
-counts_push rows [] x a b c e one = (c, subst (λ (n : ℕ). CountsOne rows x n c) e one, refl)
-counts_push rows (y ∷ ys) x a b c (mid, first, rest) one = (mid, first, counts_push rows ys x mid b c rest one)
-
--- the beginning of a longer list, and the one after it
-take_next : (xs ys : List ObjectId) (k : ℕ) (x : ObjectId) → At xs k x → ((j : ℕ) (y : ObjectId) → At xs j y → At ys j y) → take (suc k) ys ≡ take k xs ++ x ∷ []
-take_next [] ys k x a more = absurd (none_at_nil k x a)
-take_next (z ∷ xs) [] k x a more = absurd (none_at_nil 0 z (more 0 z refl))
-take_next (z ∷ xs) (w ∷ ys) zero x a more =
-    let b : At (w ∷ ys) 0 x = more 0 x a in
-    let same : w ≡ x = cc in ap (λ (v : ObjectId). v ∷ []) same
-take_next (z ∷ xs) (w ∷ ys) (suc k) x a more =
-    let b : At (w ∷ ys) 0 z = more 0 z refl in
-    let same : w ≡ z = cc in
-    ap (λ (v : ObjectId). v ∷ take (suc k) ys) same ∙ ap (λ (zs : List ObjectId). z ∷ zs) (take_next xs ys k x a (λ j y c. more (suc j) y c))
-
-pub counts_next : (rows : List Row) (xs ys : List ObjectId) (k : ℕ) (x : ObjectId) (a b c : ℕ) → At xs k x → ((j : ℕ) (y : ObjectId) → At xs j y → At ys j y) → CountsAll rows (take k xs) a b → CountsOne rows x b c → CountsAll rows (take (k + 1) ys) a c
-counts_next rows xs ys k x a b c here more before one =
-    let e : take (k + 1) ys ≡ take k xs ++ x ∷ [] = rw add-one (take_next xs ys k x here more) in
-    subst (λ (zs : List ObjectId). CountsAll rows zs a c) (sym e) (counts_push rows (take k xs) x a b c before one)
 
 -- what is painted once all places are read
 pub painted_list : (g : Commits ObjectId) (hidden : List ObjectId) (nodes : List Node) (xs : List ObjectId) (p : ℕ) → KeptAll (λ y. (g y).parents) hidden every (is_hidden nodes) xs p → length xs ≤ p → IsListOf (ReachedFrom g hidden) xs
@@ -85,16 +65,16 @@ paints_some honest rows table hidden nodes xs p before after each painted walked
 }
 
 -- one that isn't read
-pub unread_counts : (honest may_fail : Type 0) (rows : List Row) (table : Table) (id : ObjectId) (error : FetchError) (before after : ℕ) → FetchFault honest may_fail rows table id error → ((¬ Holds rows id) → after ≡ one_more before) → before ≤ after → CountsUnread before after error
-unread_counts honest may_fail rows table id (fetch.Find error) before after f one l = one f.0
-unread_counts honest may_fail rows table id (fetch.ObjectDecode error) before after f one l = one f.0
-unread_counts honest may_fail rows table id fetch.Memory before after f one l = l
+pub unread_counts : (along : Parents) (honest may_fail : Type 0) (rows : List Row) (table : Table) (id : ObjectId) (error : FetchError) (before after : ℕ) → ReadFault along honest may_fail rows table id error → ((¬ Holds rows id) → after ≡ one_more before) → before ≤ after → CountsUnread before after error
+unread_counts along honest may_fail rows table id (fetch.Find error) before after f one l = one f.0
+unread_counts along honest may_fail rows table id (fetch.ObjectDecode error) before after f one l = one f.0
+unread_counts along honest may_fail rows table id fetch.Memory before after f one l = l
 
 -- a commit that isn't read
-pub fault_counts : (honest may_fail : Type 0) (rows : List Row) (table : Table) (id : ObjectId) (error : FetchError) (before after : ℕ) → FetchFault honest may_fail rows table id error → ((¬ Holds rows id) → after ≡ one_more before) → before ≤ after → CountsFault before after (error_of error)
-fault_counts honest may_fail rows table id (fetch.Find error) before after f one l = one f.0
-fault_counts honest may_fail rows table id (fetch.ObjectDecode error) before after f one l = one f.0
-fault_counts honest may_fail rows table id fetch.Memory before after f one l = l
+pub fault_counts : (along : Parents) (honest may_fail : Type 0) (rows : List Row) (table : Table) (id : ObjectId) (error : FetchError) (before after : ℕ) → ReadFault along honest may_fail rows table id error → ((¬ Holds rows id) → after ≡ one_more before) → before ≤ after → CountsFault before after (error_of error)
+fault_counts along honest may_fail rows table id (fetch.Find error) before after f one l = one f.0
+fault_counts along honest may_fail rows table id (fetch.ObjectDecode error) before after f one l = one f.0
+fault_counts along honest may_fail rows table id fetch.Memory before after f one l = l
 
 -- what holds of a walk holds of one that is the same in all that is spoken of
 pub meets_moved : {P : Type 0} (accepts : P → Id → Bool) (goes : P → Id → P → Type 0) (rows rows' : List Row) (nodes nodes' : List Node) (t t' : Option Timing) (info : Info) (p q : P) (n m : ℕ) (p' : P) (n' : ℕ) → rows ≡ rows' → nodes ≡ nodes' → t ≡ t' → p ≡ q → n ≡ m → MeetsParents accepts goes rows nodes t info p n p' n' → MeetsParents accepts goes rows' nodes' t' info q m p' n'

@@ -1,5 +1,5 @@
 -- What the steps of a walk look up, and which commits begin to wait.
-use Rattle.std.specs.Prelude.{◌≡◌, ◌⊎◌, ◌≤◌, ◌+◌, ℕ, Bool, true, List, length, Option, None, Some, Contains, if◌then◌else◌}
+use Rattle.std.specs.Prelude.{◌≡◌, ◌⊎◌, ℕ, Bool, true, List, length, Option, None, Some, Contains, if◌then◌else◌}
 use Rattle.gix_hash.specs.Id.{Id}
 use Rattle.gix_hash.specs.declared.object_id.ObjectId.{ObjectId}
 use Rattle.gix_traverse_commit_known.specs.Ending.{NoneGains, times_waiting}
@@ -9,17 +9,9 @@ use Rattle.gix_traverse_commit_known.specs.Nodes.{Node, is_met}
 use Rattle.gix_traverse_commit_known.specs.Painting.{StaysPainted}
 use Rattle.gix_traverse_commit_known.specs.Queueing.{QueuesSome}
 use Rattle.gix_traverse_graph.specs.Numbered.{same_id}
-use Rattle.gix_traverse_commit_known.specs.declared.fetch.Source.{Source}
 use Rattle.gix_traverse_graph.specs.declared.rows.Row.{Row}
 use Rattle.gix_traverse_graph.specs.declared.sorting.Timing.{Timing}
 use Rattle.gix_traverse_commit_known.specs.declared.waiting.Turn.{Turn}
-
--- the same objects and rows are read, and of objects so many at most are looked up
-pub record LooksUp {F : Type 0} (many : ℕ) (before after : Source F) : Type 0 where
-  pub objects : after.objects ≡ before.objects
-  pub rows : after.rows ≡ before.rows
-  pub least : before.lookups ≤ after.lookups
-  pub most : after.lookups ≤ before.lookups + many
 
 -- so many are looked up at most, for their times: by time each of these, and in breadth order none
 abbrev pub times_of : Option Timing → List ObjectId → ℕ

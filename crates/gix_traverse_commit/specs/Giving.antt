@@ -5,7 +5,7 @@ use Rattle.gix_hash.specs.declared.object_id.ObjectId.{ObjectId}
 use Rattle.gix_object_lookup.specs.Existing as object
 use Rattle.gix_object_lookup.specs.Table.{Table}
 use Rattle.gix_object_lines.specs.declared.kind.Kind.TheVariants as kinds
-use Rattle.gix_traverse_graph.specs.Commits.{Commit, Commits, asked_parents}
+use Rattle.gix_traverse_graph.specs.Commits.{Commits, asked_parents}
 use Rattle.gix_object_lines.specs.Counts.{one_more}
 use Rattle.gix_traverse_commit_known.specs.Fetching.{TimeIsTold, HasRowsGeneration}
 use Rattle.gix_traverse_commit_known.specs.Known.{KnownCommits, turns_of}

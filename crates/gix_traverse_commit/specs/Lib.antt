@@ -1,3 +1,16 @@
 pub mod Simply
 pub mod Awaited
 pub mod Giving
+pub use Rattle.gix_hash.specs.Id
+pub use Rattle.gix_object_commit.specs.Tokens
+pub use Rattle.gix_traverse_commit_known.specs.Asked
+pub use Rattle.gix_traverse_commit_known.specs.Faults
+pub use Rattle.gix_traverse_commit_known.specs.Fetching
+pub use Rattle.gix_traverse_commit_known.specs.Known
+pub use Rattle.gix_traverse_commit_known.specs.Meeting
+pub use Rattle.gix_traverse_commit_known.specs.Painting
+pub use Rattle.gix_traverse_commit_known.specs.Timely
+pub use Rattle.gix_traverse_commit_known.specs.Told
+pub use Rattle.gix_traverse_graph.specs.Commits
+pub use Rattle.gix_traverse_graph.specs.Order
+pub use Rattle.gix_traverse_graph.specs.Rows

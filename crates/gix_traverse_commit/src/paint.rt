@@ -1,9 +1,9 @@
 //! Painting the commits that hidden commits reach.
 
-ghost use Rattle.std.specs.Prelude.{◌≡◌, ◌↔◌, ℕ, List, true, false, ◌∷◌, ◌++◌, [], length, if◌then◌else◌, Contains, IfErr, OnOk};
+ghost use Rattle.std.specs.Prelude.{◌≡◌, ℕ, List, true, ◌∷◌, ◌++◌, [], if◌then◌else◌, IfErr, OnOk};
 ghost use Rattle.gix_hash.specs.declared.object_id.ObjectId.{ObjectId};
-ghost use Rattle.gix_traverse_graph.specs.Commits.{Reached};
-ghost use Rattle.gix_traverse_commit_known.specs.Keeping.{Kept, KeptAll};
+ghost use Rattle.gix_traverse_commit_known.specs.Fetching.{ReadsSame};
+ghost use Rattle.gix_traverse_commit_known.specs.Keeping.{Kept, KeptAll, StaysHeld};
 ghost use Rattle.gix_traverse_commit_known.specs.Nodes.{is_hidden};
 ghost use Rattle.gix_traverse_commit.specs.Awaited.{PaintsOnly};
 ghost use Rattle.gix_traverse_graph.specs.Numbered.{same_id};
@@ -13,7 +13,6 @@ ghost use Rattle.gix_traverse_graph.specs.Rows.{AllHeld};
 ghost use Rattle.gix_traverse_commit_known.specs.Meeting.{CountsAll};
 ghost use Rattle.gix_traverse_graph.specs.Standing.{Reads};
 ghost use Rattle.gix_traverse_commit_known.specs.Told.{OverTold, rows_of};
-ghost use Rattle.gix_traverse_graph.specs.declared.rows.Row.{Row};
 
 use gix_hash::ObjectId;
 use gix_object_lookup::FindInto;
@@ -57,8 +56,7 @@ fn paint_tips(
     ensures only { OnOk result (PaintsOnly known.old known.new) }
     ensures painted { OnOk result (IsPainted known.old.nodes painted.old.items
         → IsPainted known.new.nodes painted.new.items) }
-    ensures rowed { OnOk result ((rows : List Row) → AllHeld rows painted.old.items
-        → AllHeld rows hidden.now → AllHeld rows painted.new.items) }
+    ensures rowed { OnOk result (StaysHeld painted.old.items hidden.now painted.new.items) }
     ensures walked { OnOk result ((along : ObjectId → List ObjectId)
         → Kept along hidden.now every (is_hidden known.old.nodes) painted.old.items 0 0
         → KeptAll along hidden.now every (is_hidden known.new.nodes) painted.new.items 0) }
@@ -78,8 +76,7 @@ fn paint_parents(
     ensures only { OnOk result (PaintsOnly known.old known.new) }
     ensures painted { OnOk result (IsPainted known.old.nodes painted.old.items
         → IsPainted known.new.nodes painted.new.items) }
-    ensures rowed { OnOk result ((rows : List Row) → AllHeld rows painted.old.items
-        → AllHeld rows parents.now → AllHeld rows painted.new.items) }
+    ensures rowed { OnOk result (StaysHeld painted.old.items parents.now painted.new.items) }
     ensures longer { OnOk result ((k : ℕ) (x : ObjectId) → At painted.old.items k x
         → At painted.new.items k x) }
     ensures walked { OnOk result ((along : ObjectId → List ObjectId) (tips : List ObjectId)
@@ -94,14 +91,14 @@ fn paint_parents(
     Ok(())
 }
 
-/// Marks as hidden all that these commits reach, until nothing is left to paint.
+/// Marks as hidden all that these commits reach, until nothing is left to paint. Fails with the
+/// fault of one that can't be read.
 pub fn paint<F: FindInto>(
     source: &mut Source<F>,
     known: &mut Known,
     hidden: &[ObjectId],
 ) -> Result<(), FetchError>
-    ensures objects { source.new.objects ≡ source.old.objects }
-    ensures rows { source.new.rows ≡ source.old.rows }
+    ensures same { ReadsSame source.old source.new }
     ensures only { OnOk result (PaintsOnly known.old known.new) }
     ensures painted { OnOk result (IsUnpainted known.old.nodes
         → OverTold F.is_honest F.table source.old (λ g. Paints g hidden.now known.new.nodes)) }

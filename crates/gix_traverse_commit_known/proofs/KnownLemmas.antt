@@ -1,5 +1,5 @@
 -- What is queued and what waits, by numbers.
-use Rattle.std.proofs.Common.{◌≡◌, ◌∙◌, ℕ, ◌+◌, ◌≤◌, ◌⊎◌, zero, suc, ℤ, arith, inl, inr, refl, sym, ap, subst, List, [], ◌∷◌, ◌++◌, Option, None, Some, Bool, true, false, cond}
+use Rattle.std.proofs.Common.{◌≡◌, ◌∙◌, ℕ, ◌+◌, ◌≤◌, ◌⊎◌, zero, suc, ℤ, arith, inl, inr, refl, sym, ap, subst, List, [], ◌∷◌, ◌++◌, Option, None, Bool, true, false, cond}
 use Rattle.std.specs.List.{count_by, list_any}
 use Rattle.std.specs.Prelude.{◌↔◌, ◌≤ℤ◌, Contains, map, slice_get, unwrap_or}
 use Rattle.std.specs.BTreeMap.Range.{IsLtBy}
@@ -74,16 +74,6 @@ ids_kept nodes nodes' (n ∷ ns) w up =
 
 pub ids_push : (nodes : List Node) (ns : List Number) (n : Number) (x : ObjectId) → At (ids_of nodes) n.0 x → ids_at nodes (ns ++ n ∷ []) ≡ ids_at nodes ns ++ x ∷ []
 ids_push nodes ns n x a = map-append (id_at nodes) ns (n ∷ []) ∙ ap (λ (z : ObjectId). ids_at nodes ns ++ z ∷ []) (id_from_at nodes n x a)
-
--- the first of what is queued
-pub ids_first : (nodes : List Node) (numbers rest : List Number) (n : Number) (x : ObjectId) → numbers ≡ n ∷ rest → Some x ≡ slice_get (ids_of nodes) n.0 → ids_at nodes numbers ≡ x ∷ ids_at nodes rest
-ids_first nodes numbers rest n x e a = ap (ids_at nodes) e ∙ ap (λ (z : ObjectId). z ∷ ids_at nodes rest) (id_from_at nodes n x (sym a))
-
--- what is queued has a node
-pub none_missing : (nodes : List Node) (numbers rest : List Number) (n : Number) → HaveNodes nodes numbers → numbers ≡ n ∷ rest → None ≡ slice_get (ids_of nodes) n.0 → ⊥
-none_missing nodes numbers rest n w e none =
-    let (x, a) = w n (subst (λ (ns : List Number). Contains ns n) (sym e) (in_head n rest)) in
-    let z : ⊥ = cc in z
 
 pub empty_ids : (nodes : List Node) (ns : List Number) → ids_at nodes ns ≡ [] → ns ≡ []
 empty_ids nodes [] e = refl

@@ -1,7 +1,8 @@
 -- Which commits are met, and for which the predicate is called.
-use Rattle.std.proofs.Common.{◌≡◌, ◌∙◌, ◌↔◌, ℕ, ◌+◌, ◌⊎◌, inl, inr, List, [], ◌∷◌, ◌++◌, suc, ap, take, append-nil, refl, sym, subst, Bool, true, false, cond}
+use Rattle.std.proofs.Common.{◌≡◌, ◌∙◌, ◌↔◌, ℕ, zero, suc, ◌+◌, ◌≤◌, ◌⊎◌, inl, inr, List, [], ◌∷◌, ◌++◌, length, ap, take, append-nil, refl, sym, subst, Bool, true, false, cond, arith}
 use Rattle.std.specs.Prelude.{Contains, filter, not}
 use Rattle.std.proofs.lemmas.List.Elements.{Contains-append_left, Contains-push, filter-append}
+use Rattle.std.proofs.lemmas.Option.{slice_get_within}
 use Rattle.gix_hash.specs.Id.{Id, id_of}
 use Rattle.gix_hash.specs.declared.object_id.ObjectId.{ObjectId}
 use Rattle.gix_traverse_commit_known.specs.Meeting.{Asks, CountsAll, CountsOne, MarksAll, accepted, unmet}
@@ -31,6 +32,25 @@ counts_accepted rows accepts xs ys a b c h k = subst (λ (zs : List ObjectId). C
 -- one alone
 pub counts_one : (rows : List Row) (x : ObjectId) (a b : ℕ) → CountsOne rows x a b → CountsAll rows (x ∷ []) a b
 counts_one rows x a b one = (b, one, refl)
+
+-- the beginning of a list is that of a longer one
+pub take_kept : {I : Type 0} (xs ys : List I) (k : ℕ) → ((j : ℕ) (y : I) → At xs j y → At ys j y) → k ≤ length xs → take k ys ≡ take k xs
+take_kept [] [] zero kept l = refl
+take_kept [] (y ∷ ys) zero kept l = refl
+take_kept [] ys (suc k) kept l = absurd (omega arith)
+take_kept (x ∷ xs) [] k kept l = absurd (none_at_nil 0 x (kept 0 x refl))
+take_kept (x ∷ xs) (y ∷ ys) zero kept l = refl
+take_kept {I} (x ∷ xs) (y ∷ ys) (suc k) kept l =
+    let b : At (y ∷ ys) 0 x = kept 0 x refl in
+    let same : y ≡ x = cc in
+    ap (λ (v : I). v ∷ take k ys) same ∙ ap (λ (zs : List I). x ∷ zs) (take_kept xs ys k (λ j z a. kept (suc j) z a) (omega arith))
+
+-- the next commit is counted
+pub counts_next : (rows : List Row) (xs ys : List ObjectId) (k : ℕ) (x : ObjectId) (a b c : ℕ) → At xs k x → ((j : ℕ) (y : ObjectId) → At xs j y → At ys j y) → CountsAll rows (take k xs) a b → CountsOne rows x b c → CountsAll rows (take (k + 1) ys) a c
+counts_next rows xs ys k x a b c here kept before one =
+    let within = slice_get_within xs k x here in
+    let same : take (k + 1) ys ≡ take k xs ++ x ∷ [] = take_push ys k x (kept k x here) ∙ ap (λ (zs : List ObjectId). zs ++ x ∷ []) (take_kept xs ys k kept (omega arith)) in
+    subst (λ (zs : List ObjectId). CountsAll rows zs a c) (sym same) (counts_more rows (take k xs) (x ∷ []) a b c before (counts_one rows x b c one))
 
 -- ---- each that is fresh is met once
 

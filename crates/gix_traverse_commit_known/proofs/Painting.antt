@@ -26,16 +26,9 @@ use Rattle.gix_traverse_graph.specs.declared.rows.Row.{Row}
 use Rattle.gix_traverse_graph.proofs.Frontier.{read_all}
 use Rattle.gix_traverse_graph.proofs.Ids.{test_from_same, same_id_apart}
 use Rattle.gix_traverse_commit_known.proofs.Keeping.{Meets, Queues}
-use Rattle.gix_traverse_graph.proofs.Lists.{at_one, at_from_contains, contains_from_at, at_push, at_from_push, at_from_take, none_at_nil, three}
+use Rattle.gix_traverse_graph.proofs.Lists.{at_one, at_from_contains, contains_from_at, at_push, at_from_push, at_from_take, three}
 use Rattle.gix_traverse_graph.proofs.Slow.{any_from_contains, contains_from_any}
 use Rattle.gix_traverse_graph.proofs.Walked.{distinct_from_once}
-
--- a list that nothing was painted of
-pub painted_none : (nodes : List Node) (xs : List ObjectId) → xs ≡ [] → IsPainted nodes xs
-painted_none nodes xs e = record {
-  marked = λ x c. let (k, a) = at_from_contains [] x (subst (λ (zs : List ObjectId). Contains zs x) e c) in absurd (none_at_nil k x a);
-  once = λ j k x a b. absurd (none_at_nil j x (subst (λ (zs : List ObjectId). At zs j x) e a));
-}
 
 abbrev pub Pushes : Bool → List ObjectId → List ObjectId → ObjectId → Type 0
 Pushes painted xs xs' y = xs' ≡ cond painted xs (xs ++ y ∷ [])

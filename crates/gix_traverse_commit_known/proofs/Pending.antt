@@ -1,6 +1,6 @@
 -- What is queued when a walk begins anew.
 use Rattle.std.proofs.Common.{◌≡◌, ◌∙◌, ℕ, zero, suc, inl, inr, refl, ap, subst, List, [], ◌∷◌, ◌++◌, map, Result, Ok, Err, Bool, true, false, cond}
-use Rattle.std.specs.Prelude.{Contains, IfOk, OnOk, filter}
+use Rattle.std.specs.Prelude.{Contains, IfOk, filter}
 use Rattle.std.proofs.lemmas.List.{map-append}
 use Rattle.std.proofs.lemmas.List.Elements.{Contains-append_cases, filter-append}
 use Rattle.gix_hash.specs.declared.object_id.ObjectId.{ObjectId}
@@ -10,7 +10,6 @@ use Rattle.gix_traverse_commit_known.specs.Timely.{AllRowed, Waits}
 use Rattle.gix_traverse_graph.specs.declared.rows.Row.{Row}
 use Rattle.gix_traverse_commit_known.specs.declared.waiting.Turn.{Turn}
 use Rattle.gix_traverse_graph.proofs.Lists.{at_from_contains, contains_from_at, none_at_nil}
-use Rattle.std.proofs.lemmas.Bool.{false_from_ne_true}
 
 pub in_head : {I : Type 0} (x : I) (xs : List I) → Contains (x ∷ xs) x
 in_head x xs = contains_from_at (x ∷ xs) 0 x refl
@@ -62,10 +61,6 @@ held_waited rows turns ids all waits x c = let (t, k, e) = waits x c in subst (H
 pub ok_more : {A E : Type 0} (r : Result A E) (P Q : A → Type 0) → ((a : A) → P a → Q a) → IfOk r P → IfOk r Q
 ok_more (Ok a) P Q f h = f a h
 ok_more (Err e) P Q f h = tt
-
-pub ok_both : {A E : Type 0} (r : Result A E) (P Q R : Type 0) → (P → Q → R) → OnOk r P → OnOk r Q → OnOk r R
-ok_both (Ok a) P Q R f p q = f p q
-ok_both (Err e) P Q R f p q = tt
 
 pub none_rowed : (rows : List Row) → AllRowed rows []
 none_rowed rows t c = let (k, a) = at_from_contains [] t c in absurd (none_at_nil k t a)

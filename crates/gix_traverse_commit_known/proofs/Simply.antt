@@ -5,7 +5,7 @@ use Rattle.gix_hash.specs.Id.{Id, id_of}
 use Rattle.gix_hash.specs.declared.object_id.ObjectId.{ObjectId}
 use Rattle.gix_traverse_graph.specs.Commits.{Commits, asked_parents, Reached, tip, parent, Passes, Listed}
 use Rattle.gix_traverse_commit_known.specs.Keeping.{Kept, KeptAll}
-use Rattle.gix_traverse_commit_known.specs.Nodes.{is_asked, is_hidden, is_met, marks_of, Node}
+use Rattle.gix_traverse_commit_known.specs.Nodes.{is_hidden, is_met, marks_of, Node}
 use Rattle.gix_traverse_graph.specs.Numbered.{same_id}
 use Rattle.gix_traverse_graph.specs.Order.{At}
 use Rattle.gix_traverse_commit_known.specs.Painting.{ReachedFrom}
@@ -42,14 +42,6 @@ take_push {I} xs i x a = rw add-one (go xs i a)
     go [] i a = absurd (none_at_nil i x a)
     go (y ∷ ys) zero a = let same : y ≡ x = cc in ap (λ (z : I). z ∷ []) same
     go (y ∷ ys) (suc i) a = ap (λ (zs : List I). y ∷ zs) (go ys i a)
-
-pub asked_before : (accepts : Id → Bool) (tips : List ObjectId) (nodes : List Node) (it : ObjectId) → AreAsked accepts tips nodes → is_asked nodes it ≡ true → AreAsked accepts (tips ++ it ∷ []) nodes
-asked_before accepts tips nodes it w h = record {
-  refused = w.refused;
-  accepted = λ x c m. elim (in_push tips it x c) [ inl d ↦ w.accepted x d m | inr e ↦ w.asked x (subst (λ (z : ObjectId). is_asked nodes z ≡ true) (sym e) h) m ];
-  asked = w.asked;
-  unpainted = w.unpainted;
-}
 
 pub asked_now : (accepts : Id → Bool) (tips : List ObjectId) (nodes nodes' : List Node) (it : ObjectId) (answer : Bool) (marks : Marks) → AreAsked accepts tips nodes → answer ≡ accepts (id_of it) → marks.asked ≡ true → marks.met ≡ not answer → marks.hidden ≡ is_hidden nodes it → ((q : ObjectId) → marks_of nodes' q ≡ cond (same_id it q) marks (marks_of nodes q)) → AreAsked accepts (tips ++ it ∷ []) nodes'
 asked_now accepts tips nodes nodes' it answer marks w told asked met hidden new = record {
@@ -108,36 +100,7 @@ accepts_more f f' nodes nodes' a e grown w = record {
 
 -- ---- marks of one commit
 
--- if a met commit is marked so again, nothing changes
-pub met_already : (nodes : List Node) (id : ObjectId) → is_met nodes id ≡ true → (q : ObjectId) → is_met nodes q ≡ cond (same_id id q) true (is_met nodes q)
-met_already nodes id h q = go (same_id id q) refl
-  where
-    go : (b : Bool) → same_id id q ≡ b → is_met nodes q ≡ cond b true (is_met nodes q)
-    go true t = subst (λ (z : ObjectId). is_met nodes z ≡ true) (same_from_test id q t) h
-    go false t = refl
-
-pub hidden_already : (nodes : List Node) (id : ObjectId) → is_hidden nodes id ≡ true → (q : ObjectId) → is_hidden nodes q ≡ cond (same_id id q) true (is_hidden nodes q)
-hidden_already nodes id h q = go (same_id id q) refl
-  where
-    go : (b : Bool) → same_id id q ≡ b → is_hidden nodes q ≡ cond b true (is_hidden nodes q)
-    go true t = subst (λ (z : ObjectId). is_hidden nodes z ≡ true) (same_from_test id q t) h
-    go false t = refl
-
 module _ (nodes nodes' : List Node) (id : ObjectId) (marks : Marks) (new : (q : ObjectId) → marks_of nodes' q ≡ cond (same_id id q) marks (marks_of nodes q)) where
-  pub met_after : marks.met ≡ true → (q : ObjectId) → is_met nodes' q ≡ cond (same_id id q) true (is_met nodes q)
-  met_after e q = ap (λ (k : Marks). k.met) (new q) ∙ go (same_id id q)
-    where
-      go : (b : Bool) → (cond b marks (marks_of nodes q)).met ≡ cond b true (is_met nodes q)
-      go true = e
-      go false = refl
-
-  pub hidden_after : marks.hidden ≡ true → (q : ObjectId) → is_hidden nodes' q ≡ cond (same_id id q) true (is_hidden nodes q)
-  hidden_after e q = ap (λ (k : Marks). k.hidden) (new q) ∙ go (same_id id q)
-    where
-      go : (b : Bool) → (cond b marks (marks_of nodes q)).hidden ≡ cond b true (is_hidden nodes q)
-      go true = e
-      go false = refl
-
   pub met_same : marks.met ≡ is_met nodes id → (q : ObjectId) → is_met nodes' q ≡ is_met nodes q
   met_same e q = ap (λ (k : Marks). k.met) (new q) ∙ go (same_id id q) refl
     where

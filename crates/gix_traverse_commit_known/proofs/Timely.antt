@@ -1,16 +1,13 @@
 -- A walk by time: which commits are met and wait, and which was chosen.
-use Rattle.std.proofs.Common.{◌≡◌, ℕ, zero, suc, ◌+◌, ◌⊎◌, inl, inr, List, [], ◌∷◌, ◌++◌, take, refl, sym, ◌∙◌, ap, subst, Bool, true, false, cond, ℤ}
+use Rattle.std.proofs.Common.{◌≡◌, ℕ, zero, suc, ◌+◌, ◌⊎◌, inl, inr, List, [], ◌∷◌, ◌++◌, take, refl, sym, ◌∙◌, ap, subst, Bool, true, false, ℤ}
 use lib.Signed.{≤ℤ_refl}
 use Rattle.std.specs.Prelude.{Contains, ◌↔◌, ◌&&◌, not, ◌≤ℤ◌}
 use Rattle.std.proofs.lemmas.List.Elements.{Contains-append_left, Contains-push}
 use Rattle.gix_hash.specs.declared.object_id.ObjectId.{ObjectId}
 use Rattle.gix_traverse_graph.specs.Commits.{Commits}
-use Rattle.gix_traverse_graph.specs.Numbered.{same_id}
 use Rattle.gix_traverse_graph.specs.Order.{At}
-use Rattle.gix_traverse_graph.specs.Rows.{Holds}
 use Rattle.gix_traverse_graph.specs.Sorting.{ComesFirst}
-use Rattle.gix_traverse_graph.specs.declared.rows.Row.{Row}
-use Rattle.gix_traverse_commit_known.specs.Timely.{AllRowed, IsMetSoFar, IsTaken, Joins, Waits, turn_of}
+use Rattle.gix_traverse_commit_known.specs.Timely.{IsMetSoFar, IsTaken, Joins, Waits, turn_of}
 use Rattle.gix_traverse_graph.specs.declared.sorting.CommitTimeOrder.{CommitTimeOrder}
 use Rattle.gix_traverse_graph.specs.declared.sorting.CommitTimeOrder.TheVariants.{NewestFirst, OldestFirst}
 use Rattle.gix_traverse_commit_known.specs.declared.waiting.Turn.{Turn}
@@ -131,25 +128,6 @@ module _ (g : Commits ObjectId) (keep : ObjectId → Bool) (listed : List Object
       known = known_now;
     }
 
-  -- a name is passed by, that isn't kept
-  pub met_pass : (has has' : ObjectId → Bool) (named named' : ObjectId → Type 0) (turns turns' : List Turn) (y : ObjectId) (so : Bool) → IsMetSoFar g keep has named listed turns → Joins so turns (turn_of g y) turns' → so ≡ false → ((q : ObjectId) → has' q ≡ has q) → keep y ≡ false → ((x : ObjectId) → named x → named' x) → ((x : ObjectId) → named' x → named x ⊎ (x ≡ y)) → IsMetSoFar g keep has' named' listed turns'
-  met_pass has has' named named' turns turns' y so w j none new out up down = record {
-    timed = λ t c. w.timed t (from t c);
-    some = λ x p. let r = w.some x (from_waits x p) in (r.0, r.1, up x r.2);
-    every = λ x n k. elim (down x n) [ inl m ↦ longer x (w.every x m k) | inr e ↦ (let h : keep y ≡ true = subst (λ (z : ObjectId). keep z ≡ true) e k in let z : ⊥ = cc in absurd z) ];
-    met = λ x h k. longer x (w.met x (sym (new x) ∙ h) k);
-    known = λ x c. new x ∙ w.known x (elim c [ inl d ↦ inl d | inr p ↦ inr (from_waits x p) ]);
-  }
-    where
-      from : (t : Turn) → Contains turns' t → Contains turns t
-      from t c = elim ((j t).0 c) [ inl s ↦ (let f = s.0 in let z : ⊥ = cc in absurd z) | inr d ↦ d ]
-
-      from_waits : (x : ObjectId) → Waits turns' x → Waits turns x
-      from_waits x (t, c, e) = (t, from t c, e)
-
-      longer : (x : ObjectId) → Contains listed x ⊎ Waits turns x → Contains listed x ⊎ Waits turns' x
-      longer x c = elim c [ inl d ↦ inl d | inr p ↦ inr (p.0, (j p.0).1 (inr p.1), p.2) ]
-
   -- the same with another word for what was named
   pub met_renamed : (has : ObjectId → Bool) (named named' : ObjectId → Type 0) (turns : List Turn) → IsMetSoFar g keep has named listed turns → ((x : ObjectId) → named x ↔ named' x) → IsMetSoFar g keep has named' listed turns
   met_renamed has named named' turns w e = record {
@@ -172,31 +150,13 @@ module _ (g : Commits ObjectId) (keep : ObjectId → Bool) (listed : List Object
 
 -- ---- the next of a list is met
 
-pub tip_joins : (m h h' a t : Bool) → h ≡ h' → (m ≡ false → a ≡ true) → (not m && (not h && t)) ≡ (not m && (not h' && (a && t)))
-tip_joins true h h' a t e f = refl
-tip_joins false h h' a t e f = rw (e, f refl) refl
-
-pub parent_joins : (m h h' a a' t : Bool) → h ≡ h' → (m ≡ false → a ≡ a') → (not m && (not h && (a && t))) ≡ (not m && (not h' && (a' && t)))
-parent_joins true h h' a a' t e f = refl
-parent_joins false h h' a a' t e f = rw (e, f refl) refl
-
 -- what is hidden doesn't join
 pub hidden_out : (m h r : Bool) → h ≡ true → (not m && (not h && r)) ≡ false
 hidden_out true h r e = refl
 hidden_out false h r e = rw e refl
 
-pub hides_out : (h r : Bool) → h ≡ true → (not h && r) ≡ false
-hides_out h r e = rw e refl
-
-not_kept : (m k : Bool) → k ≡ false → (not m && k) ≡ false
-not_kept true k e = refl
-not_kept false k e = e
-
 pub all_pass : (m h a t : Bool) → m ≡ false → h ≡ false → a ≡ true → t ≡ (not m && (not h && (a && t)))
 all_pass m h a t e f i = rw (e, f, i) refl
-
-pub both_pass : (m h t : Bool) → m ≡ false → h ≡ false → t ≡ (not m && (not h && t))
-both_pass m h t e f = rw (e, f) refl
 
 module _ (g : Commits ObjectId) (keep has has' : ObjectId → Bool) (front : List ObjectId) (i : ℕ) (turns turns' : List Turn) (y : ObjectId) (here : At front i y) (j : Joins (not (has y) && keep y) turns (turn_of g y) turns') (new : Meets has has' y) where
   longer : take (i + 1) front ≡ take i front ++ y ∷ []
@@ -211,26 +171,10 @@ module _ (g : Commits ObjectId) (keep has has' : ObjectId → Bool) (front : Lis
   down : (x : ObjectId) → Contains (take (i + 1) front) x → Contains (take i front) x ⊎ (x ≡ y)
   down x c = in_push (take i front) y x (subst (λ (zs : List ObjectId). Contains zs x) longer c)
 
-  pub next_tip : IsMetSoFar g keep has (Contains (take i front)) [] turns → IsMetSoFar g keep has' (Contains (take (i + 1) front)) [] turns'
-  next_tip w = met_one g keep [] has has' (Contains (take i front)) (Contains (take (i + 1) front)) turns turns' y w j new up at_last down
-
   pub next_parent : (named : ObjectId → Type 0) (listed : List ObjectId) → IsMetSoFar g keep has (λ x. named x ⊎ Contains (take i front) x) listed turns → IsMetSoFar g keep has' (λ x. named x ⊎ Contains (take (i + 1) front) x) listed turns'
   next_parent named listed w = met_one g keep listed has has' (λ x. named x ⊎ Contains (take i front) x) (λ x. named x ⊎ Contains (take (i + 1) front) x) turns turns' y w j new
       (λ x c. elim c [ inl n ↦ inl n | inr d ↦ inr (up x d) ]) (inr at_last)
       (λ x c. elim c [ inl n ↦ inl (inl n) | inr d ↦ elim (down x d) [ inl e ↦ inl (inr e) | inr e ↦ inr e ] ])
-
--- the next parent of a list is met, or passed by since it is hidden
-pub step_parent : (g : Commits ObjectId) (keep has has' : ObjectId → Bool) (hides : Bool) (front : List ObjectId) (i : ℕ) (turns turns' : List Turn) (y : ObjectId) → At front i y → Joins (not (has y) && keep y) turns (turn_of g y) turns' → ((q : ObjectId) → has' q ≡ cond hides (has q) (cond (same_id y q) true (has q))) → (hides ≡ true → keep y ≡ false) → (named : ObjectId → Type 0) (listed : List ObjectId) → IsMetSoFar g keep has (λ x. named x ⊎ Contains (take i front) x) listed turns → IsMetSoFar g keep has' (λ x. named x ⊎ Contains (take (i + 1) front) x) listed turns'
-step_parent g keep has has' false front i turns turns' y here j new out named listed w = next_parent g keep has has' front i turns turns' y here j new named listed w
-step_parent g keep has has' true front i turns turns' y here j new out named listed w =
-    let longer : take (i + 1) front ≡ take i front ++ y ∷ [] = take_push front i y here in
-    met_pass g keep listed has has' (λ x. named x ⊎ Contains (take i front) x) (λ x. named x ⊎ Contains (take (i + 1) front) x) turns turns' y (not (has y) && keep y) w j (not_kept (has y) (keep y) (out refl)) new (out refl)
-    (λ x c. elim c [ inl n ↦ inl n | inr d ↦ inr (subst (λ (zs : List ObjectId). Contains zs x) (sym longer) (Contains-append_left (take i front) (y ∷ []) x d)) ])
-    (λ x c. elim c [ inl n ↦ inl (inl n) | inr d ↦ elim (in_push (take i front) y x (subst (λ (zs : List ObjectId). Contains zs x) longer d)) [ inl e ↦ inl (inr e) | inr e ↦ inr e ] ])
-
--- a turn that joins has a row if its commit has
-pub joins_rowed : (rows : List Row) (old : List Turn) (turn : Turn) (new : List Turn) → Joins true old turn new → Holds rows turn.id → AllRowed rows old → AllRowed rows new
-joins_rowed rows old turn new j h all t c = elim ((j t).0 c) [ inl s ↦ subst (λ (u : Turn). Holds rows u.id) (sym s.1) h | inr d ↦ all t d ]
 
 -- ---- one is taken
 

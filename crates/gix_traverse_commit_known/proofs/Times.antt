@@ -1,11 +1,9 @@
 -- Why a commit's time isn't read, and what it is then.
-use Rattle.std.proofs.Common.{◌≡◌, ℕ, inl, inr, List, refl, sym, ap, ◌∙◌, subst, Option, Some, None, Result, Ok, Err, ℤ, pos, take, Bool, true, false}
+use Rattle.std.proofs.Common.{◌≡◌, ℕ, inl, inr, List, refl, sym, ap, ◌∙◌, Option, Some, None, Result, Ok, Err, ℤ, pos, take, Bool, true, false}
 use Rattle.std.specs.Prelude.{unwrap_or, ◌≢◌, Contains}
 use Rattle.std.specs.Result.{result_ok}
 use Rattle.gix_hash.specs.Id.{Id, id_of}
 use Rattle.gix_hash.specs.declared.object_id.ObjectId.{ObjectId}
-use Rattle.gix_object_commit.specs.ReadingOn.{TellsNone, committer_told}
-use Rattle.gix_object_commit.specs.Tokens.{Place, start}
 use Rattle.gix_object_lookup.specs.Existing.{Stands, KindFault}
 use Rattle.gix_object_lookup.specs.Table.{Table, kind_at}
 use Rattle.gix_object_lookup.specs.declared.find.Error.TheVariants as lookup
@@ -49,18 +47,11 @@ counts_zero honest may_fail rows table g id (iter_case.ObjectKind oid actual exp
     other : (content : List ℕ) → Stands table (id_of id) kinds.Commit content → actual ≡ kinds.Commit
     other content s = let e = k.3 t in let f : kind_at table (id_of id) ≡ Some kinds.Commit = rw s refl in ap in_object (sym e ∙ f)
 
--- no commit is found, and so its time is 0
-pub time_zero : (honest may_fail : Type 0) (rows : List Row) (table : Table) (g : Commits ObjectId) (id : ObjectId) (e : existing_iter.Error) → honest → (¬ may_fail) → AreTold rows table g → (¬ Holds rows id) → KindFault honest may_fail table (id_of id) kinds.Commit e → find_error e ≢ fault.Memory → (g id).time ≡ pos 0
-time_zero honest may_fail rows table g id e t sure told h k n = elim (counts_zero honest may_fail rows table g id e t told h k n) [ inl s ↦ sym s | inr f ↦ absurd (sure f.1) ]
-
 pub zero_unread : (r : Result ℤ decode.Error) (e : decode.Error) (n : ℤ) → r ≡ Err e → unwrap_or (result_ok r) (pos 0) ≡ n → n ≡ pos 0
 zero_unread r e n is h = sym (rw is at h)
 
 pub time_read : (r : Result ℤ decode.Error) (v n : ℤ) → r ≡ Ok v → unwrap_or (result_ok r) (pos 0) ≡ n → v ≡ n
 time_read r v n is h = rw is at h
-
-pub time_untold : (honest may_fail : Type 0) (rows : List Row) (table : Table) (id : ObjectId) (content : List ℕ) (here : Place) (e : decode.Error) → (¬ Holds rows id) → (honest → Stands table (id_of id) kinds.Commit content) → here ≡ start (id_of id).kind content → TellsNone committer_told here e → TimeFault honest may_fail rows table id (fault.ObjectDecode e)
-time_untold honest may_fail rows table id content here e h s is t = (h, λ q. (content, s q, subst (λ (p : Place). TellsNone committer_told p e) is t))
 
 pub tip_fault : (honest may_fail : Type 0) (rows : List Row) (table : Table) (tips : List ObjectId) (wanted : ObjectId → Type 0) (id : ObjectId) (place : ℕ) (e : FetchError) → At tips place id → wanted id → (honest → (x : ObjectId) → Contains (take place tips) x → wanted x → TimeIsTold rows table x) → TimeFault honest may_fail rows table id e → TipFault honest may_fail rows table tips wanted (error_of e)
 tip_fault honest may_fail rows table tips wanted id place (fault.Find error) a w before h = record { id = id; place = place; at = a; is_wanted = w; cause = h; before = before }

@@ -1,6 +1,6 @@
 -- What the readers' parts say of a commit.
 use Rattle.std.proofs.Common.{◌≡◌, ℕ, List, [], ◌∷◌, ◌++◌, refl, sym, ap, ◌∙◌, subst, inl, inr, Option, Some, None, Result, Ok, Err, map, take, append-nil, ℤ, pos}
-use Rattle.std.specs.Prelude.{filter_map, Contains, IfOk, unwrap_or}
+use Rattle.std.specs.Prelude.{filter_map, IfOk, unwrap_or}
 use Rattle.std.specs.Result.{result_ok}
 use Rattle.std.proofs.lemmas.List.{map-append}
 use Rattle.std.proofs.lemmas.List.Elements.{filter_map-append}
@@ -141,13 +141,6 @@ parents_told kind content commit First xs t (inr (id, e, f)) = ids_same xs (take
 -- ---- over rows and objects
 
 module _ (rows : List Row) (table : Table) (g : Commits ObjectId) (told : AreTold rows table g) where
-  pub row_parents : (row : Row) (id : ObjectId) (along : Parents) (xs : List ObjectId) → Contains rows row → row.id ≡ id → xs ≡ asked along row.parents.items → xs ≡ asked_parents along g id
-  row_parents row id All xs c e s = let h = told.rowed row c in s ∙ sym (ap (λ (m : Commit ObjectId). m.parents) (ap g (sym e) ∙ h))
-  row_parents row id First xs c e s = let h = told.rowed row c in s ∙ sym (ap (λ (m : Commit ObjectId). take 1 m.parents) (ap g (sym e) ∙ h))
-
-  pub row_time : (row : Row) (id : ObjectId) → Contains rows row → row.id ≡ id → row.time ≡ (g id).time
-  row_time row id c e = let h = told.rowed row c in sym (ap (λ (m : Commit ObjectId). m.time) (ap g (sym e) ∙ h))
-
   pub object_parents : (id : ObjectId) (content : List ℕ) (along : Parents) (here : Place) (xs : List ObjectId) → (¬ Holds rows id) → Stands table (id_of id) kinds.Commit content → here ≡ start (id_of id).kind content → ReadsParents along here (map id_of xs) → xs ≡ asked_parents along g id
   object_parents id content All here xs h s e r = parents_told (id_of id).kind content (g id) All xs (told.stored id content h s) (subst (λ (p : Place). ReadsParents All p (map id_of xs)) e r)
   object_parents id content First here xs h s e r = parents_told (id_of id).kind content (g id) First xs (told.stored id content h s) (subst (λ (p : Place). ReadsParents First p (map id_of xs)) e r)

@@ -1,5 +1,5 @@
 -- What is read of a commit, and why it isn't.
-use Rattle.std.specs.Prelude.{ℕ, ℤ, ◌≡◌, ◌⊎◌, ◌+◌, ◌-◌, ◌^◌, min, List, [], ◌∷◌, Contains, Option, Some, None, Err, ⊤}
+use Rattle.std.specs.Prelude.{ℕ, ℤ, ◌≡◌, ◌⊎◌, ◌+◌, ◌≤◌, List, [], ◌∷◌, Contains, Option, Some, None, Err, ⊤}
 use Rattle.gix_hash.specs.Id.{Id, id_of}
 use Rattle.gix_hash.specs.declared.object_id.ObjectId.{ObjectId}
 use Rattle.gix_object_commit.specs.ReadingOn.{TellsFirst, TellsNone, committer_told, parent_told}
@@ -12,12 +12,29 @@ use Rattle.gix_object_lookup.specs.declared.find.existing_iter.Error.TheVariants
 use Rattle.gix_object_lines.specs.declared.decode.Error as decode
 use Rattle.gix_object_lines.specs.declared.kind.Kind.TheVariants as kinds
 use Rattle.gix_traverse_graph.specs.Rows.{Holds}
-use Rattle.gix_traverse_commit_known.specs.Told.{TellsFront, TellsParents, TellsSeconds}
+use Rattle.gix_traverse_commit_known.specs.Told.{TellsFront, TellsParents, TellsSeconds, rows_of}
 use Rattle.gix_traverse_commit_known.specs.declared.fetch.FetchError.{FetchError}
+use Rattle.gix_traverse_commit_known.specs.declared.fetch.Source.{Source}
 use Rattle.gix_traverse_commit_known.specs.declared.fetch.FetchError.TheVariants as fault
 use Rattle.gix_traverse_graph.specs.declared.parents.Parents.{Parents}
 use Rattle.gix_traverse_graph.specs.declared.parents.Parents.TheVariants.{All, First}
 use Rattle.gix_traverse_graph.specs.declared.rows.Row.{Row}
+
+-- the same objects and rows are read
+pub record ReadsSame {F : Type 0} (before after : Source F) : Type 0 where
+  pub objects : after.objects ≡ before.objects
+  pub rows : after.rows ≡ before.rows
+
+-- one of its rows is the id's
+abbrev pub HasRow : {F : Type 0} → Source F → ObjectId → Type 0
+HasRow source id = Holds (rows_of source.rows) id
+
+-- so they are, and of objects so many at most are looked up
+pub record LooksUpAtMost {F : Type 0} (many : ℕ) (before after : Source F) : Type 0 where
+  pub objects : after.objects ≡ before.objects
+  pub rows : after.rows ≡ before.rows
+  pub least : before.lookups ≤ after.lookups
+  pub most : after.lookups ≤ before.lookups + many
 
 -- all parents, or the first alone
 abbrev pub ReadsParents : Parents → Place → List Id → Type 0

@@ -11,3 +11,10 @@ pub mod Timely
 pub mod Ending
 pub mod Asked
 pub mod Faults
+pub use Rattle.gix_hash.specs.Id
+pub use Rattle.gix_hash.specs.Views
+pub use Rattle.gix_object_lookup.specs.Existing
+pub use Rattle.gix_traverse_graph.specs.Commits
+pub use Rattle.gix_traverse_graph.specs.Numbered
+pub use Rattle.gix_traverse_graph.specs.Order
+pub use Rattle.gix_traverse_graph.specs.Rows

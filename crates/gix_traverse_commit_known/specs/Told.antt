@@ -93,13 +93,6 @@ abbrev pub OverTold : {F : Type 0} → (F → Type 0) → (F → Table) → Sour
 OverTold IsHonest table source What = IsHonest source.objects → (g : Commits ObjectId)
     → AreTold (rows_of source.rows) (table source.objects) g → What g
 
--- and so it does if no lookup fails besides
-abbrev pub OverSure : {F : Type 0} → (F → Type 0) → (F → Type 0) → (F → Table) → Source F
-    → (Commits ObjectId → Type 0) → Type 0
-OverSure IsHonest MayFail table source What =
-    IsHonest source.objects → ¬ MayFail source.objects → (g : Commits ObjectId)
-    → AreTold (rows_of source.rows) (table source.objects) g → What g
-
 -- ---- a commit that was found
 
 abbrev pub TakesTreeOf : Either → Result ObjectId decode.Error → Type 0

@@ -1,17 +1,17 @@
 //! Reading the commits that a walk comes to.
 
-ghost use Rattle.std.specs.Prelude.{◌≡◌, ◌≢◌, ◌⊎◌, ◌≤◌, ◌+◌, [], Contains, IfOk, IfErr, IsOk, OnOk, map, unwrap_or, pos};
+ghost use Rattle.std.specs.Prelude.{◌≡◌, ◌≢◌, ◌⊎◌, [], Contains, IfOk, IfErr, IsOk, OnOk, map, unwrap_or, pos};
 ghost use Rattle.gix_hash.specs.Id.{id_of};
 ghost use Rattle.gix_hash.specs.declared.object_id.ObjectId.{ObjectId};
 ghost use Rattle.gix_object_commit.specs.Tokens.{place_of};
 ghost use Rattle.gix_object_lookup.specs.Existing.{KindFault, Stands};
 ghost use Rattle.gix_object_lines.specs.declared.kind.Kind.TheVariants as kinds;
 ghost use Rattle.gix_traverse_graph.specs.Commits.{asked_parents, asked};
-ghost use Rattle.gix_object_lines.specs.Counts.{one_more};
-ghost use Rattle.gix_traverse_commit_known.specs.Fetching.{ReadsParents, HasRowsGeneration, ParentsFault, FetchFault, ReadFault, TimeFault, TimeIsTold, find_error};
-ghost use Rattle.gix_traverse_graph.specs.Rows.{AllHeld, Holds};
+ghost use Rattle.gix_traverse_commit_known.specs.Fetching.{HasRow, LooksUpAtMost, ReadsParents, HasRowsGeneration, ParentsFault, ReadFault, TimeFault, TimeIsTold, find_error};
+ghost use Rattle.gix_traverse_graph.specs.Rows.{AllHeld};
+ghost use Rattle.gix_traverse_commit_known.specs.Meeting.{CountsOne};
 ghost use Rattle.gix_traverse_commit_known.specs.Timely.{CountsAs};
-ghost use Rattle.gix_traverse_commit_known.specs.Told.{OverSure, OverTold, rows_of};
+ghost use Rattle.gix_traverse_commit_known.specs.Told.{OverTold, rows_of};
 ghost use Rattle.gix_traverse_commit_known.specs.declared.fetch.FetchError.TheVariants.{ObjectDecode, Memory};
 
 use crate::either::{row_in, seconds};
@@ -165,31 +165,23 @@ impl<F: FindInto> Source<F> {
     /// What the commit of this id is. Returns `Find` if it isn't found, `ObjectDecode` if its
     /// object's lines aren't those of a commit, and `Memory` if no memory is left.
     pub fn fetch(&mut self, id: &ObjectId, along: Parents) -> Result<Fetched, FetchError>
-        ensures objects { self.new.objects ≡ self.old.objects }
-        ensures rows { self.new.rows ≡ self.old.rows }
+        ensures reads { LooksUpAtMost 1 self.old self.new }
+        ensures one { CountsOne (rows_of self.old.rows) id.now self.old.lookups self.new.lookups }
         ensures parents { OverTold F.is_honest F.table self.old
             (λ g. IfOk result (λ commit. commit.parents.items ≡ asked_parents along g id.now)) }
         ensures time { OverTold F.is_honest F.table self.old
             (λ g. IfOk result (λ commit. unwrap_or commit.time (pos 0) ≡ (g id.now).time)) }
         ensures generation { IfOk result (λ commit. HasRowsGeneration (rows_of self.old.rows) id.now
             commit.generation) }
-        ensures listed { IfOk result (λ _. Holds (rows_of self.old.rows) id.now
+        ensures listed { IfOk result (λ _. HasRow self.old id.now
             ⊎ Contains (F.ids self.old.objects) (id_of id.now)) }
-        ensures rowed { Holds (rows_of self.old.rows) id.now
-            → (self.new.lookups ≡ self.old.lookups) × (self.new.buffer.items ≡ []) }
-        ensures closed { Holds (rows_of self.old.rows) id.now
+        ensures closed { HasRow self.old id.now
             → IfOk result (λ commit. AllHeld (rows_of self.old.rows) commit.parents.items) }
-        ensures counted { self.new.lookups ≤ self.old.lookups + 1 }
-        ensures rising { self.old.lookups ≤ self.new.lookups }
-        ensures asked { (¬ Holds (rows_of self.old.rows) id.now)
-            → self.new.lookups ≡ one_more self.old.lookups }
-        ensures content { F.is_honest self.old.objects → ¬ Holds (rows_of self.old.rows) id.now
+        ensures emptied { HasRow self.old id.now → self.new.buffer.items ≡ [] }
+        ensures content { F.is_honest self.old.objects → ¬ HasRow self.old id.now
             → OnOk result (Stands (F.table self.old.objects) (id_of id.now) kinds.Commit
             self.new.buffer.items) }
-        ensures refused { IfErr result (FetchFault (F.is_honest self.old.objects)
-            (F.may_fail self.old.objects) (rows_of self.old.rows) (F.table self.old.objects)
-            id.now) }
-        ensures unread { IfErr result (ReadFault along (F.is_honest self.old.objects)
+        ensures refused { IfErr result (ReadFault along (F.is_honest self.old.objects)
             (F.may_fail self.old.objects) (rows_of self.old.rows) (F.table self.old.objects)
             id.now) }
     {
@@ -215,24 +207,17 @@ impl<F: FindInto> Source<F> {
     /// The committer's seconds of the commit of this id. Returns `ObjectDecode` if its object has
     /// no committer.
     pub fn seconds(&mut self, id: &ObjectId) -> Result<i64, FetchError>
-        ensures objects { self.new.objects ≡ self.old.objects }
-        ensures rows { self.new.rows ≡ self.old.rows }
+        ensures reads { LooksUpAtMost 1 self.old self.new }
+        ensures one { CountsOne (rows_of self.old.rows) id.now self.old.lookups self.new.lookups }
+        ensures rowed { HasRow self.old id.now → IsOk result }
         ensures time { OverTold F.is_honest F.table self.old
             (λ g. IfOk result (λ seconds. seconds ≡ (g id.now).time)) }
         ensures told { F.is_honest self.old.objects
             → IfOk result (λ _. TimeIsTold (rows_of self.old.rows) (F.table self.old.objects)
             id.now) }
-        ensures none { OverSure F.is_honest F.may_fail F.table self.old
-            (λ g. IfErr result (λ error. error ≢ Memory → (g id.now).time ≡ pos 0)) }
         ensures unread { OverTold F.is_honest F.table self.old
             (λ g. IfErr result (λ error. error ≢ Memory
             → CountsAs (F.may_fail self.old.objects) g id.now (pos 0))) }
-        ensures rowed { Holds (rows_of self.old.rows) id.now → IsOk result
-            × (self.new.lookups ≡ self.old.lookups) }
-        ensures asked { (¬ Holds (rows_of self.old.rows) id.now)
-            → self.new.lookups ≡ one_more self.old.lookups }
-        ensures counted { self.new.lookups ≤ self.old.lookups + 1 }
-        ensures rising { self.old.lookups ≤ self.new.lookups }
         ensures refused { IfErr result (TimeFault (F.is_honest self.old.objects)
             (F.may_fail self.old.objects) (rows_of self.old.rows) (F.table self.old.objects)
             id.now) }

@@ -1,19 +1,15 @@
 //! Meeting commits: tips and parents, each once.
 
-ghost use Rattle.std.specs.Prelude.{◌≡◌, List, Bool, true, false, not, ◌&&◌, [], ◌∷◌, ◌++◌, length, if◌then◌else◌, Contains, OnOk};
+ghost use Rattle.std.specs.Prelude.{◌≡◌, List, true, false, not, ◌&&◌, [], ◌∷◌, ◌++◌, if◌then◌else◌, Contains, OnOk};
 ghost use Rattle.gix_hash.specs.Id.{id_of};
 ghost use Rattle.gix_hash.specs.declared.object_id.ObjectId.{ObjectId};
-ghost use Rattle.gix_traverse_commit_known.specs.Ending.{NoneGains, times_in};
-ghost use Rattle.gix_traverse_commit_known.specs.Keeping.{Kept, KeptAll};
+ghost use Rattle.gix_traverse_commit_known.specs.Keeping.{QueuesAlone, QueuesParents, QueuesTips, StaysHeld};
 ghost use Rattle.gix_traverse_commit_known.specs.Meeting.{Asks, AsksOnce, IsFresh, MarksAll, MarksMet, fresh};
 ghost use Rattle.gix_traverse_commit_known.specs.Known.{turns_of};
 ghost use Rattle.gix_traverse_commit_known.specs.Nodes.{is_asked, is_met, is_hidden};
 ghost use Rattle.gix_traverse_graph.specs.Numbered.{same_id};
 ghost use Rattle.gix_traverse_commit_known.specs.Queueing.{QueuesBehind};
-ghost use Rattle.gix_traverse_graph.specs.Rows.{AllHeld};
 ghost use Rattle.gix_traverse_commit_known.specs.Asked.{AreAsked, AreRefused};
-ghost use Rattle.gix_traverse_graph.specs.Standing.{Reads};
-ghost use Rattle.gix_traverse_graph.specs.declared.rows.Row.{Row};
 
 use crate::Accept;
 use crate::known::Known;
@@ -119,21 +115,10 @@ fn queue_tip(known: &mut Known, id: ObjectId) -> Result<(), AllocError>
 
 /// Queues the tips that are accepted and not hidden, each once.
 pub fn queue_tips(known: &mut Known, tips: &[ObjectId]) -> Result<(), AllocError>
-    ensures turns { OnOk result (turns_of known.new ≡ turns_of known.old) }
-    ensures hidden { OnOk result ((q : ObjectId) → is_hidden known.new.nodes q
-        ≡ is_hidden known.old.nodes q) }
-    ensures grown { OnOk result ((q : ObjectId) → is_met known.old.nodes q ≡ true
-        → is_met known.new.nodes q ≡ true) }
-    ensures rowed { OnOk result ((rows : List Row) → AllHeld rows known.old.queue
-        → AllHeld rows tips.now → AllHeld rows known.new.queue) }
-    ensures left { OnOk result (NoneGains known.old.nodes (times_in known.old.queue) known.new.nodes
-        (times_in known.new.queue)) }
-    ensures walked { OnOk result ((along : ObjectId → List ObjectId) (keep : ObjectId → Bool)
-        → ((x : ObjectId) → Contains tips.now x → is_met known.old.nodes x ≡ false
-        → keep x ≡ not (is_hidden known.old.nodes x))
-        → Kept along tips.now keep (is_met known.old.nodes) known.old.queue 0 0
-        → KeptAll along tips.now keep (is_met known.new.nodes) known.new.queue 0) }
+    ensures alone { OnOk result (QueuesAlone known.old known.new) }
     ensures met { OnOk result (MarksAll known.old.nodes tips.now known.new.nodes) }
+    ensures rowed { OnOk result (StaysHeld known.old.queue tips.now known.new.queue) }
+    ensures walked { OnOk result (QueuesTips tips.now known.old known.new) }
 {
     'tips: for tip in tips {
         queue_tip(known, *tip)?;
@@ -178,28 +163,13 @@ pub fn meet_parents<P: Accept>(
     parents: &[ObjectId],
 ) -> Result<(), AllocError>
     ensures accepts { P.accepts predicate.new ≡ P.accepts predicate.old }
-    ensures turns { OnOk result (turns_of known.new ≡ turns_of known.old) }
-    ensures hidden { OnOk result ((q : ObjectId) → is_hidden known.new.nodes q
-        ≡ is_hidden known.old.nodes q) }
-    ensures grown { OnOk result ((q : ObjectId) → is_met known.old.nodes q ≡ true
-        → is_met known.new.nodes q ≡ true) }
-    ensures rowed { OnOk result ((rows : List Row) → AllHeld rows known.old.queue
-        → AllHeld rows parents.now → AllHeld rows known.new.queue) }
-    ensures left { OnOk result (NoneGains known.old.nodes (times_in known.old.queue) known.new.nodes
-        (times_in known.new.queue)) }
-    ensures walked { OnOk result ((along : ObjectId → List ObjectId) (keep : ObjectId → Bool)
-        (tips listed : List ObjectId) (id : ObjectId)
-        → ((x : ObjectId) → is_met known.old.nodes x ≡ false
-        → keep x ≡ (not (is_hidden known.old.nodes x) && P.accepts predicate.old (id_of x)))
-        → parents.now ≡ along id
-        → Kept along tips keep (is_met known.old.nodes) (listed ++ known.old.queue)
-        (length listed) 0
-        → Reads (listed ++ known.old.queue) (length listed) id
-        → KeptAll along tips keep (is_met known.new.nodes) (listed ++ known.new.queue)
-        (length listed)) }
+    ensures alone { OnOk result (QueuesAlone known.old known.new) }
+    ensures marks { OnOk result (MarksMet known.old.nodes parents.now known.new.nodes) }
+    ensures rowed { OnOk result (StaysHeld known.old.queue parents.now known.new.queue) }
+    ensures walked { OnOk result (QueuesParents (P.accepts predicate.old) parents.now known.old
+        known.new) }
     ensures asked { OnOk result (AsksOnce P.goes (IsFresh known.old.nodes parents.now) predicate.old
         predicate.new) }
-    ensures marks { OnOk result (MarksMet known.old.nodes parents.now known.new.nodes) }
 {
     'parents: for parent in parents {
         meet(known, predicate, *parent)?;

@@ -114,7 +114,8 @@ impl Nodes {
         self.ids.get_index(number.0).copied()
     }
 
-    /// Marks a commit, which gets a node if it has none, and returns its number.
+    /// Marks a commit, which gets a node if it has none, and returns its number. If no memory is
+    /// left, nothing changes.
     pub fn mark(&mut self, id: ObjectId, marks: Marks) -> Result<Number, AllocError>
         ensures marked { OnOk result ((q : ObjectId) → marks_of self.new q
             ≡ (if same_id id q then marks else marks_of self.old q)) }

@@ -1,6 +1,6 @@
 //! The commits that wait in a walk by time, by their numbers, in the order of their times.
 
-ghost use Rattle.std.specs.Prelude.{◌≡◌, ◌⊎◌, ◌≤◌, ◌+◌, ◌↔◌, ℕ, Bool, [], ◌∷◌, ◌++◌, Contains, IfSome, IfNone, IfOk, OnErr, OnOk, true, if◌then◌else◌};
+ghost use Rattle.std.specs.Prelude.{◌≡◌, ◌⊎◌, ◌≤◌, ◌+◌, ◌↔◌, Bool, [], ◌∷◌, ◌++◌, Contains, IfSome, IfNone, IfOk, OnErr, OnOk, true, if◌then◌else◌};
 ghost use Rattle.std.specs.List.{count_by};
 ghost use Rattle.gix_traverse_commit_known.specs.Waiting.{IsFirst, numbers_of, pendings, queued_by};
 
@@ -74,7 +74,7 @@ impl Waiting {
         }
     }
 
-    /// One more waits, and is queued last.
+    /// One more waits, and is queued last. If no memory is left, nothing changes.
     pub fn put(&mut self, pending: Pending) -> Result<(), AllocError>
         ensures joins { OnOk result ((p : Pending) → Contains (pendings self.new) p
             ↔ ((p ≡ pending) ⊎ Contains (pendings self.old) p)) }
@@ -125,7 +125,8 @@ impl Waiting {
         self.order.clear();
     }
 
-    /// Takes all that wait, in the order in which they were queued.
+    /// Takes all that wait, in the order in which they were queued. If no memory is left, all of
+    /// them still wait.
     pub fn take_all(&mut self, alloc: Global) -> Result<Vec<Number>, AllocError>
         ensures emptied { OnOk result (pendings self.new ≡ []) }
         ensures queued { IfOk result (λ numbers. numbers.items ≡ numbers_of (queued_by self.old)) }

@@ -12,16 +12,6 @@ use Rattle.gix_traverse_graph.specs.RowCommits.{commit_of, commits_of}
 use Rattle.gix_traverse_graph.proofs.Ids.{same_from_test, test_from_same, same_id_apart}
 use Rattle.gix_traverse_graph.proofs.Lists.{at_one, at_from_contains, contains_from_at, three, at_from_take, at_take, none_at_nil}
 
--- an empty map numbers nothing
-pub numbers_none : (rows : List Row) (m : NumberMap) → m.entries ≡ [] → NumbersBelow rows 0 m
-numbers_none rows m e = record {
-  each = λ k row lt a. absurd (omega arith);
-  only = λ id k h. absurd (nothing id k h);
-}
-  where
-    nothing : (id : ObjectId) (k : ℕ) → get same_id m id ≡ Some k → ⊥
-    nothing id k h = let f = rw e at h in cc
-
 -- one more row, whose commit had none, gets its number
 pub numbers_push : (rows : List Row) (n : ℕ) (m m' : NumberMap) (row : Row) → NumbersBelow rows n m → At rows n row → get same_id m row.id ≡ None → ((q : ObjectId) → get same_id m' q ≡ cond (same_id row.id q) (Some n) (get same_id m q)) → NumbersBelow rows (n + 1) m'
 numbers_push rows n m m' row old here fresh new = record { each = each; only = only }
@@ -76,12 +66,6 @@ one_row rows once r s c d e =
     at_one rows k r s (subst (λ (i : ℕ). At rows i r) same a) b
 
 -- ---- the greatest generation
-
-pub greatest_none : (rows : List Row) (ids : List ObjectId) → IsGreatest rows (take 0 ids) 0
-greatest_none rows ids = record { none_above = λ s c d. absurd (empty s.id d); attained = inl (refl, refl) }
-  where
-    empty : (x : ObjectId) → Contains (take 0 ids) x → ⊥
-    empty x c = let (k, a) = at_from_contains (take 0 ids) x c in let z : ⊥ = cc in z
 
 in_take : (ids : List ObjectId) (i : ℕ) (x p : ObjectId) → Contains (take (i + 1) ids) x → At ids i p → Contains (take i ids) x ⊎ (x ≡ p)
 in_take ids i x p c a =

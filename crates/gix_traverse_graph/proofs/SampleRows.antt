@@ -1,5 +1,5 @@
 -- The rows that a table's tests accept are in the orders.
-use Rattle.std.proofs.Common.{◌≡◌, ℕ, zero, suc, List, [], ◌∷◌, refl, sym, ap, subst, Some, Bool, true, false, ◌&&◌, nat_eq, unwrap_or, T, eqb-true, eq-eqb}
+use Rattle.std.proofs.Common.{◌≡◌, ℕ, zero, suc, List, [], ◌∷◌, refl, sym, ap, subst, Some, Bool, true, false, nat_eq, unwrap_or, T, eqb-true, eq-eqb}
 use Rattle.std.specs.Prelude.{Contains, not, ⊤}
 use Rattle.std.specs.List.{list_any, list_all}
 use Rattle.std.specs.Int.Signed.{le_z_yes}

@@ -256,7 +256,3 @@ hides_push hides i id old new a before step q =
 pub of_missing : (P Q : ObjectId → Type 0) → ((id : ObjectId) → P id → Q id) → (e : WalkError) → OfMissing P e → OfMissing Q e
 of_missing P Q f (Missing id) h = f id h
 of_missing P Q f Memory h = h
-
-pub of_memory : (P : ObjectId → Type 0) (e : WalkError) → e ≡ Memory → OfMissing P e
-of_memory P (Missing id) h = let z : ⊥ = cc in absurd z
-of_memory P Memory h = tt

@@ -3,7 +3,7 @@ use Rattle.std.specs.List.{list_any, list_all}
 use Rattle.gix_traverse_graph.specs.Check.{check_chosen, is_open, is_ready, newest_first, oldest_first, outranks}
 use Rattle.gix_traverse_graph.specs.Commits.{Commit, Commits, WalkRequest, asked_parents}
 use Rattle.gix_traverse_graph.specs.declared.parents.Parents.{Parents}
-use Rattle.gix_traverse_graph.specs.declared.parents.Parents.TheVariants.{All}
+use Rattle.gix_traverse_graph.specs.declared.parents.Parents.TheVariants.{All, First}
 use Rattle.gix_traverse_graph.specs.Slow.{breadth_list}
 use Rattle.gix_traverse_graph.specs.Sorting.{in_time}
 
@@ -46,9 +46,6 @@ keeps commits q x =
 abbrev pub slow_list : List (Commit ℕ) → WalkRequest ℕ → Option (List ℕ)
 slow_list commits q =
     breadth_list nat_eq (keeps commits q) (asked_parents q.parents (graph_of commits)) q.tips 20
-
-abbrev pub slow_breadth : List (Commit ℕ) → List ℕ → List ℕ → Parents → Option (List ℕ)
-slow_breadth commits tips hidden parents = slow_list commits (request tips hidden parents)
 
 abbrev pub is_distinct : {I : Type 0} → (I → I → Bool) → List I → Bool
 is_distinct eq [] = true
@@ -118,3 +115,30 @@ refusing_request tips refused =
       since = None;
       accepts = λ x. not (nat_eq x refused);
     }
+
+-- ---- the requests of the rows: what a commit reaches, less what another reaches, along first
+-- parents alone, past one that is refused, or no older than some seconds
+
+abbrev pub from_8 : WalkRequest ℕ
+from_8 = request (8 ∷ []) [] All
+
+abbrev pub from_8_less_7 : WalkRequest ℕ
+from_8_less_7 = request (8 ∷ []) (7 ∷ []) All
+
+abbrev pub from_8_less_8 : WalkRequest ℕ
+from_8_less_8 = request (8 ∷ []) (8 ∷ []) All
+
+abbrev pub from_8_by_first : WalkRequest ℕ
+from_8_by_first = request (8 ∷ []) [] First
+
+abbrev pub from_8_past_6 : WalkRequest ℕ
+from_8_past_6 = refusing_request (8 ∷ []) 6
+
+abbrev pub from_8_since_4 : WalkRequest ℕ
+from_8_since_4 = since_request (8 ∷ []) 4
+
+abbrev pub from_3_less_4 : WalkRequest ℕ
+from_3_less_4 = request (3 ∷ []) (4 ∷ []) All
+
+abbrev pub from_2_since_4 : WalkRequest ℕ
+from_2_since_4 = since_request (2 ∷ []) 4

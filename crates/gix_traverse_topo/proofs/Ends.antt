@@ -10,10 +10,6 @@ use Rattle.gix_traverse_topo.proofs.Turns.{is_in}
 use Rattle.gix_traverse_topo.proofs.Degree.{weight_gap}
 
 module _ {I : Type 0} (eq : I → I → Bool) (apart : TellsApart eq) (along : I → List I) (xs before : List I) where
-  -- a child of x among these that is not given
-  ChildIn : List I → I → Type 0
-  ChildIn zs x = (c : I) × Contains zs c × Contains (along c) x × (Contains before c → ⊥)
-
   -- each of these that has x as a parent is given, or there is one that isn't
   search_child : (zs : List I) (x : I) → ((c : I) → Contains zs c → Contains (along c) x → Contains before c) ⊎ ((c : I) × Contains zs c × Contains (along c) x × (Contains before c → ⊥))
   search_child [] x = inl (λ c m n. let (k, a) = at_from_contains [] c m in absurd (none_at_nil k c a))

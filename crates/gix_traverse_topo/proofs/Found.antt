@@ -67,9 +67,6 @@ fault_at keys told n x facts once a b = pick_at (λ (r : Facts). r.fault) None k
 abbrev pub seen_in : List ObjectId → List Facts → Commits ObjectId
 seen_in keys told x = pick_in (λ (r : Facts). record { parents = r.parents.items; time = r.time }) (record { parents = []; time = pos 0 }) keys told x
 
-pub seen_parents : (low : ℕ) (keys : List ObjectId) (told : List Facts) → IsOnce keys → ParentsFrom low (seen_in keys told) keys told
-seen_parents low keys told once n x facts l a b = ap (λ (v : Commit ObjectId). v.parents) (sym (pick_at (λ (r : Facts). record { parents = r.parents.items; time = r.time }) (record { parents = []; time = pos 0 }) keys told n x facts once a b))
-
 pub fault_from : (keys : List ObjectId) (told : List Facts) (x : ObjectId) (error : Error) → fault_in keys told x ≡ Some error → (n : ℕ) × (facts : Facts) × At keys n x × At told n facts × (facts.fault ≡ Some error)
 fault_from [] told x error e = let z : ⊥ = cc in absurd z
 fault_from (k ∷ ks) [] x error e = let z : ⊥ = cc in absurd z

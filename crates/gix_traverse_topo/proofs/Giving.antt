@@ -1,5 +1,5 @@
 -- What one call of a walk gives, from what its clauses say.
-use Rattle.std.proofs.Common.{refl, cond, arith, ℕ, ◌+◌, true, false, ◌≡◌, ◌⊎◌, List, [], ◌∷◌, ◌++◌, sym, subst, Some, None, Option, Bool, ◌<◌}
+use Rattle.std.proofs.Common.{true, false, ◌≡◌, ◌⊎◌, List, [], ◌∷◌, ◌++◌, sym, subst, Some, None, Option, Bool, ◌<◌}
 use Rattle.std.specs.Prelude.{Result, Ok, Err, IfOk, IfErr, OnErr, IfSome, IfNone, IsNone, OnOk, ⊤}
 use Rattle.std.specs.Iterator.{MakesProgress, at_most}
 use Rattle.gix_hash.specs.Id.{Id, id_of}

@@ -1,16 +1,13 @@
 -- How many objects a walk looks up.
-use Rattle.std.proofs.Common.{◌≡◌, ℕ, zero, suc, ◌+◌, ◌-◌, ◌^◌, ◌<◌, ◌≤◌, ◌∙◌, List, [], ◌∷◌, ◌++◌, length, take, refl, sym, ap, subst, arith}
+use Rattle.std.proofs.Common.{◌≡◌, ℕ, ◌+◌, ◌-◌, ◌^◌, ◌<◌, ◌≤◌, ◌∙◌, List, length, take, sym, ap, subst, arith}
 use Rattle.std.specs.Prelude.{min}
-use Rattle.std.proofs.lemmas.Option.{slice_get_within}
 use Rattle.gix_hash.specs.declared.object_id.ObjectId.{ObjectId}
 use Rattle.gix_object_lines.specs.Counts.{one_more}
-use Rattle.gix_traverse_commit_known.specs.Meeting.{CountsAll, CountsOne}
+use Rattle.gix_traverse_commit_known.specs.Meeting.{CountsAll}
 use Rattle.gix_traverse_graph.specs.Order.{At}
 use Rattle.gix_traverse_graph.specs.declared.rows.Row.{Row}
-use Rattle.gix_traverse_graph.proofs.Lists.{none_at_nil}
-use Rattle.gix_traverse_commit_known.proofs.Meeting.{counts_more, counts_one}
+use Rattle.gix_traverse_commit_known.proofs.Meeting.{take_kept}
 use Rattle.gix_traverse_topo.proofs.Turns.{take_whole}
-use Rattle.gix_traverse_commit_known.proofs.Simply.{take_push}
 
 -- one was looked up each time that one more was read, as far as the counter goes
 pub record IsCountedFrom (first few count many : ℕ) : Type 0 where
@@ -30,27 +27,8 @@ counted_all first few count many w l m = let r = w.read in let c = w.counted (om
 
 -- ---- where some commits have rows
 
--- what was known stays the beginning of what is
-take_kept : {I : Type 0} (xs ys : List I) (k : ℕ) → ((j : ℕ) (y : I) → At xs j y → At ys j y) → k ≤ length xs → take k ys ≡ take k xs
-take_kept [] [] zero kept l = refl
-take_kept [] (y ∷ ys) zero kept l = refl
-take_kept [] ys (suc k) kept l = absurd (omega arith)
-take_kept (x ∷ xs) [] k kept l = absurd (none_at_nil 0 x (kept 0 x refl))
-take_kept (x ∷ xs) (y ∷ ys) zero kept l = refl
-take_kept {I} (x ∷ xs) (y ∷ ys) (suc k) kept l =
-    let b : At (y ∷ ys) 0 x = kept 0 x refl in
-    let same : y ≡ x = cc in
-    ap (λ (v : I). v ∷ take k ys) same ∙ ap (λ (zs : List I). x ∷ zs) (take_kept xs ys k (λ j z a. kept (suc j) z a) (omega arith))
-
 -- if more commits are known after them, those that were counted stay counted
 pub counts_start : (rows : List Row) (xs ys : List ObjectId) (k a b : ℕ) → ((j : ℕ) (y : ObjectId) → At xs j y → At ys j y) → k ≡ length xs → CountsAll rows xs a b → CountsAll rows (take k ys) a b
 counts_start rows xs ys k a b kept e before =
     let same : take k ys ≡ xs = take_kept xs ys k kept (omega arith) ∙ (ap (λ (n : ℕ). take n xs) e ∙ take_whole xs) in
     subst (λ (zs : List ObjectId). CountsAll rows zs a b) (sym same) before
-
--- the next commit is counted
-pub counts_next : (rows : List Row) (xs ys : List ObjectId) (k : ℕ) (x : ObjectId) (a b c : ℕ) → At xs k x → ((j : ℕ) (y : ObjectId) → At xs j y → At ys j y) → CountsAll rows (take k xs) a b → CountsOne rows x b c → CountsAll rows (take (k + 1) ys) a c
-counts_next rows xs ys k x a b c here kept before one =
-    let within = slice_get_within xs k x here in
-    let same : take (k + 1) ys ≡ take k xs ++ x ∷ [] = take_push ys k x (kept k x here) ∙ ap (λ (zs : List ObjectId). zs ++ x ∷ []) (take_kept xs ys k kept (omega arith)) in
-    subst (λ (zs : List ObjectId). CountsAll rows zs a c) (sym same) (counts_more rows (take k xs) (x ∷ []) a b c before (counts_one rows x b c one))

@@ -1,11 +1,10 @@
 -- How far a walk has numbered and read the commits that it comes to.
-use Rattle.std.proofs.Common.{◌≡◌, ℕ, zero, suc, ◌+◌, ◌<◌, ◌≤◌, ◌⊎◌, inl, inr, List, [], ◌∷◌, ◌++◌, length, map, take, refl, sym, ◌∙◌, ap, subst, arith, Some, Bool, true, false, cond, length-append, append_assoc, append-nil}
+use Rattle.std.proofs.Common.{◌≡◌, ℕ, zero, suc, ◌+◌, ◌<◌, ◌≤◌, ◌⊎◌, inl, inr, List, [], ◌∷◌, ◌++◌, length, map, take, refl, sym, ◌∙◌, ap, subst, arith, Some, Bool, true, false, cond, append_assoc, append-nil}
 use Rattle.std.specs.Prelude.{Contains}
-use Rattle.std.specs.List.{list_any, find}
+use Rattle.std.specs.List.{list_any}
 use Rattle.std.proofs.lemmas.Option.{slice_get_within, slice_get-get_or}
 use Rattle.std.proofs.lemmas.List.Elements.{Contains-append_left, Contains-append_right, Contains-append_cases}
 use Rattle.gix_hash.specs.declared.object_id.ObjectId.{ObjectId}
-use Rattle.gix_object_lookup.specs.Table.{Table}
 use Rattle.gix_traverse_graph.specs.Commits.{Commits, asked, asked_parents, Reached, tip, parent}
 use Rattle.gix_traverse_graph.specs.Numbered.{same_id}
 use Rattle.gix_traverse_graph.specs.Order.{At, Named}
@@ -14,18 +13,14 @@ use Rattle.gix_traverse_graph.specs.Standing.{NotIn}
 use Rattle.gix_traverse_graph.specs.declared.parents.Parents.{Parents}
 use Rattle.gix_traverse_graph.specs.declared.parents.Parents.TheVariants.{All, First}
 use Rattle.gix_traverse_graph.specs.declared.rows.Row.{Row}
-use Rattle.gix_traverse_graph.proofs.Frontier.{read_none, read_skip, read_push, read_next, read_all}
+use Rattle.gix_traverse_graph.proofs.Frontier.{read_none, read_skip, read_push}
 use Rattle.gix_traverse_graph.proofs.Ids.{same_id_apart}
-use Rattle.gix_traverse_graph.proofs.Lists.{at_one, at_from_contains, contains_from_at, none_at_nil, at_push, at_from_push, at_from_take}
+use Rattle.gix_traverse_graph.proofs.Lists.{at_one, at_from_contains, contains_from_at, none_at_nil, at_push, at_from_take}
 use Rattle.gix_traverse_graph.proofs.Slow.{contains_from_any, any_from_contains}
-use Rattle.gix_traverse_topo.specs.Meeting.{IsRow, Met, Walks}
+use Rattle.gix_traverse_topo.specs.Meeting.{IsRow, Met}
 use Rattle.gix_traverse_graph.specs.Rows.{AllHeld}
-use Rattle.gix_traverse_topo.specs.Nodes.{all_facts, counts, IsOnce, AreFacts, ParentsFrom}
-use Rattle.gix_traverse_topo.specs.Walking.{Visits, Walking}
-use Rattle.gix_traverse_topo.specs.declared.known.Node.{Node}
-use Rattle.gix_traverse_topo.specs.declared.known.Facts.{Facts}
+use Rattle.gix_traverse_topo.specs.Nodes.{IsOnce}
 use Rattle.gix_traverse_topo.proofs.Turns.{at_append_cases}
-use Rattle.gix_traverse_commit_known.proofs.NodeLemmas.{find_passes}
 
 -- the first m names of a row are met
 pub record MetSo (way : ObjectId → List ObjectId) (tips hs keys : List ObjectId) (p m : ℕ) (names : List ObjectId) : Type 0 where

@@ -13,7 +13,6 @@ use Rattle.std.proofs.lemmas.List.Elements.{Contains-push_cases, Contains-append
 use Rattle.std.proofs.lemmas.List.Sorted.{IsPermutation-to_front, IsPermutation-trans, length_permutation}
 use Rattle.std.proofs.lemmas.Option.{slice_get_within, slice_get-get_or}
 use Rattle.gix_hash.specs.declared.object_id.ObjectId.{ObjectId}
-use Rattle.gix_hash.specs.declared.object_id.ObjectId.TheVariants.{Sha1}
 use Rattle.gix_traverse_graph.specs.Order.{At}
 use Rattle.gix_traverse_graph.proofs.Lists.{at_from_contains, contains_from_at, none_at_nil, at_from_push, three}
 use Rattle.gix_traverse_topo.specs.Nodes.{all_facts, counts}
@@ -220,6 +219,3 @@ off_falls low cs cs' n count l a e = ap (λ (zs : List ℕ). total (λ c. c) (dr
 
 pub many_counts : (a b : List Node) → all_facts a ≡ all_facts b → length (counts a) ≡ length b
 many_counts a b e = length_map (λ (v : Node). v.names) a ∙ sym (length_map (λ (v : Node). v.facts) a) ∙ ap length e ∙ length_map (λ (v : Node). v.facts) b
-
-pub many_nodes : (a b : List Node) → all_facts a ≡ all_facts b → length a ≡ length b
-many_nodes a b e = sym (length_map (λ (v : Node). v.facts) a) ∙ ap length e ∙ length_map (λ (v : Node). v.facts) b

@@ -1,10 +1,9 @@
 -- How far a walk has read the commits that it numbered, and how often they name each other.
-use Rattle.std.proofs.Common.{◌≡◌, ℕ, zero, suc, ◌+◌, ◌<◌, ◌≤◌, inl, inr, List, [], ◌∷◌, ◌++◌, length, take, refl, sym, ◌∙◌, ap, subst, arith, Bool, true, false, cond, set, not, length-append, append-nil}
+use Rattle.std.proofs.Common.{◌≡◌, ℕ, suc, ◌+◌, ◌<◌, ◌≤◌, inl, inr, List, [], ◌∷◌, ◌++◌, length, take, refl, sym, ◌∙◌, ap, subst, arith, Bool, true, false, cond, set, not, length-append, append-nil}
 use Rattle.std.specs.Prelude.{Contains}
 use Rattle.std.specs.List.{list_any}
-use Rattle.std.proofs.lemmas.Option.{slice_get_within, slice_get-get_or}
+use Rattle.std.proofs.lemmas.Option.{slice_get_within}
 use Rattle.gix_hash.specs.declared.object_id.ObjectId.{ObjectId}
-use Rattle.gix_hash.specs.declared.object_id.ObjectId.TheVariants.{Sha1}
 use Rattle.gix_object_lookup.specs.Table.{Table}
 use Rattle.gix_traverse_graph.specs.Commits.{Commits, asked, asked_parents, Reached}
 use Rattle.gix_traverse_graph.specs.Numbered.{same_id}
@@ -154,9 +153,6 @@ old_key keys keys' y new n t e = go (list_any (same_id y) keys) refl
 
 pub told_pushed : (nodes nodes' : List Node) (node : Node) → nodes' ≡ nodes ++ node ∷ [] → (k : ℕ) (facts : Facts) → At (all_facts nodes) k facts → At (all_facts nodes') k facts
 told_pushed nodes nodes' node e k r a = subst (λ (rs : List Facts). At rs k r) (sym (ap all_facts e ∙ map_push (λ (v : Node). v.facts) nodes node)) (at_push (all_facts nodes) node.facts k r a)
-
-pub many_pushed : (nodes nodes' : List Node) (node : Node) (keys keys' : List ObjectId) (y : ObjectId) → nodes' ≡ nodes ++ node ∷ [] → keys' ≡ keys ++ y ∷ [] → length nodes ≡ length keys → length nodes' ≡ length keys'
-many_pushed nodes nodes' node keys keys' y e f l = ap length e ∙ length-append nodes (node ∷ []) ∙ ap (λ (n : ℕ). n + 1) l ∙ sym (ap length f ∙ length-append keys (y ∷ []))
 
 pub unnamed_pushed : (nodes nodes' : List Node) (node : Node) (keys keys' : List ObjectId) (y : ObjectId) → nodes' ≡ nodes ++ node ∷ [] → node.names ≡ 0 → keys' ≡ keys ++ y ∷ [] → (Contains keys y → ⊥) → (low : ℕ) (names : ObjectId → ℕ) → length nodes ≡ length keys → NamesAre low keys (counts nodes) names → NamesAre low keys' (counts nodes') names
 unnamed_pushed nodes nodes' node keys keys' y e z f new low names l known =

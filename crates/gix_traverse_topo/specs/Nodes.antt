@@ -1,5 +1,5 @@
 -- What a walk knows of commits, each by its number.
-use Rattle.std.specs.Prelude.{◌≡◌, ℕ, ◌+◌, ◌<◌, ◌≤◌, pos, List, [], map, Contains, IsSome, IfSome, None, Some}
+use Rattle.std.specs.Prelude.{◌≡◌, ℕ, ◌<◌, ◌≤◌, pos, List, [], map, Contains, IsSome, IfSome, None, Some}
 use Rattle.gix_hash.specs.declared.object_id.ObjectId.{ObjectId}
 use Rattle.gix_object_lookup.specs.Table.{Table}
 use Rattle.gix_traverse_graph.specs.Commits.{Commits}
@@ -46,12 +46,6 @@ pub record IsBlank (fault : FetchError) (facts : Facts) : Type 0 where
   pub generation : facts.generation ≡ None
   pub because : facts.fault ≡ Some (error_of fault)
   pub no_memory : fault ≡ fetch.Memory → ⊥
-
--- from this number on each commit's facts are its own
-abbrev pub TellFrom : ℕ → List Row → Commits ObjectId → List ObjectId → List Facts → Type 0
-TellFrom low rows g keys told =
-    (n : ℕ) (x : ObjectId) (facts : Facts) → low ≤ n → At keys n x → At told n facts
-    → Tells rows g x facts
 
 -- from this number on each commit's parents are those that were read
 abbrev pub ParentsFrom : ℕ → Commits ObjectId → List ObjectId → List Facts → Type 0

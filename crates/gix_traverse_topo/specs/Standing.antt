@@ -174,6 +174,14 @@ pub record Steps (sorting : Sorting) (rows : List Row) (h : Commits ObjectId)
   pub others : (k : ℕ) (other : Facts) → (k ≡ number → ⊥)
       → At (all_facts new.nodes.items) k other → At (all_facts old.nodes.items) k other
 
+-- so it gives, of whichever walk it is
+abbrev pub StepsOn : Parents → Known → Ready → Known → Ready → Info → Type 0
+StepsOn parents known ready known' ready' info =
+    (sorting : Sorting) (rows : List Row) (h : Commits ObjectId)
+    (tips hs xs finished : List ObjectId)
+    → Standing sorting rows h tips parents hs xs finished known ready
+    → Steps sorting rows h tips parents hs xs finished known ready known' ready' info
+
 -- the request that these make
 abbrev pub topo_request : {I : Type 0} → List I → List I → Parents → (I → Bool) → WalkRequest I
 topo_request tips ends parents accepts =

@@ -6,12 +6,15 @@ use Rattle.gix_traverse_graph.specs.Commits.{Commits, asked, asked_parents}
 use Rattle.gix_traverse_graph.specs.Numbered.{same_id}
 use Rattle.gix_traverse_graph.specs.Order.{At}
 use Rattle.gix_traverse_graph.specs.Reading.{Read}
+use Rattle.gix_traverse_graph.specs.Rows.{AllHeld, Holds}
 use Rattle.gix_traverse_graph.specs.Standing.{NotIn}
+use Rattle.gix_traverse_commit_known.specs.Meeting.{CountsAll}
 use Rattle.gix_traverse_graph.specs.declared.parents.Parents.{Parents}
 use Rattle.gix_traverse_graph.specs.declared.rows.Row.{Row}
 use Rattle.gix_traverse_topo.specs.Meeting.{IsRow, Met}
 use Rattle.gix_traverse_topo.specs.Nodes.{all_facts, counts, IsOnce, AreFacts, NamesAre, ParentsIn}
 use Rattle.gix_traverse_topo.specs.Turns.{names_of, times}
+use Rattle.gix_traverse_topo.specs.declared.known.Known.{Known}
 use Rattle.gix_traverse_topo.specs.declared.known.Node.{Node}
 use Rattle.gix_traverse_topo.specs.declared.known.Facts.{Facts}
 
@@ -68,3 +71,27 @@ pub record Walking (honest may_fail : Type 0) (rows : List Row) (table : Table) 
       → (m : Met (asked_parents along h) tips keys keys' place)
       × NamesAre (length keys) keys' (counts nodes')
       (λ y. names_of same_id (asked_parents along h) y (take place m.xs))
+
+-- after the commits that were known all are read that these tips reach past them
+abbrev pub WalksAll : Type 0 → Type 0 → List Row → Table → Parents → List ObjectId → List ObjectId
+    → List Node → List ObjectId → List Node → Type 0
+WalksAll honest may_fail rows table along tips keys nodes keys' nodes' = (high : ℕ)
+    × (length keys' ≤ high)
+    × Walking honest may_fail rows table along tips keys nodes high keys' nodes'
+
+-- after the commits that were known more are known, that these tips reach: how many objects were
+-- looked up for them
+pub record CountsNew (rows : List Row) (tips : List ObjectId) (old : Known) (before : ℕ)
+    (new : Known) (after : ℕ) : Type 0 where
+  -- at most one for each
+  pub most : after + length old.nodes.items ≤ before + length new.nodes.items
+  -- one for each if none has a row, as far as the counter goes
+  pub bare : length old.nodes.items ≡ length old.ids.keys → ((x : ObjectId) → ¬ Holds rows x)
+      → before ≤ length old.nodes.items
+      → after + length old.nodes.items ≡ before + length new.nodes.items
+  -- one after the other, except those that have rows
+  pub each : length old.nodes.items ≡ length old.ids.keys → (first : ℕ)
+      → CountsAll rows old.ids.keys first before → CountsAll rows new.ids.keys first after
+  -- none if all that is known and the tips have rows; then all that is known now has
+  pub held : AllHeld rows old.ids.keys → AllHeld rows tips
+      → AllHeld rows new.ids.keys × (after ≡ before)

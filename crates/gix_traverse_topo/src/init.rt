@@ -2,6 +2,7 @@
 
 ghost use Rattle.std.specs.Prelude.{◌≡◌, ◌+◌, ◌≤◌, ◌++◌, [], length, IfOk, IfErr, IfSome, IfNone, IsOk, None};
 ghost use Rattle.gix_hash.specs.declared.object_id.ObjectId.{ObjectId};
+ghost use Rattle.gix_traverse_commit_known.specs.Fetching.{ReadsSame};
 ghost use Rattle.gix_traverse_commit_known.specs.Meeting.{CountsAll};
 ghost use Rattle.gix_traverse_graph.specs.Rows.{AllHeld, Holds};
 ghost use Rattle.gix_traverse_commit_known.specs.Told.{rows_of};
@@ -233,8 +234,7 @@ fn explore_ends<F: FindInto>(
     source: &mut Source<F>,
     ends: &[ObjectId],
 ) -> Result<Known, Error>
-    ensures objects { source.new.objects ≡ source.old.objects }
-    ensures rows { source.new.rows ≡ source.old.rows }
+    ensures same { ReadsSame source.old source.new }
     ensures painted { IfOk result (IsPainted (F.is_honest source.old.objects)
         (F.may_fail source.old.objects) (rows_of source.old.rows) (F.table source.old.objects)
         ends.now) }

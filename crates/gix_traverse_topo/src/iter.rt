@@ -1,6 +1,6 @@
 //! The walk.
 
-ghost use Rattle.std.specs.Prelude.{true, false, ◌≡◌, ◌+◌, ◌<◌, ◌≤◌, ◌++◌, ◌∷◌, [], ℕ, List, OnOk, IfOk, IfErr, OnErr, IfSome, IfNone, IsNone, Option, Some, ◌⊎◌, length};
+ghost use Rattle.std.specs.Prelude.{true, false, ◌≡◌, ◌+◌, ◌<◌, ◌≤◌, [], ℕ, List, OnOk, IfOk, IfErr, OnErr, IfSome, IfNone, IsNone, Option, Some, ◌⊎◌, length};
 ghost use Rattle.std.specs.Iterator.{at_most};
 ghost use Rattle.gix_hash.specs.declared.object_id.ObjectId.{ObjectId};
 ghost use Rattle.gix_traverse_graph.specs.Commits.{Commits, asked};
@@ -9,8 +9,8 @@ ghost use Rattle.gix_traverse_graph.specs.declared.rows.Row.{Row};
 ghost use Rattle.gix_traverse_topo.specs.declared.init.Sorting.{Sorting};
 ghost use Rattle.gix_traverse_topo.specs.Nodes.{all_facts, counts, IsOnce};
 ghost use Rattle.gix_traverse_topo.specs.Asking.{lookups_of};
-ghost use Rattle.gix_traverse_topo.specs.Giving.{AsksEach, AsksFault, AsksRest, GivesNext, HasGiven, accepted_by, answers_left};
-ghost use Rattle.gix_traverse_topo.specs.Standing.{Answers, CountsOff, Gives, GoesOff, IsInfo, IsTurn, IsTurnOf, NoneReachesItself, NotCounted, RowOff, Standing, Stands, Steps, all_accepted, topo_request, weight};
+ghost use Rattle.gix_traverse_topo.specs.Giving.{GivesNext, answers_left};
+ghost use Rattle.gix_traverse_topo.specs.Standing.{CountsOff, Gives, GoesOff, IsTurnOf, NotCounted, RowOff, StepsOn, weight};
 ghost use Rattle.gix_traverse_topo.specs.Waiting.{waiting};
 ghost use Rattle.gix_hash.specs.Id.{id_of};
 ghost use Rattle.gix_traverse_topo.specs.declared.known.Facts.{Facts};
@@ -141,12 +141,8 @@ impl<P: Accept + Drop> Topo<P> {
         ensures parents { self.new.parents ≡ self.old.parents }
         ensures predicate { self.new.predicate ≡ self.old.predicate }
         ensures lookups { self.new.lookups ≡ self.old.lookups }
-        ensures stood { IfSome result (λ given. IfOk given
-            (λ info. (sorting : Sorting) (rows : List Row) (h : Commits ObjectId)
-            (tips hs xs finished : List ObjectId)
-            → Standing sorting rows h tips self.old.parents hs xs finished self.old.known
-            self.old.ready → Steps sorting rows h tips self.old.parents hs xs finished
-            self.old.known self.old.ready self.new.known self.new.ready info)) }
+        ensures stood { IfSome result (λ given. IfOk given (StepsOn self.old.parents
+            self.old.known self.old.ready self.new.known self.new.ready)) }
         ensures end { IfNone result (waiting self.old.ready ≡ []) }
         ensures refused { IfSome result (λ given. IfErr given
             (λ error. (sorting : Sorting) (rows : List Row) (tips finished : List ObjectId)
@@ -172,55 +168,6 @@ impl<P: Accept + Drop> Topo<P> {
             }
         }
     }
-
-    // The next commit that is accepted.
-    fn advance(&mut self) -> Option<Result<Info, Error>>
-        ensures parents { self.new.parents ≡ self.old.parents }
-        ensures accepts { P.accepts self.new.predicate ≡ P.accepts self.old.predicate }
-        ensures lookups { self.new.lookups ≡ self.old.lookups }
-        ensures more { IfSome result (λ given. IfOk given
-            (λ info. (sorting : Sorting) (rows : List Row) (faults : ObjectId → Option Error)
-            (g : Commits ObjectId) (tips ends listed : List ObjectId)
-            → HasGiven P.accepts self.old sorting rows faults g tips ends listed
-            → Stands sorting rows faults g tips ends self.old.parents
-            (accepted_by P.accepts self.old) (listed ++ info.id ∷ []) self.new.known
-            self.new.ready × IsInfo rows g info)) }
-        ensures end { IfNone result ((sorting : Sorting) (rows : List Row)
-            (faults : ObjectId → Option Error) (g : Commits ObjectId)
-            (tips ends listed : List ObjectId)
-            → HasGiven P.accepts self.old sorting rows faults g tips ends listed
-            → NoneReachesItself g (topo_request tips ends self.old.parents all_accepted)
-            → Answers sorting g (topo_request tips ends self.old.parents
-            (accepted_by P.accepts self.old)) listed) }
-        ensures refused { IfSome result (λ given. IfErr given
-            (λ error. (sorting : Sorting) (rows : List Row) (faults : ObjectId → Option Error)
-            (g : Commits ObjectId) (tips ends listed : List ObjectId)
-            → HasGiven P.accepts self.old sorting rows faults g tips ends listed
-            → (error ≡ Memory) ⊎ ((x : ObjectId) × (faults x ≡ Some error)
-            × IsTurn sorting faults g (topo_request tips ends self.old.parents
-            (accepted_by P.accepts self.old)) listed x))) }
-        ensures asked { IfSome result (λ given. IfOk given (λ info. (passed : List ObjectId)
-            × AsksEach P.goes self.old self.new (passed ++ info.id ∷ []))) }
-        ensures asked_end { IfNone result (AsksRest P.goes self.old self.new) }
-        ensures asked_fault { IfSome result (λ given. IfErr given (AsksFault P.goes self.old
-            self.new)) }
-        ensures failed { IfSome result (λ given. OnErr given (waiting self.new.ready ≡ [])) }
-        ensures over { IfNone result (waiting self.new.ready ≡ []) }
-        ensures ended { waiting self.old.ready ≡ [] → IsNone result }
-        ensures falls { IfSome result (λ given. OnOk given (weight self.new.known self.new.ready
-            < weight self.old.known self.old.ready)) }
-    {
-        'turns: while let Some(given) = self.turn() {
-            let info = match given {
-                Ok(info) => info,
-                Err(error) => return Some(Err(error)),
-            };
-            if let Some(info) = accepted(&mut self.predicate, info) {
-                return Some(Ok(info));
-            }
-        }
-        None
-    }
 }
 
 impl<P: Accept + Drop> Iterator for Topo<P> {
@@ -233,6 +180,15 @@ impl<P: Accept + Drop> Iterator for Topo<P> {
     /// The next commit; `None` if all are given, or an error was. Returns an error if the commit
     /// isn't read, and if no memory is left.
     fn next(&mut self) -> Option<Result<Info, Error>> {
-        self.advance()
+        'turns: while let Some(given) = self.turn() {
+            let info = match given {
+                Ok(info) => info,
+                Err(error) => return Some(Err(error)),
+            };
+            if let Some(info) = accepted(&mut self.predicate, info) {
+                return Some(Ok(info));
+            }
+        }
+        None
     }
 }

@@ -1,11 +1,11 @@
 //! The commits that a walk knows, each by a number.
 
-ghost use Rattle.std.specs.Prelude.{◌≡◌, ◌+◌, ◌^◌, ◌<◌, ◌≤◌, ◌==◌, ◌⊎◌, ℕ, List, [], ◌++◌, length, OnOk, IfOk, IfErr, IfSome, IfNone, Some, None, slice_get, slice_set};
+ghost use Rattle.std.specs.Prelude.{◌≡◌, ◌+◌, ◌^◌, ◌<◌, ◌≤◌, ◌==◌, ◌⊎◌, ℕ, [], length, OnOk, IfOk, IfErr, IfSome, IfNone, Some, None, slice_get, slice_set};
 ghost use Rattle.indexmap.specs.IndexSet.{insert_key};
 ghost use Rattle.gix_hash.specs.declared.object_id.ObjectId.{ObjectId};
 ghost use Rattle.gix_traverse_graph.specs.Commits.{asked};
-ghost use Rattle.gix_object_lines.specs.Counts.{one_more};
-ghost use Rattle.gix_traverse_commit_known.specs.Meeting.{CountsAll};
+ghost use Rattle.gix_traverse_commit_known.specs.Fetching.{LooksUpAtMost, ReadsSame};
+ghost use Rattle.gix_traverse_commit_known.specs.Meeting.{CountsOne};
 ghost use Rattle.gix_traverse_graph.specs.Numbered.{same_id};
 ghost use Rattle.gix_traverse_graph.specs.Order.{At};
 ghost use Rattle.gix_traverse_graph.specs.Rows.{AllHeld, Holds};
@@ -13,7 +13,7 @@ ghost use Rattle.gix_traverse_commit_known.specs.Told.{rows_of};
 ghost use Rattle.gix_traverse_topo.specs.Nodes.{all_facts, counts, IsBlank, AreFacts, NamesAre, IsOnce};
 ghost use Rattle.gix_traverse_topo.specs.Turns.{times};
 ghost use Rattle.gix_traverse_topo.specs.Waiting.{IsFree};
-ghost use Rattle.gix_traverse_topo.specs.Walking.{Meets, Names, Visits, Walking};
+ghost use Rattle.gix_traverse_topo.specs.Walking.{CountsNew, Meets, Names, Visits, WalksAll};
 ghost use Rattle.gix_traverse_topo.specs.declared.error.Error.TheVariants.{Memory, MissingStateUnexpected, MissingIndegreeUnexpected};
 ghost use Rattle.gix_traverse_topo.specs.declared.known.Node.{Node};
 ghost use Rattle.gix_traverse_topo.specs.declared.known.Facts.{Facts};
@@ -96,16 +96,11 @@ fn blank(alloc: Global, fault: FetchError) -> Result<Facts, Error>
 
 // Reads a commit.
 fn read<F: FindInto>(source: &mut Source<F>, id: &ObjectId) -> Result<Facts, Error>
-    ensures objects { source.new.objects ≡ source.old.objects }
-    ensures rows { source.new.rows ≡ source.old.rows }
+    ensures reads { LooksUpAtMost 1 source.old source.new }
+    ensures one { CountsOne (rows_of source.old.rows) id.now source.old.lookups source.new.lookups }
     ensures read { IfOk result (AreFacts (F.is_honest source.old.objects)
         (F.may_fail source.old.objects) (rows_of source.old.rows) (F.table source.old.objects)
         id.now) }
-    ensures counted { source.new.lookups ≤ source.old.lookups + 1 }
-    ensures rowed { Holds (rows_of source.old.rows) id.now
-        → source.new.lookups ≡ source.old.lookups }
-    ensures asked { (¬ Holds (rows_of source.old.rows) id.now)
-        → source.new.lookups ≡ one_more source.old.lookups }
     ensures closed { Holds (rows_of source.old.rows) id.now
         → IfOk result (λ facts. AllHeld (rows_of source.old.rows) facts.parents.items) }
     ensures refused { IfErr result (λ error. error ≡ Memory) }
@@ -280,21 +275,16 @@ impl Known {
         along: Parents,
     ) -> Result<(), Error>
         ensures hidden { self.new.hidden ≡ self.old.hidden }
-        ensures objects { source.new.objects ≡ source.old.objects }
-        ensures rows { source.new.rows ≡ source.old.rows }
+        ensures reads { LooksUpAtMost 1 source.old source.new }
+        ensures one { CountsOne (rows_of source.old.rows) id.now source.old.lookups
+            source.new.lookups }
         ensures visited { OnOk result (Visits (F.is_honest source.old.objects)
             (F.may_fail source.old.objects) (rows_of source.old.rows) (F.table source.old.objects)
             along number.0 id.now self.old.ids.keys self.old.nodes.items self.new.ids.keys
             self.new.nodes.items) }
-        ensures counted { source.new.lookups ≤ source.old.lookups + 1 }
-        ensures asked { (¬ Holds (rows_of source.old.rows) id.now)
-            → source.new.lookups ≡ one_more source.old.lookups }
         ensures held { Holds (rows_of source.old.rows) id.now
-            → source.new.lookups ≡ source.old.lookups }
-        ensures rowed { Holds (rows_of source.old.rows) id.now
             → AllHeld (rows_of source.old.rows) self.old.ids.keys
-            → OnOk result (AllHeld (rows_of source.old.rows) self.new.ids.keys
-            × (source.new.lookups ≡ source.old.lookups)) }
+            → OnOk result (AllHeld (rows_of source.old.rows) self.new.ids.keys) }
         ensures refused { length self.old.nodes.items ≡ length self.old.ids.keys
             → number.0 < length self.old.ids.keys → IfErr result (λ error. error ≡ Memory) }
     {
@@ -305,7 +295,8 @@ impl Known {
     }
 
     /// Numbers and reads all that the tips reach and that isn't known yet, and counts how often
-    /// these name each as a parent that the walk goes along.
+    /// these name each as a parent that the walk goes along. Fails only for memory: a commit that
+    /// can't be read keeps its fault.
     pub fn walk<F: FindInto>(
         &mut self,
         source: &mut Source<F>,
@@ -313,27 +304,13 @@ impl Known {
         along: Parents,
     ) -> Result<(), Error>
         ensures hidden { self.new.hidden ≡ self.old.hidden }
-        ensures objects { source.new.objects ≡ source.old.objects }
-        ensures rows { source.new.rows ≡ source.old.rows }
-        ensures walking { OnOk result ((high : ℕ) × (length self.new.ids.keys ≤ high)
-            × Walking (F.is_honest source.old.objects) (F.may_fail source.old.objects)
-            (rows_of source.old.rows) (F.table source.old.objects) along tips.now
-            self.old.ids.keys self.old.nodes.items high self.new.ids.keys self.new.nodes.items) }
-        ensures counted { OnOk result (source.new.lookups + length self.old.nodes.items
-            ≤ source.old.lookups + length self.new.nodes.items) }
-        ensures each { OnOk result (length self.old.nodes.items ≡ length self.old.ids.keys
-            → ((x : ObjectId) → ¬ Holds (rows_of source.old.rows) x)
-            → source.old.lookups ≤ length self.old.nodes.items
-            → source.new.lookups + length self.old.nodes.items
-            ≡ source.old.lookups + length self.new.nodes.items) }
-        ensures asked { OnOk result (length self.old.nodes.items ≡ length self.old.ids.keys
-            → (first : ℕ)
-            → CountsAll (rows_of source.old.rows) self.old.ids.keys first source.old.lookups
-            → CountsAll (rows_of source.old.rows) self.new.ids.keys first source.new.lookups) }
-        ensures rowed { OnOk result (AllHeld (rows_of source.old.rows) self.old.ids.keys
-            → AllHeld (rows_of source.old.rows) tips.now
-            → AllHeld (rows_of source.old.rows) self.new.ids.keys
-            × (source.new.lookups ≡ source.old.lookups)) }
+        ensures same { ReadsSame source.old source.new }
+        ensures walks { OnOk result (WalksAll (F.is_honest source.old.objects)
+            (F.may_fail source.old.objects) (rows_of source.old.rows) (F.table source.old.objects)
+            along tips.now self.old.ids.keys self.old.nodes.items self.new.ids.keys
+            self.new.nodes.items) }
+        ensures counts { OnOk result (CountsNew (rows_of source.old.rows) tips.now self.old
+            source.old.lookups self.new source.new.lookups) }
         ensures refused { length self.old.nodes.items ≡ length self.old.ids.keys
             → IfErr result (λ error. error ≡ Memory) }
     {
@@ -413,7 +390,8 @@ impl Known {
         }
     }
 
-    /// Those that the tips reach and none names, in the order of their numbers.
+    /// Those that the tips reach and none names, in the order of their numbers. Returns `Memory` if
+    /// no memory is left.
     pub fn free(&self, alloc: Global) -> Result<Vec<Pending>, Error>
         ensures free { IfOk result (λ first. IsFree self.now.hidden (all_facts self.now.nodes.items)
             (counts self.now.nodes.items) first.items) }
@@ -447,7 +425,7 @@ impl Known {
         }
     }
 
-    /// What is given of a commit, whose parents are handed out.
+    /// What is given of a commit, whose parents are handed out. Fails if no commit has the number.
     pub fn take(&mut self, number: Number) -> Result<Info, Error>
         ensures as_many { length self.new.nodes.items ≡ length self.old.nodes.items }
         ensures ids { self.new.ids ≡ self.old.ids }

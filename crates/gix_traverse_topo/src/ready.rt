@@ -42,7 +42,7 @@ impl Ready {
         }
     }
 
-    /// One more waits.
+    /// One more waits. If no memory is left, the error holds it.
     pub fn push(&mut self, pending: Pending) -> Result<(), AllocFailed<Pending>>
         ensures { OnOk result (Joined self.old (pending ∷ []) self.new) }
     {

@@ -9,3 +9,7 @@ pub mod Orders
 pub mod AtPaths
 pub mod Folders
 pub mod Known
+pub use Rattle.bstr.specs.BStr
+pub use Rattle.gix_hash.specs.Id
+pub use Rattle.gix_object_tree.specs.Entry
+pub use Rattle.gix_object_tree.specs.Reading

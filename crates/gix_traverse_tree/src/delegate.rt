@@ -9,8 +9,8 @@ use crate::visit::{Action, Error};
 use bstr::BStr;
 use gix_object_tree::tree::EntryRef;
 
-/// Is called by a walk over trees at each entry, and follows the way there. Each call that finds no
-/// memory ends the walk.
+/// Is called by a walk over trees at each entry, and follows the way there. A call that finds no
+/// memory returns an error, which ends the walk.
 pub trait Visit {
     /// What a call makes of the delegate.
     ghost goes: { Self → Call → Self → Type 0 };

@@ -1,6 +1,6 @@
 //! Walks in depth order.
 
-ghost use Rattle.std.specs.Prelude.{◌≡◌, ◌<◌, ◌++◌, ◌∷◌, [], IfOk, IfErr, IsOk, OnOk, reverse, length};
+ghost use Rattle.std.specs.Prelude.{◌≡◌, IfOk, IfErr, OnOk, reverse, length};
 ghost use Rattle.std.specs.List.{list_any};
 ghost use Rattle.gix_hash.specs.Id.{id_of};
 ghost use Rattle.gix_hash.specs.Order.{id_eq};
@@ -8,7 +8,9 @@ ghost use Rattle.gix_object_tree.specs.Entry.{item_of};
 ghost use Rattle.gix_traverse_tree.specs.Calls.{Runs};
 ghost use Rattle.gix_traverse_tree.specs.Trees.{failed, TreeFault};
 ghost use Rattle.gix_traverse_tree.specs.Nodes.{MemoryOr};
-ghost use Rattle.gix_traverse_tree.specs.Opened.{left_of, ids_of, Rest, AreOpen, ShowsEntry, ShowsNext, HasNoNext, Opens, GoesOn, IsAtEnd, IsGood, WalksIn, WhereTrue, IsResumed, IsGivenBack, IsTakenFrom};
+ghost use Rattle.gix_traverse_tree.specs.Opened.{left_of, ids_of, Rest, AreOpen, ShowsEntry, ShowsNext, HasNoNext, Opens, GoesOn, IsAtEnd, IsGood, WalksIn, WhereTrue, IsResumed};
+
+mod buffers;
 
 use crate::entry::show;
 pub use crate::error::Error;
@@ -19,7 +21,7 @@ use gix_hash::ObjectId;
 use gix_object_lookup::FindInto;
 use gix_object_tree::TreeRefIter;
 use gix_object_tree::tree::EntryRef;
-use std::alloc::{AllocError, Global};
+use std::alloc::Global;
 use std::ops::ControlFlow;
 
 /// A tree that a walk is in: its content, and where in it the next entry begins.
@@ -44,49 +46,6 @@ enum Step {
 #[derive(Drop)]
 pub struct State {
     buffers: Vec<Vec<u8>>,
-}
-
-impl State {
-    /// A state for a first walk. It takes no memory.
-    pub fn new(alloc: Global) -> State
-        ensures { result.buffers.items ≡ [] }
-    {
-        State {
-            buffers: Vec::new(alloc),
-        }
-    }
-
-    /// A state for a first walk, which serves as well as a copy. It takes no memory, so it never
-    /// fails.
-    pub fn try_clone(&self) -> Result<State, AllocError>
-        ensures buffers { IfOk result (λ state. state.buffers.items ≡ []) }
-        ensures whole { IsOk result }
-    {
-        Ok(State::new(*self.buffers.allocator()))
-    }
-
-    /// An empty buffer, one of those given to `push_buf` if there is one.
-    pub fn pop_buf(&mut self) -> Vec<u8>
-        ensures empty { result.items ≡ [] }
-        ensures taken { IsTakenFrom self.old.buffers.items self.new.buffers.items }
-    {
-        match self.buffers.pop() {
-            Some(mut buffer) => {
-                buffer.clear();
-                buffer
-            }
-            None => Vec::new(*self.buffers.allocator()),
-        }
-    }
-
-    /// Takes a buffer back for later use. If no memory is left, it is dropped.
-    pub fn push_buf(&mut self, buffer: Vec<u8>)
-        ensures given { IsGivenBack buffer self.old.buffers.items self.new.buffers.items }
-        ensures kept { self.old.buffers.len < self.old.buffers.cap
-            → self.new.buffers.items ≡ self.old.buffers.items ++ buffer ∷ [] }
-    {
-        let _ = self.buffers.push(buffer);
-    }
 }
 
 // Shows an entry, and returns how the walk goes on.

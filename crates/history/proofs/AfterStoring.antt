@@ -23,8 +23,8 @@ use Rattle.history_model.specs.Repository as plain
 
 module _ {F : Type 0} (IsHonest : F → Type 0) (history : F → History) (now : Repository F) where
   -- if nothing was to be stored, all is as before
-  pub stored_nothing : (r : plain.Repository) (order : Command) → (after r order).objects ≡ r.objects → Stands IsHonest history now r → HasStored IsHonest history now r order
-  stored_nothing r order same h = record {
+  pub stored_nothing : (r : plain.Repository) (sent : Command) → (after r sent).objects ≡ r.objects → Stands IsHonest history now r → HasStored IsHonest history now r sent
+  stored_nothing r sent same h = record {
     before = now;
     stood = h;
     kept = record { names = refl; branch = refl; rows = refl; failed = refl };
@@ -34,13 +34,13 @@ module _ {F : Type 0} (IsHonest : F → Type 0) (history : F → History) (now :
     known = λ id. h.known id ∙ ap (λ (values : plain.Values). contains_key values id) (sym same);
   }
 
-  module _ (r : plain.Repository) (order : Command) (s : HasStored IsHonest history now r order) where
+  module _ (r : plain.Repository) (sent : Command) (s : HasStored IsHonest history now r sent) where
     -- the names are as before
     pub stand_still : NamesStand IsHonest history now r
     stand_still = names_stand IsHonest history s.before now r s.stood s.kept
 
     -- and so is all, if nothing was to be stored
-    pub all_still : (after r order).objects ≡ r.objects → Stands IsHonest history now r
+    pub all_still : (after r sent).objects ≡ r.objects → Stands IsHonest history now r
     all_still same = record {
       honest_objects = s.honest;
       honest_names = stand_still.honest;
@@ -66,16 +66,16 @@ module _ {F : Type 0} (IsHonest : F → Type 0) (history : F → History) (now :
     sound_before = record { whole = s.stood.whole.whole; written = s.stood.whole.written }
 
     -- once its names are those after the command, so is the repository
-    module _ (new : Repository F) (kept : KeepsAllButNames now new) (branch : (after r order).branch ≡ r.branch) (sound : IsSound (after r order)) where
-      values_new : HoldsValues r.kind (objects_tree history new) (after r order).objects
-      values_new = subst (λ objects. HoldsValues r.kind (history objects.files).tree (after r order).objects) (sym kept.objects) s.holds
+    module _ (new : Repository F) (kept : KeepsAllButNames now new) (branch : (after r sent).branch ≡ r.branch) (sound : IsSound (after r sent)) where
+      values_new : HoldsValues r.kind (objects_tree history new) (after r sent).objects
+      values_new = subst (λ objects. HoldsValues r.kind (history objects.files).tree (after r sent).objects) (sym kept.objects) s.holds
 
-      pub stands_then : NamesStand IsHonest history new (after r order) → Stands IsHonest history new (after r order)
+      pub stands_then : NamesStand IsHonest history new (after r sent) → Stands IsHonest history new (after r sent)
       stands_then stand = record {
         honest_objects = subst (λ objects. IsHonest objects.files) (sym kept.objects) s.honest;
         honest_names = stand.honest;
         whole = record {
-          stands = (halves_stand r.kind (pair_of history new) (after r order)).1 (refl, values_new, stand.holds);
+          stands = (halves_stand r.kind (pair_of history new) (after r sent)).1 (refl, values_new, stand.holds);
           written = sound.written;
           whole = sound.whole;
         };
@@ -84,6 +84,6 @@ module _ {F : Type 0} (IsHonest : F → Type 0) (history : F → History) (now :
         branch = ap (λ branch. branch.items) (kept.branch ∙ s.kept.branch) ∙ s.stood.branch ∙ sym branch;
         known = λ id. ap (λ objects. contains_key (ids_of_objects objects) id) kept.objects ∙ s.known id;
         records = stand.records;
-        rows = subst (λ (rows : Option (List Row)). AgreeRows r.kind (after r order).objects (rows_of rows)) (sym (kept.rows ∙ s.kept.rows))
-            (agree_grown r.kind r.objects (after r order).objects (rows_of (rows_in s.before)) (λ id value at. all_keep r.kind r.objects (stored_by r order) id value at) s.stood.rows);
+        rows = subst (λ (rows : Option (List Row)). AgreeRows r.kind (after r sent).objects (rows_of rows)) (sym (kept.rows ∙ s.kept.rows))
+            (agree_grown r.kind r.objects (after r sent).objects (rows_of (rows_in s.before)) (λ id value at. all_keep r.kind r.objects (stored_by r sent) id value at) s.stood.rows);
       }

@@ -54,100 +54,100 @@ if_ok (Ok value) so h = so value h
 if_ok (Err error) so h = tt
 
 -- each is the reply to its command
-pub commit_told : (r : plain.Repository) (order : Command) (id : ObjectId) (text : Bytes) → IsDone r order (done.Commit id) → text ≡ parts_text (Line (codes "ok" ∷ codes "commit" ∷ hex (id_of id) ∷ []) ∷ []) → TellsDone r order text
+pub commit_told : (r : plain.Repository) (sent : Command) (id : ObjectId) (text : Bytes) → IsDone r sent (done.Commit id) → text ≡ parts_text (Line (codes "ok" ∷ codes "commit" ∷ hex (id_of id) ∷ []) ∷ []) → TellsDone r sent text
 commit_told r (Commit c) id text is said = (Committed (commit_move r c).id, refl, said ∙ (λ i. parts_text (Line (codes "ok" ∷ codes "commit" ∷ hex (is i) ∷ []) ∷ [])))
-commit_told r order id text is said = absurd is
+commit_told r sent id text is said = absurd is
 
-pub tag_told : (r : plain.Repository) (order : Command) (id : ObjectId) (text : Bytes) → IsDone r order (done.Tag id) → text ≡ parts_text (Line (codes "ok" ∷ codes "tag" ∷ hex (id_of id) ∷ []) ∷ []) → TellsDone r order text
+pub tag_told : (r : plain.Repository) (sent : Command) (id : ObjectId) (text : Bytes) → IsDone r sent (done.Tag id) → text ≡ parts_text (Line (codes "ok" ∷ codes "tag" ∷ hex (id_of id) ∷ []) ∷ []) → TellsDone r sent text
 tag_told r (Tag c) id text is said = (Tagged (tag_move r c).id, refl, said ∙ (λ i. parts_text (Line (codes "ok" ∷ codes "tag" ∷ hex (is i) ∷ []) ∷ [])))
-tag_told r order id text is said = absurd is
+tag_told r sent id text is said = absurd is
 
-pub move_told : (r : plain.Repository) (order : Command) (text : Bytes) → IsDone r order done.Move → text ≡ parts_text (Line (codes "ok" ∷ codes "move" ∷ []) ∷ []) → TellsDone r order text
+pub move_told : (r : plain.Repository) (sent : Command) (text : Bytes) → IsDone r sent done.Move → text ≡ parts_text (Line (codes "ok" ∷ codes "move" ∷ []) ∷ []) → TellsDone r sent text
 move_told r (Move c) text is said = (Moved, refl, said)
-move_told r order text is said = absurd is
+move_told r sent text is said = absurd is
 
-pub rename_told : (r : plain.Repository) (order : Command) (text : Bytes) → IsDone r order done.Rename → text ≡ parts_text (Line (codes "ok" ∷ codes "rename" ∷ []) ∷ []) → TellsDone r order text
+pub rename_told : (r : plain.Repository) (sent : Command) (text : Bytes) → IsDone r sent done.Rename → text ≡ parts_text (Line (codes "ok" ∷ codes "rename" ∷ []) ∷ []) → TellsDone r sent text
 rename_told r (Rename from to) text is said = (Renamed, refl, said)
-rename_told r order text is said = absurd is
+rename_told r sent text is said = absurd is
 
-pub delete_told : (r : plain.Repository) (order : Command) (text : Bytes) → IsDone r order done.Delete → text ≡ parts_text (Line (codes "ok" ∷ codes "delete" ∷ []) ∷ []) → TellsDone r order text
+pub delete_told : (r : plain.Repository) (sent : Command) (text : Bytes) → IsDone r sent done.Delete → text ≡ parts_text (Line (codes "ok" ∷ codes "delete" ∷ []) ∷ []) → TellsDone r sent text
 delete_told r (Delete name at) text is said = (Deleted, refl, said)
-delete_told r order text is said = absurd is
+delete_told r sent text is said = absurd is
 
-pub switch_told : (r : plain.Repository) (order : Command) (branch : Vec ℕ Global) (text : Bytes) → AreMovesOf r order (move.Switch branch) → text ≡ parts_text (Line (codes "ok" ∷ codes "switch" ∷ []) ∷ []) → TellsDone r order text
+pub switch_told : (r : plain.Repository) (sent : Command) (branch : Vec ℕ Global) (text : Bytes) → AreMovesOf r sent (move.Switch branch) → text ≡ parts_text (Line (codes "ok" ∷ codes "switch" ∷ []) ∷ []) → TellsDone r sent text
 switch_told r (Switch name) branch text are said = (Switched, refl, said)
-switch_told r order branch text are said = absurd are.told
+switch_told r sent branch text are said = absurd are.told
 
-pub pack_told : (r : plain.Repository) (order : Command) (names : Vec PackedName Global) (text : Bytes) → AreMovesOf r order (move.Pack names) → text ≡ parts_text (Line (codes "ok" ∷ codes "pack" ∷ []) ∷ []) → TellsDone r order text
+pub pack_told : (r : plain.Repository) (sent : Command) (names : Vec PackedName Global) (text : Bytes) → AreMovesOf r sent (move.Pack names) → text ≡ parts_text (Line (codes "ok" ∷ codes "pack" ∷ []) ∷ []) → TellsDone r sent text
 pack_told r Pack names text are said = (Packed, refl, said)
-pack_told r order names text are said = absurd are.told
+pack_told r sent names text are said = absurd are.told
 
 -- ---- what it leaves
 
-module _ (C : Type 0) (StandsNow : plain.Repository → Type 0) (r : plain.Repository) (order : Command) where
+module _ (C : Type 0) (StandsNow : plain.Repository → Type 0) (r : plain.Repository) (sent : Command) where
   -- if its objects aren't stored, what was reported of that holds of the command
-  pub acts_unstored : (S : Type 0) (result : Result Moves Stopped) (ends : Result (Vec ℕ Global) Stopped) (stopped : Stopped) → result ≡ Err stopped → ends ≡ Err stopped → StoresObjects C S r order result → Acts C StandsNow r order ends
-  acts_unstored S result ends stopped was is_end h = subst (Acts C StandsNow r order) (sym is_end) (by_case stopped (subst (StoresObjects C S r order) was h))
+  pub acts_unstored : (S : Type 0) (result : Result Moves Stopped) (ends : Result (Vec ℕ Global) Stopped) (stopped : Stopped) → result ≡ Err stopped → ends ≡ Err stopped → StoresObjects C S r sent result → Acts C StandsNow r sent ends
+  acts_unstored S result ends stopped was is_end h = subst (Acts C StandsNow r sent) (sym is_end) (by_case stopped (subst (StoresObjects C S r sent) was h))
     where
-      by_case : (stopped : Stopped) → StoresObjects C S r order (Err stopped) → Acts C StandsNow r order (Err stopped)
+      by_case : (stopped : Stopped) → StoresObjects C S r sent (Err stopped) → Acts C StandsNow r sent (Err stopped)
       by_case (why.Refused cause) k = k
       by_case (why.Fault Memory) k = tt
       by_case (why.Fault File) k = k
       by_case (why.Fault IdTaken) k = k
 
   -- if there is no memory for its reply
-  pub acts_without_memory : (ends : Result (Vec ℕ Global) Stopped) → ends ≡ Err (why.Fault Memory) → Acts C StandsNow r order ends
-  acts_without_memory ends is_end = subst (Acts C StandsNow r order) (sym is_end) tt
+  pub acts_without_memory : (ends : Result (Vec ℕ Global) Stopped) → ends ≡ Err (why.Fault Memory) → Acts C StandsNow r sent ends
+  acts_without_memory ends is_end = subst (Acts C StandsNow r sent) (sym is_end) tt
 
   -- if its names don't move
-  pub acts_unmoved : (B M : Type 0) (result : Result (Unit {0}) Fault) (ends : Result (Vec ℕ Global) Stopped) (fault : Fault) → result ≡ Err fault → ends ≡ Err (why.Fault fault) → (B → C) → LeavesMoved B M result → Acts C StandsNow r order ends
-  acts_unmoved B M result ends fault was is_end keep h = subst (Acts C StandsNow r order) (sym is_end) (by_case fault (subst (LeavesMoved B M) was h))
+  pub acts_unmoved : (B M : Type 0) (result : Result (Unit {0}) Fault) (ends : Result (Vec ℕ Global) Stopped) (fault : Fault) → result ≡ Err fault → ends ≡ Err (why.Fault fault) → (B → C) → LeavesMoved B M result → Acts C StandsNow r sent ends
+  acts_unmoved B M result ends fault was is_end keep h = subst (Acts C StandsNow r sent) (sym is_end) (by_case fault (subst (LeavesMoved B M) was h))
     where
-      by_case : (fault : Fault) → LeavesMoved B M (Err fault) → Acts C StandsNow r order (Err (why.Fault fault))
+      by_case : (fault : Fault) → LeavesMoved B M (Err fault) → Acts C StandsNow r sent (Err (why.Fault fault))
       by_case Memory k = tt
       by_case File k = keep k
       by_case IdTaken k = absurd k
 
   -- and if it is done
-  pub acts_done : (moves : Moves) (text : Vec ℕ Global) → AreMovesOf r order moves → TellsDone r order text.items → StandsNow (after r order) → Acts C StandsNow r order (Ok text)
+  pub acts_done : (moves : Moves) (text : Vec ℕ Global) → AreMovesOf r sent moves → TellsDone r sent text.items → StandsNow (after r sent) → Acts C StandsNow r sent (Ok text)
   acts_done moves text are told stands =
-      (told.0, after r order, told.2, record { no_cause = are.none; not_taken = are.free; answer = told.1; result = refl }, stands)
+      (told.0, after r sent, told.2, record { no_cause = are.none; not_taken = are.free; answer = told.1; result = refl }, stands)
 
 -- what is packed, if the command isn't done, and if it is
-pub packs_nothing : (r : plain.Repository) (order : Command) (ends : Result (Vec ℕ Global) Stopped) (stopped : Stopped) (old new : Tree) → ends ≡ Err stopped → LeavesFiles r order ends old new
-packs_nothing r order ends stopped old new is_end = subst (λ x. LeavesFiles r order x old new) (sym is_end) (stopped_packs r order stopped old new)
+pub packs_nothing : (r : plain.Repository) (sent : Command) (ends : Result (Vec ℕ Global) Stopped) (stopped : Stopped) (old new : Tree) → ends ≡ Err stopped → LeavesFiles r sent ends old new
+packs_nothing r sent ends stopped old new is_end = subst (λ x. LeavesFiles r sent x old new) (sym is_end) (stopped_packs r sent stopped old new)
 
-pub packs_done : (r : plain.Repository) (order : Command) (text : Vec ℕ Global) (old mid new : Tree) → mid ≡ old → LeavesAsAsked r order mid new → LeavesFiles r order (Ok text) old new
+pub packs_done : (r : plain.Repository) (sent : Command) (text : Vec ℕ Global) (old mid new : Tree) → mid ≡ old → LeavesAsAsked r sent mid new → LeavesFiles r sent (Ok text) old new
 packs_done r Pack text old mid new same h = subst (λ tree. PacksNames r tree new) same h
 packs_done r (Commit c) text old mid new same h = subst (λ tree. ChangesNameAlone (commit_move r c).name tree new) same h
 packs_done r (Tag c) text old mid new same h = subst (λ tree. ChangesNameAlone (tag_move r c).name tree new) same h
 packs_done r (Rename from to) text old mid new same h = subst (λ tree. RenamesAlone from to tree new) same h
 packs_done r (Delete name at) text old mid new same h = subst (λ tree. TakesNameAlone name tree new) same h
 packs_done r (Switch name) text old mid new same h = subst (λ tree. ChangesHeadAlone tree new) same h
-packs_done r order text old mid new same h = tt
+packs_done r sent text old mid new same h = tt
 
 -- ---- what it does, from one state of a repository to another
 
-module _ {F : Type 0} (files : Ghosts F) (old mid : Repository F) (r : plain.Repository) (order : Command) (changes : is_changing order ≡ true) (h : Stands files.is_honest files.history old r)
-    (R : Type 0) (alone : StoresAlone files R old mid) (passes : ObjectsPass files.history r order old mid) (ends : Result (Vec ℕ Global) Stopped) where
+module _ {F : Type 0} (files : Ghosts F) (old mid : Repository F) (r : plain.Repository) (sent : Command) (changes : is_changing sent ≡ true) (h : Stands files.is_honest files.history old r)
+    (R : Type 0) (alone : StoresAlone files R old mid) (passes : ObjectsPass files.history r sent old mid) (ends : Result (Vec ℕ Global) Stopped) where
   -- if its objects alone passed
-  pub acts_storing : (stopped : Stopped) → ends ≡ Err stopped → Acts (CountsFailure files.failures files.reading_may_fail old mid) (Stands files.is_honest files.history mid) r order ends
-      → ActsAsAsked files r (CountsFailure files.failures files.reading_may_fail old mid) order old mid ends
+  pub acts_storing : (stopped : Stopped) → ends ≡ Err stopped → Acts (CountsFailure files.failures files.reading_may_fail old mid) (Stands files.is_honest files.history mid) r sent ends
+      → ActsAsAsked files r (CountsFailure files.failures files.reading_may_fail old mid) sent old mid ends
   acts_storing stopped is_end acts = record {
-    later = storing_later files.history files.failures old mid r order alone.kept passes;
-    stops = stopped_storing files.is_honest files.history files.failures old r order changes h mid alone.kept passes;
+    later = storing_later files.history files.failures old mid r sent alone.kept passes;
+    stops = stopped_storing files.is_honest files.history files.failures old r sent changes h mid alone.kept passes;
     acts = acts;
-    leaves = packs_nothing r order ends stopped (names_tree files.history old) (names_tree files.history mid) is_end;
+    leaves = packs_nothing r sent ends stopped (names_tree files.history old) (names_tree files.history mid) is_end;
   }
 
   -- if its names passed too
-  pub acts_moving : (new : Repository F) (moves : Moves) → AreMovesOf r order moves → HasStored files.is_honest files.history mid r order → new.objects ≡ mid.objects → NamesPass files r order mid new
-      → Acts (CountsFailure files.failures files.reading_may_fail old new) (Stands files.is_honest files.history new) r order ends
-      → LeavesFiles r order ends (names_tree files.history old) (names_tree files.history new)
-      → ActsAsAsked files r (CountsFailure files.failures files.reading_may_fail old new) order old new ends
+  pub acts_moving : (new : Repository F) (moves : Moves) → AreMovesOf r sent moves → HasStored files.is_honest files.history mid r sent → new.objects ≡ mid.objects → NamesPass files r sent mid new
+      → Acts (CountsFailure files.failures files.reading_may_fail old new) (Stands files.is_honest files.history new) r sent ends
+      → LeavesFiles r sent ends (names_tree files.history old) (names_tree files.history new)
+      → ActsAsAsked files r (CountsFailure files.failures files.reading_may_fail old new) sent old new ends
   acts_moving new moves are stored same on acts leaves = record {
-    later = moving_later files.history files.failures old mid new r order alone.kept passes same on;
-    stops = stopped_moving files.is_honest files.history files.failures old r order changes h mid new alone.kept passes are.none are.free stored.holds same on;
+    later = moving_later files.history files.failures old mid new r sent alone.kept passes same on;
+    stops = stopped_moving files.is_honest files.history files.failures old r sent changes h mid new alone.kept passes are.none are.free stored.holds same on;
     acts = acts;
     leaves = leaves;
   }

@@ -10,13 +10,13 @@ use Rattle.history.specs.Calls.{MovesAsAsked, StoresAsAsked}
 use Rattle.history_model.specs.Repository as plain
 use Rattle.history_model.specs.declared.Fault as faults
 
-module _ {F : Type 0} (files : Ghosts F) (r : plain.Repository) (order : Command) (old new : Repository F) where
-  pub fault_stores : (fault : faults.Fault) → StoresAsAsked files r order old new (Err (Fault fault)) → StoresAsAsked files r order old (record new { has_failed = true }) (Err (Fault fault))
+module _ {F : Type 0} (files : Ghosts F) (r : plain.Repository) (sent : Command) (old new : Repository F) where
+  pub fault_stores : (fault : faults.Fault) → StoresAsAsked files r sent old new (Err (Fault fault)) → StoresAsAsked files r sent old (record new { has_failed = true }) (Err (Fault fault))
   fault_stores Memory h = record { ends = tt; passes = h.passes }
   fault_stores File h = record { ends = h.ends; passes = h.passes }
   fault_stores IdTaken h = record { ends = h.ends; passes = h.passes }
 
-  pub fault_moves : (fault : faults.Fault) → MovesAsAsked files r order old new (Err fault) → MovesAsAsked files r order old (record new { has_failed = true }) (Err fault)
+  pub fault_moves : (fault : faults.Fault) → MovesAsAsked files r sent old new (Err fault) → MovesAsAsked files r sent old (record new { has_failed = true }) (Err fault)
   fault_moves Memory h = record { ends = tt; passes = h.passes; leaves = tt }
   fault_moves File h = record { ends = h.ends; passes = h.passes; leaves = tt }
   fault_moves IdTaken h = absurd h.ends

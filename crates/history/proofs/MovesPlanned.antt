@@ -30,10 +30,10 @@ use Rattle.history_model.specs.Repository as plain
 module _ (MayFail : Type 0) (r : plain.Repository) where
   -- if nothing is planned, there are no moves, for the cause that the plan reports
   module _ (ends : Result Moves Stopped) (stopped : Stopped) (is_end : ends ≡ Err stopped) where
-    pub moves_unplanned : (order : MoveCommand) (result : Result (Vec MovedName Global) Stopped) → result ≡ Err stopped → PlansMoves MayFail r order result → GivesMoves MayFail r (Move order) ends
-    moves_unplanned order result was h = subst (GivesMoves MayFail r (Move order)) (sym is_end) (by_case stopped (subst (PlansMoves MayFail r order) was h))
+    pub moves_unplanned : (sent : MoveCommand) (result : Result (Vec MovedName Global) Stopped) → result ≡ Err stopped → PlansMoves MayFail r sent result → GivesMoves MayFail r (Move sent) ends
+    moves_unplanned sent result was h = subst (GivesMoves MayFail r (Move sent)) (sym is_end) (by_case stopped (subst (PlansMoves MayFail r sent) was h))
       where
-        by_case : (stopped : Stopped) → PlansMoves MayFail r order (Err stopped) → GivesMoves MayFail r (Move order) (Err stopped)
+        by_case : (stopped : Stopped) → PlansMoves MayFail r sent (Err stopped) → GivesMoves MayFail r (Move sent) (Err stopped)
         by_case (Refused cause) k = k
         by_case (Fault fault) k = k
 
@@ -44,10 +44,10 @@ module _ (MayFail : Type 0) (r : plain.Repository) where
         by_case (Refused cause) k = k
         by_case (Fault fault) k = k
 
-    pub tests_failed : (order : Command) (result : Result (Unit {0}) Stopped) → result ≡ Err stopped → TestsAll MayFail r order result → GivesMoves MayFail r order ends
-    tests_failed order result was h = subst (GivesMoves MayFail r order) (sym is_end) (by_case stopped (subst (TestsAll MayFail r order) was h))
+    pub tests_failed : (sent : Command) (result : Result (Unit {0}) Stopped) → result ≡ Err stopped → TestsAll MayFail r sent result → GivesMoves MayFail r sent ends
+    tests_failed sent result was h = subst (GivesMoves MayFail r sent) (sym is_end) (by_case stopped (subst (TestsAll MayFail r sent) was h))
       where
-        by_case : (stopped : Stopped) → TestsAll MayFail r order (Err stopped) → GivesMoves MayFail r order (Err stopped)
+        by_case : (stopped : Stopped) → TestsAll MayFail r sent (Err stopped) → GivesMoves MayFail r sent (Err stopped)
         by_case (Refused cause) k = k
         by_case (Fault fault) k = k
 
@@ -59,25 +59,25 @@ module _ (MayFail : Type 0) (r : plain.Repository) where
         by_case (Fault fault) k = k
 
   -- or no memory is left
-  pub no_memory : (order : Command) (ends : Result Moves Stopped) → ends ≡ Err (Fault Memory) → GivesMoves MayFail r order ends
-  no_memory order ends is_end = subst (GivesMoves MayFail r order) (sym is_end) tt
+  pub no_memory : (sent : Command) (ends : Result Moves Stopped) → ends ≡ Err (Fault Memory) → GivesMoves MayFail r sent ends
+  no_memory sent ends is_end = subst (GivesMoves MayFail r sent) (sym is_end) tt
 
   -- or for the cause that holds
-  pub refused_so : (order : Command) (cause : Cause) (ends : Result Moves Stopped) → ends ≡ Err (Refused cause) → first_cause r order ≡ Some cause → GivesMoves MayFail r order ends
-  refused_so order cause ends is_end first = subst (GivesMoves MayFail r order) (sym is_end) first
+  pub refused_so : (sent : Command) (cause : Cause) (ends : Result Moves Stopped) → ends ≡ Err (Refused cause) → first_cause r sent ≡ Some cause → GivesMoves MayFail r sent ends
+  refused_so sent cause ends is_end first = subst (GivesMoves MayFail r sent) (sym is_end) first
 
   -- if nothing is to be stored, the moves are all
-  pub given_stores : (C S : Type 0) (order : Command) (result : Result Moves Stopped) → (MayFail → C) → S → GivesMoves MayFail r order result → StoresObjects C S r order result
-  given_stores C S order (Ok moves) may stored h = (h, stored)
-  given_stores C S order (Err (Refused cause)) may stored h = h
-  given_stores C S order (Err (Fault Memory)) may stored h = tt
-  given_stores C S order (Err (Fault File)) may stored h = may h
-  given_stores C S order (Err (Fault IdTaken)) may stored h = absurd h
+  pub given_stores : (C S : Type 0) (sent : Command) (result : Result Moves Stopped) → (MayFail → C) → S → GivesMoves MayFail r sent result → StoresObjects C S r sent result
+  given_stores C S sent (Ok moves) may stored h = (h, stored)
+  given_stores C S sent (Err (Refused cause)) may stored h = h
+  given_stores C S sent (Err (Fault Memory)) may stored h = tt
+  given_stores C S sent (Err (Fault File)) may stored h = may h
+  given_stores C S sent (Err (Fault IdTaken)) may stored h = absurd h
 
 -- of a command that stores nothing
-pub moves_given : {F : Type 0} (files : Ghosts F) (now : Repository F) (r : plain.Repository) (order made : Command) → order ≡ made → (after r made).objects ≡ r.objects → Stands files.is_honest files.history now r
-    → (result : Result Moves Stopped) → GivesMoves files.reading_may_fail r made result → StoresAsAsked files r order now now result
-moves_given files now r order made is same h result gives =
+pub moves_given : {F : Type 0} (files : Ghosts F) (now : Repository F) (r : plain.Repository) (sent made : Command) → sent ≡ made → (after r made).objects ≡ r.objects → Stands files.is_honest files.history now r
+    → (result : Result Moves Stopped) → GivesMoves files.reading_may_fail r made result → StoresAsAsked files r sent now now result
+moves_given files now r sent made is same h result gives =
     subst (λ o. StoresAsAsked files r o now now result) (sym is) (record {
       ends = given_stores files.reading_may_fail r (CountsFailure files.failures files.reading_may_fail now now) (HasStored files.is_honest files.history now r made) made result (λ may. inr (inr may))
           (stored_nothing files.is_honest files.history now r made same h) gives;

@@ -23,25 +23,25 @@ use Rattle.history_repository.specs.declared.repository.Repository.{Repository}
 use Rattle.history_model.specs.Repository as plain
 
 -- The command stores nothing, and leaves HEAD's branch: it is accepted with this reply.
-pub record ChangesNames (r : plain.Repository) (order : Command) (reply : Reply) : Type 0 where
-  pub changes : is_changing order ≡ true
-  pub spoken : is_spoken order ≡ true
-  pub free : takes_id r order ≡ false
-  pub values : (after r order).objects ≡ r.objects
-  pub branch : (after r order).branch ≡ r.branch
-  pub accepts : Accepts r order reply (after r order)
-  pub steps : Step r order reply (after r order)
+pub record ChangesNames (r : plain.Repository) (sent : Command) (reply : Reply) : Type 0 where
+  pub changes : is_changing sent ≡ true
+  pub spoken : is_spoken sent ≡ true
+  pub free : takes_id r sent ≡ false
+  pub values : (after r sent).objects ≡ r.objects
+  pub branch : (after r sent).branch ≡ r.branch
+  pub accepts : Accepts r sent reply (after r sent)
+  pub steps : Step r sent reply (after r sent)
 
-module _ {F : Type 0} (IsHonest : F → Type 0) (history : F → History) (old new : Repository F) (r : plain.Repository) (order : Command) (reply : Reply)
-    (h : Stands IsHonest history old r) (c : ChangesNames r order reply) (kept : KeepsAllButNames old new) where
+module _ {F : Type 0} (IsHonest : F → Type 0) (history : F → History) (old new : Repository F) (r : plain.Repository) (sent : Command) (reply : Reply)
+    (h : Stands IsHonest history old r) (c : ChangesNames r sent reply) (kept : KeepsAllButNames old new) where
   sound : IsSound r
   sound = record { whole = h.whole.whole; written = h.whole.written }
 
-  sound_after : IsSound (after r order)
-  sound_after = steps_keep_sound r (after r order) order reply c.steps sound
+  sound_after : IsSound (after r sent)
+  sound_after = steps_keep_sound r (after r sent) sent reply c.steps sound
 
   -- the repository represents what the new names represent
-  pub names_serve : IsHonest (names_part new) → StandsFor r.kind (pair_of history new) (after r order) → KeepsRecords new.names (names_tree history new) → new.names.kind ≡ old.names.kind → Stands IsHonest history new (after r order)
+  pub names_serve : IsHonest (names_part new) → StandsFor r.kind (pair_of history new) (after r sent) → KeepsRecords new.names (names_tree history new) → new.names.kind ≡ old.names.kind → Stands IsHonest history new (after r sent)
   names_serve honest stands records kind = record {
     honest_objects = subst (λ objects. IsHonest objects.files) (sym kept.objects) h.honest_objects;
     honest_names = honest;
@@ -49,7 +49,7 @@ module _ {F : Type 0} (IsHonest : F → Type 0) (history : F → History) (old n
     objects_kind = ap (λ objects. objects.kind) kept.objects ∙ h.objects_kind;
     names_kind = kind ∙ h.names_kind;
     branch = ap (λ branch. branch.items) kept.branch ∙ h.branch ∙ sym c.branch;
-    rows = subst (λ (kept_rows : Option (List Row)). AgreeRows r.kind (after r order).objects (rows_of kept_rows)) (sym kept.rows) (subst (λ (values : plain.Values). AgreeRows r.kind values (rows_of (rows_in old))) (sym c.values) h.rows);
+    rows = subst (λ (kept_rows : Option (List Row)). AgreeRows r.kind (after r sent).objects (rows_of kept_rows)) (sym kept.rows) (subst (λ (values : plain.Values). AgreeRows r.kind values (rows_of (rows_in old))) (sym c.values) h.rows);
     records = records;
     known = λ id. ap (λ objects. contains_key (ids_of_objects objects) id) kept.objects ∙ h.known id ∙ ap (λ (values : plain.Values). contains_key values id) (sym c.values);
   }

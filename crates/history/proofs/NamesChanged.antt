@@ -48,11 +48,11 @@ use Rattle.history_model.specs.Repository as plain
 -- ---- what is requested
 
 -- what is known of a command that changes names, and of which no cause holds
-record HasEdits (r : plain.Repository) (order : Command) : Type 0 where
-  are : AreEditsOf r order (names_moved r order) (name_taken order)
-  fit : CanBeEdited r (names_moved r order) (name_taken order)
-  one_actor : HaveOneActor (names_moved r order)
-  sound : IsSound (after r order)
+record HasEdits (r : plain.Repository) (sent : Command) : Type 0 where
+  are : AreEditsOf r sent (names_moved r sent) (name_taken sent)
+  fit : CanBeEdited r (names_moved r sent) (name_taken sent)
+  one_actor : HaveOneActor (names_moved r sent)
+  sound : IsSound (after r sent)
 
 -- the lines of a move have one actor
 one_actor_on : (r : plain.Repository) (c : MoveCommand) (lines : List To) → HaveOneActor (map (moved_on r c) lines)
@@ -63,10 +63,10 @@ one_actor_on r c (to ∷ lines) = rest lines
     rest [] = tt
     rest (other ∷ others) = (refl, rest others)
 
-accept : (r : plain.Repository) (order : Command) (reply : Reply) → first_cause r order ≡ None → IsFalse (takes_id r order) → Answers r order reply → Accepts r order reply (after r order)
-accept r order reply none free says = record { no_cause = none; not_taken = free; answer = says; result = refl }
+accept : (r : plain.Repository) (sent : Command) (reply : Reply) → first_cause r sent ≡ None → IsFalse (takes_id r sent) → Answers r sent reply → Accepts r sent reply (after r sent)
+accept r sent reply none free says = record { no_cause = none; not_taken = free; answer = says; result = refl }
 
-has_edits : (r : plain.Repository) (order : Command) (made : Done) → IsDone r order made → IsSound r → first_cause r order ≡ None → IsFalse (takes_id r order) → HasEdits r order
+has_edits : (r : plain.Repository) (sent : Command) (made : Done) → IsDone r sent made → IsSound r → first_cause r sent ≡ None → IsFalse (takes_id r sent) → HasEdits r sent
 has_edits r (Commit c) made is before none free = record {
   are = commits_edit r c before none;
   fit = commits_can_be_edited r c before none;
@@ -97,51 +97,51 @@ has_edits r (Delete name at) made is before none free = record {
   one_actor = tt;
   sound = steps_keep_sound r (after r (Delete name at)) (Delete name at) Deleted (accept r (Delete name at) Deleted none free refl) before;
 }
-has_edits r order made is before none free = absurd is
+has_edits r sent made is before none free = absurd is
 
-module _ {F : Type 0} (IsHonest : F → Type 0) (history : F → History) (now : Repository F) (r : plain.Repository) (order : Command) where
-  pub edits_asked : HasStored IsHonest history now r order → first_cause r order ≡ None → IsFalse (takes_id r order) → (made : Done) → IsDone r order made
-      → (given : List MovedName) (gone : Option (Bor (List ℕ))) → edits_of given ≡ names_moved r order → gone_of gone ≡ name_taken order → AskedEdits IsHonest history now r order given gone
+module _ {F : Type 0} (IsHonest : F → Type 0) (history : F → History) (now : Repository F) (r : plain.Repository) (sent : Command) where
+  pub edits_asked : HasStored IsHonest history now r sent → first_cause r sent ≡ None → IsFalse (takes_id r sent) → (made : Done) → IsDone r sent made
+      → (given : List MovedName) (gone : Option (Bor (List ℕ))) → edits_of given ≡ names_moved r sent → gone_of gone ≡ name_taken sent → AskedEdits IsHonest history now r sent given gone
   edits_asked s none free made is given taken moves takes =
-      let has = has_edits r order made is (sound_before IsHonest history now r order s) none free in
+      let has = has_edits r sent made is (sound_before IsHonest history now r sent s) none free in
       record {
         stored = s;
         none = none;
         sound = has.sound;
-        are = subst (λ name. AreEditsOf r order (edits_of given) name) (sym takes) (subst (λ names. AreEditsOf r order names (name_taken order)) (sym moves) has.are);
-        fit = subst (λ name. CanBeEdited r (edits_of given) name) (sym takes) (subst (λ names. CanBeEdited r names (name_taken order)) (sym moves) has.fit);
+        are = subst (λ name. AreEditsOf r sent (edits_of given) name) (sym takes) (subst (λ names. AreEditsOf r sent names (name_taken sent)) (sym moves) has.are);
+        fit = subst (λ name. CanBeEdited r (edits_of given) name) (sym takes) (subst (λ names. CanBeEdited r names (name_taken sent)) (sym moves) has.fit);
         one_actor = subst HaveOneActor (sym moves) has.one_actor;
       }
 
   -- ---- what they pass through, and what they leave
 
-  module _ (given : List MovedName) (gone : Option (Bor (List ℕ))) (asked : AskedEdits IsHonest history now r order given gone) where
+  module _ (given : List MovedName) (gone : Option (Bor (List ℕ))) (asked : AskedEdits IsHonest history now r sent given gone) where
     pub may_change : MayChange IsHonest history now.names r (edits_of given) (gone_of gone)
-    may_change = record { whole = stand_still IsHonest history now r order asked.stored; fit = asked.fit; one_actor = asked.one_actor }
+    may_change = record { whole = stand_still IsHonest history now r sent asked.stored; fit = asked.fit; one_actor = asked.one_actor }
 
     abbrev On : Tree → Tree → Type 0
     On old tree = EditsOnTheWay r.kind (edits_of given) (gone_of gone) old tree
 
-    pub edits_passed : (new : History) → Adds (On (names_tree history now)) (history (names_part now)) new → Adds (HoldsBetween r order) (history (names_part now)) new
+    pub edits_passed : (new : History) → Adds (On (names_tree history now)) (history (names_part now)) new → Adds (HoldsBetween r sent) (history (names_part now)) new
     edits_passed new pass =
         let s = asked.stored in
-        let sound = sound_before IsHonest history now r order s in
+        let sound = sound_before IsHonest history now r sent s in
         adds_weaker (history (names_part now)) new pass (λ tree may.
-        names_pass r order tree sound asked.none
-        (edits_pass r order (edits_of given) (gone_of gone) (pair_of history s.before) tree sound asked.none s.stood.whole.stands asked.are
+        names_pass r sent tree sound asked.none
+        (edits_pass r sent (edits_of given) (gone_of gone) (pair_of history s.before) tree sound asked.none s.stood.whole.stands asked.are
         (subst (λ names. On (history names.store.files).tree tree) s.kept.names may)))
 
     pub names_changed : (new : Names F) → IsHonest new.store.files → new.kind ≡ now.names.kind
         → EditsMade r.kind (edits_of given) (gone_of gone) (names_tree history now) (history new.store.files).tree
-        → KeepsRecords new (history new.store.files).tree → HoldNamesOf IsHonest history new (after r order)
+        → KeepsRecords new (history new.store.files).tree → HoldNamesOf IsHonest history new (after r sent)
     names_changed new honest kind made records =
-        let stand = stand_still IsHonest history now r order asked.stored in
+        let stand = stand_still IsHonest history now r sent asked.stored in
         record {
           honest = honest;
-          holds = edits_stand r order (edits_of given) (gone_of gone) (names_tree history now) (history new.store.files).tree
-              (sound_before IsHonest history now r order asked.stored) asked.none stand.holds asked.are made;
+          holds = edits_stand r sent (edits_of given) (gone_of gone) (names_tree history now) (history new.store.files).tree
+              (sound_before IsHonest history now r sent asked.stored) asked.none stand.holds asked.are made;
           apart = asked.sound.whole.names.apart;
-          set = names_set (after r order) asked.sound.whole;
+          set = names_set (after r sent) asked.sound.whole;
           kind = kind ∙ stand.kind;
           records = records;
         }
@@ -166,7 +166,7 @@ one_alone r one old new made = λ path no_name no_log. elim (either (bytes_eq pa
   | inr e ↦ made.others path (none_of_one path one.name no_name) (none_of_one path (log_place one.name) no_log) (λ is. absurd (cc (e, ap (λ p. bytes_eq p packed_place) is)))
 ]
 
-alone : (r : plain.Repository) (order : Command) (made : Done) → IsDone r order made → (old new : Tree) → EditsMade r.kind (names_moved r order) (name_taken order) old new → LeavesAsAsked r order old new
+alone : (r : plain.Repository) (sent : Command) (made : Done) → IsDone r sent made → (old new : Tree) → EditsMade r.kind (names_moved r sent) (name_taken sent) old new → LeavesAsAsked r sent old new
 alone r (Commit c) made is old new edits_made = one_alone r (moved_by r (commit_move r c)) old new edits_made
 alone r (Tag c) made is old new edits_made = one_alone r (moved_by r (tag_move r c)) old new edits_made
 alone r (Move c) made is old new edits_made = tt
@@ -174,9 +174,9 @@ alone r (Rename from to) made is old new edits_made =
     λ path a b c d e. edits_made.others path (none_of_two path to from a c) (none_of_two path (log_place to) (log_place from) b d) e
 alone r (Delete name at) made is old new edits_made =
     λ path a b c. edits_made.others path (none_of_one path name a) (none_of_one path (log_place name) b) c
-alone r order made is old new edits_made = absurd is
+alone r sent made is old new edits_made = absurd is
 
-pub edits_alone : (r : plain.Repository) (order : Command) (made : Done) → IsDone r order made → (moved : List edits.MovedName) (taken : Option Bytes) → moved ≡ names_moved r order → taken ≡ name_taken order
-    → (old new : Tree) → EditsMade r.kind moved taken old new → LeavesAsAsked r order old new
-edits_alone r order made is moved taken moves takes old new h =
-    alone r order made is old new (subst (λ name. EditsMade r.kind (names_moved r order) name old new) takes (subst (λ names. EditsMade r.kind names taken old new) moves h))
+pub edits_alone : (r : plain.Repository) (sent : Command) (made : Done) → IsDone r sent made → (moved : List edits.MovedName) (taken : Option Bytes) → moved ≡ names_moved r sent → taken ≡ name_taken sent
+    → (old new : Tree) → EditsMade r.kind moved taken old new → LeavesAsAsked r sent old new
+edits_alone r sent made is moved taken moves takes old new h =
+    alone r sent made is old new (subst (λ name. EditsMade r.kind (names_moved r sent) name old new) takes (subst (λ names. EditsMade r.kind names taken old new) moves h))

@@ -44,40 +44,40 @@ module _ {F : Type 0} (files : Ghosts F) (now new : Repository F) (result : Resu
   -- ---- a change of names
 
   module _ (made : Done) (moved : Vec MovedName Global) (taken : Option (Vec ℕ Global)) (given : List MovedName) (gone : Option (Bor (List ℕ))) (same : given ≡ moved.items) (goes : gone_of gone ≡ option_map (λ name. name.items) taken)
-      (r : plain.Repository) (order : Command) (s : HasStored files.is_honest files.history now r order) (are : AreMovesOf r order (move.Change made moved taken)) where
+      (r : plain.Repository) (sent : Command) (s : HasStored files.is_honest files.history now r sent) (are : AreMovesOf r sent (move.Change made moved taken)) where
     -- it was requested
-    asked : AskedEdits files.is_honest files.history now r order given gone
-    asked = edits_asked files.is_honest files.history now r order s are.none are.free made are.told.is given gone (ap edits_of same ∙ are.told.moves) (goes ∙ are.told.takes)
+    asked : AskedEdits files.is_honest files.history now r sent given gone
+    asked = edits_asked files.is_honest files.history now r sent s are.none are.free made are.told.is given gone (ap edits_of same ∙ are.told.moves) (goes ∙ are.told.takes)
 
     pub change_moves : (R : Type 0) → MovesAlone files R now new → new.branch ≡ now.branch
-        → ((r : plain.Repository) (order : Command) → AskedEdits files.is_honest files.history now r order given gone → EditsAsAsked files r order (edits_of given) (gone_of gone) now new result)
-        → MovesAsAsked files r order now new result
+        → ((r : plain.Repository) (sent : Command) → AskedEdits files.is_honest files.history now r sent given gone → EditsAsAsked files r sent (edits_of given) (gone_of gone) now new result)
+        → MovesAsAsked files r sent now new result
     change_moves R alone branch edits =
-        let done = edits r order asked in
+        let done = edits r sent asked in
         record {
-          ends = leaves_more C (NamesStand files.is_honest files.history new (after r order)) (Stands files.is_honest files.history new (after r order)) result
-              (stands_then files.is_honest files.history now r order s new (kept_so R alone branch) asked.are.branch asked.sound) done.ends;
+          ends = leaves_more C (NamesStand files.is_honest files.history new (after r sent)) (Stands files.is_honest files.history new (after r sent)) result
+              (stands_then files.is_honest files.history now r sent s new (kept_so R alone branch) asked.are.branch asked.sound) done.ends;
           passes = done.passes;
           leaves = ok_more result (λ (made_so : EditsMade r.kind (edits_of given) (gone_of gone) (names_tree files.history now) (names_tree files.history new)).
-              edits_alone r order made are.told.is (edits_of given) (gone_of gone) (ap edits_of same ∙ are.told.moves) (goes ∙ are.told.takes) (names_tree files.history now) (names_tree files.history new) made_so) done.made;
+              edits_alone r sent made are.told.is (edits_of given) (gone_of gone) (ap edits_of same ∙ are.told.moves) (goes ∙ are.told.takes) (names_tree files.history now) (names_tree files.history new) made_so) done.made;
         }
 
   -- ---- a switch, of which no cause holds
 
   pub switch_moves : (branch : Vec ℕ Global)
       → ((r : plain.Repository) → Stands files.is_honest files.history now r → first_cause r (Switch branch.items) ≡ None → MovesAsAsked files r (Switch branch.items) now new result)
-      → (r : plain.Repository) (order : Command) → HasStored files.is_honest files.history now r order → AreMovesOf r order (move.Switch branch) → MovesAsAsked files r order now new result
+      → (r : plain.Repository) (sent : Command) → HasStored files.is_honest files.history now r sent → AreMovesOf r sent (move.Switch branch) → MovesAsAsked files r sent now new result
   switch_moves branch moves r (Switch name) s are =
       subst (λ n. MovesAsAsked files r (Switch n) now new result) are.told
       (moves r (all_still files.is_honest files.history now r (Switch name) s refl) (subst (λ n. first_cause r (Switch n) ≡ None) (sym are.told) are.none))
-  switch_moves branch moves r order s are = absurd are.told
+  switch_moves branch moves r sent s are = absurd are.told
 
   -- ---- a pack
 
   pub pack_moves : (all : Vec PackedName Global) (given : List PackedName) → given ≡ all.items → (R : Type 0) → MovesAlone files R now new → new.branch ≡ now.branch
       → ((r : plain.Repository) → Stands files.is_honest files.history now r → AreAllNames r given → PacksAll files r now new result)
       → ((r : plain.Repository) → Stands files.is_honest files.history now r → OnOk result (KeepsRecords new.names (names_tree files.history new)))
-      → (r : plain.Repository) (order : Command) → HasStored files.is_honest files.history now r order → AreMovesOf r order (move.Pack all) → MovesAsAsked files r order now new result
+      → (r : plain.Repository) (sent : Command) → HasStored files.is_honest files.history now r sent → AreMovesOf r sent (move.Pack all) → MovesAsAsked files r sent now new result
   pack_moves all given same R alone branch packed records r Pack s are =
       let h = all_still files.is_honest files.history now r Pack s refl in
       let kept = kept_so R alone branch in
@@ -92,9 +92,9 @@ module _ {F : Type 0} (files : Ghosts F) (now new : Repository F) (result : Resu
         passes = packs.passes_names files.is_honest files.history now r h new done.passes;
         leaves = where_moved C Packs result done.ends;
       }
-  pack_moves all given same R alone branch packed records r order s are = absurd are.told
+  pack_moves all given same R alone branch packed records r sent s are = absurd are.told
 
 -- Nothing is done to names by a command that changes no file alone.
-pub moves_something : {X : Type 0} (r : plain.Repository) (order : Command) → AreMovesOf r order move.Nothing → X
+pub moves_something : {X : Type 0} (r : plain.Repository) (sent : Command) → AreMovesOf r sent move.Nothing → X
 moves_something r Pack are = absurd are.told
-moves_something r order are = absurd are.told
+moves_something r sent are = absurd are.told

@@ -22,11 +22,11 @@ pub made_id : (r : plain.Repository) (to : NameMove) (one : MovedName) → IsMov
 made_id r to one is = ap (λ entry. entry.after) is.entry
 
 -- those of a move
-pub lines_moved : (r : plain.Repository) (order : MoveCommand) (lines : List To) (all : List MovedName) → AllZip (IsLineMove r order) lines all → edits_of all ≡ map (moved_on r order) lines
-lines_moved r order [] [] are = refl
-lines_moved r order (to ∷ lines) (one ∷ all) are = λ i. record { name = (are.0).name i; entry = (are.0).entry i } ∷ lines_moved r order lines all are.1 i
-lines_moved r order [] (one ∷ all) are = absurd are
-lines_moved r order (to ∷ lines) [] are = absurd are
+pub lines_moved : (r : plain.Repository) (sent : MoveCommand) (lines : List To) (all : List MovedName) → AllZip (IsLineMove r sent) lines all → edits_of all ≡ map (moved_on r sent) lines
+lines_moved r sent [] [] are = refl
+lines_moved r sent (to ∷ lines) (one ∷ all) are = λ i. record { name = (are.0).name i; entry = (are.0).entry i } ∷ lines_moved r sent lines all are.1 i
+lines_moved r sent [] (one ∷ all) are = absurd are
+lines_moved r sent (to ∷ lines) [] are = absurd are
 
 -- the new name of a rename
 pub new_moved : (r : plain.Repository) (from to : Bytes) (one : MovedName) (all : List MovedName) → all ≡ one ∷ [] → MakesName r from to one → edits_of all ≡ renamed r from to ∷ []

@@ -76,13 +76,13 @@ is_indexed reply = false
 
 abbrev is_index : Command → Bool
 is_index Index = true
-is_index order = false
+is_index sent = false
 
-stays : (r : Repository) (rows : Option (List model.Row)) (order : Command) (reply : Reply) → is_indexed reply ≡ false → rows_after r rows (order ∷ []) (reply ∷ []) ≡ rows
-stays r rows order (Indexed n) e = let z : ⊥ = cc in absurd z
-stays r rows order reply e = refl
+stays : (r : Repository) (rows : Option (List model.Row)) (sent : Command) (reply : Reply) → is_indexed reply ≡ false → rows_after r rows (sent ∷ []) (reply ∷ []) ≡ rows
+stays r rows sent (Indexed n) e = let z : ⊥ = cc in absurd z
+stays r rows sent reply e = refl
 
-indexed_by : (r : Repository) (order : Command) (reply : Reply) → Answers r order reply → is_indexed reply ≡ is_index order
+indexed_by : (r : Repository) (sent : Command) (reply : Reply) → Answers r sent reply → is_indexed reply ≡ is_index sent
 indexed_by r (Commit c) reply h = ap is_indexed h
 indexed_by r (Tag c) reply h = ap is_indexed h
 indexed_by r (Move c) reply h = ap is_indexed h
@@ -99,11 +99,11 @@ indexed_by r (Show word None) reply h = ap is_indexed h.3
 indexed_by r (Show word (Some path)) reply h = ap is_indexed h.5
 
 -- if the reply isn't that to an accepted `index`, the rows stay
-follows_stayed : (old new : Option (List Row)) (r : Repository) (order : Command) (reply : Reply) → is_indexed reply ≡ false → new ≡ old → FollowsRows old new r (order ∷ []) (reply ∷ [])
-follows_stayed old new r order reply e same rows keeps =
-    subst (λ after. KeepsRows after new) (sym (stays r rows order reply e)) (subst (KeepsRows rows) (sym same) keeps)
+follows_stayed : (old new : Option (List Row)) (r : Repository) (sent : Command) (reply : Reply) → is_indexed reply ≡ false → new ≡ old → FollowsRows old new r (sent ∷ []) (reply ∷ [])
+follows_stayed old new r sent reply e same rows keeps =
+    subst (λ after. KeepsRows after new) (sym (stays r rows sent reply e)) (subst (KeepsRows rows) (sym same) keeps)
 
-pub follows_answer : (old new : Option (List Row)) (r : Repository) (order : Command) (reply : Reply) (text : Vec ℕ Global) → Answers r order reply → LeavesRows r order (Ok text) old new → FollowsRows old new r (order ∷ []) (reply ∷ [])
+pub follows_answer : (old new : Option (List Row)) (r : Repository) (sent : Command) (reply : Reply) (text : Vec ℕ Global) → Answers r sent reply → LeavesRows r sent (Ok text) old new → FollowsRows old new r (sent ∷ []) (reply ∷ [])
 follows_answer old new r Index reply text h leaves = subst (λ (x : Reply). FollowsRows old new r (Index ∷ []) (x ∷ [])) (sym h) (λ rows keeps. leaves)
 follows_answer old new r (Commit c) reply text h leaves = follows_stayed old new r (Commit c) reply (indexed_by r (Commit c) reply h) leaves
 follows_answer old new r (Tag c) reply text h leaves = follows_stayed old new r (Tag c) reply (indexed_by r (Tag c) reply h) leaves
@@ -120,23 +120,23 @@ follows_answer old new r (Show word None) reply text h leaves = follows_stayed o
 follows_answer old new r (Show word (Some path)) reply text h leaves = follows_stayed old new r (Show word (Some path)) reply (indexed_by r (Show word (Some path)) reply h) leaves
 
 -- after a stop the rows stay
-pub stopped_leaves : (r : Repository) (order : Command) (stopped : Stopped) (kept : Option (List Row)) → LeavesRows r order (Err stopped) kept kept
+pub stopped_leaves : (r : Repository) (sent : Command) (stopped : Stopped) (kept : Option (List Row)) → LeavesRows r sent (Err stopped) kept kept
 stopped_leaves r Index stopped kept = refl
-stopped_leaves r order stopped kept = refl
+stopped_leaves r sent stopped kept = refl
 
-stopped_kept : (r : Repository) (order : Command) (stopped : Stopped) (old new : Option (List Row)) → LeavesRows r order (Err stopped) old new → new ≡ old
+stopped_kept : (r : Repository) (sent : Command) (stopped : Stopped) (old new : Option (List Row)) → LeavesRows r sent (Err stopped) old new → new ≡ old
 stopped_kept r Index stopped old new leaves = leaves
-stopped_kept r order stopped old new leaves = leaves
+stopped_kept r sent stopped old new leaves = leaves
 
-pub follows_refusal : (old new : Option (List Row)) (r : Repository) (order : Command) (cause : Cause) (stopped : Stopped) → LeavesRows r order (Err stopped) old new → FollowsRows old new r (order ∷ []) (RefusedFor cause ∷ [])
-follows_refusal old new r order cause stopped leaves = follows_stayed old new r order (RefusedFor cause) refl (stopped_kept r order stopped old new leaves)
+pub follows_refusal : (old new : Option (List Row)) (r : Repository) (sent : Command) (cause : Cause) (stopped : Stopped) → LeavesRows r sent (Err stopped) old new → FollowsRows old new r (sent ∷ []) (RefusedFor cause ∷ [])
+follows_refusal old new r sent cause stopped leaves = follows_stayed old new r sent (RefusedFor cause) refl (stopped_kept r sent stopped old new leaves)
 
-pub follows_fault : (old new : Option (List Row)) (r : Repository) (order : Command) (fault : faults.Fault) (stopped : Stopped) → LeavesRows r order (Err stopped) old new → FollowsRows old new r (order ∷ []) (Faulted fault ∷ [])
-follows_fault old new r order fault stopped leaves = follows_stayed old new r order (Faulted fault) refl (stopped_kept r order stopped old new leaves)
+pub follows_fault : (old new : Option (List Row)) (r : Repository) (sent : Command) (fault : faults.Fault) (stopped : Stopped) → LeavesRows r sent (Err stopped) old new → FollowsRows old new r (sent ∷ []) (Faulted fault ∷ [])
+follows_fault old new r sent fault stopped leaves = follows_stayed old new r sent (Faulted fault) refl (stopped_kept r sent stopped old new leaves)
 
 -- ---- commands in a row
 
-only_index : (r : Repository) (order : Command) (n : ℕ) → Answers r order (Indexed n) → after r order ≡ r
+only_index : (r : Repository) (sent : Command) (n : ℕ) → Answers r sent (Indexed n) → after r sent ≡ r
 only_index r Index n h = refl
 only_index r (Commit c) n h = cc
 only_index r (Tag c) n h = cc
@@ -156,12 +156,12 @@ pub goes_unchanged : (changing : Bool) (P Q : Type 0) → not (changing && true)
 goes_unchanged true P Q on h = let z : ⊥ = cc in absurd z
 goes_unchanged false P Q on h = h
 
-one_on : (r mid : Repository) (rows : Option (List model.Row)) (order : Command) (reply : Reply) (orders : List Command) (replies : List Reply) → Step r order reply mid → goes_on order reply ≡ true
-    → rows_after r rows (order ∷ orders) (reply ∷ replies) ≡ rows_after mid (rows_after r rows (order ∷ []) (reply ∷ [])) orders replies
-one_on r mid rows order (Indexed n) orders replies step on = ap (λ x. rows_after x (Some (rows_of r)) orders replies) (sym (step.result ∙ only_index r order n step.answer))
-one_on r mid rows order (RefusedFor cause) orders replies step on = ap (λ x. rows_after x rows orders replies) (sym step.1)
-one_on r mid rows order (Faulted fault) orders replies step on = ap (λ x. rows_after x rows orders replies) (sym (goes_unchanged (is_changing order) _ _ on step.1))
-one_on r mid rows order reply orders replies step on = ap (λ x. rows_after x rows orders replies) (sym step.result)
+one_on : (r mid : Repository) (rows : Option (List model.Row)) (sent : Command) (reply : Reply) (orders : List Command) (replies : List Reply) → Step r sent reply mid → goes_on sent reply ≡ true
+    → rows_after r rows (sent ∷ orders) (reply ∷ replies) ≡ rows_after mid (rows_after r rows (sent ∷ []) (reply ∷ [])) orders replies
+one_on r mid rows sent (Indexed n) orders replies step on = ap (λ x. rows_after x (Some (rows_of r)) orders replies) (sym (step.result ∙ only_index r sent n step.answer))
+one_on r mid rows sent (RefusedFor cause) orders replies step on = ap (λ x. rows_after x rows orders replies) (sym step.1)
+one_on r mid rows sent (Faulted fault) orders replies step on = ap (λ x. rows_after x rows orders replies) (sym (goes_unchanged (is_changing sent) _ _ on step.1))
+one_on r mid rows sent reply orders replies step on = ap (λ x. rows_after x rows orders replies) (sym step.result)
 
 pub no_failure : (on failed : Bool) → (not on || failed) ≡ false → (on ≡ true) × (failed ≡ false)
 no_failure true failed e = (refl, e)
@@ -171,12 +171,12 @@ all_on : (r between : Repository) (rows : Option (List model.Row)) (orders more 
     → rows_after r rows (orders ++ more) (replies ++ others) ≡ rows_after between (rows_after r rows orders replies) more others
 all_on r between rows [] more [] others steps unfailed = ap (λ x. rows_after x rows more others) (sym steps)
 all_on r between rows [] more (reply ∷ replies) others steps unfailed = absurd steps
-all_on r between rows (order ∷ orders) more [] others steps unfailed = absurd steps
-all_on r between rows (order ∷ orders) more (reply ∷ replies) others (mid, step, _, rest) unfailed =
-    let whole = no_failure (goes_on order reply) (some_failed orders replies) unfailed in
-    one_on r mid rows order reply (orders ++ more) (replies ++ others) step whole.0
-    ∙ all_on mid between (rows_after r rows (order ∷ []) (reply ∷ [])) orders more replies others rest whole.1
-    ∙ ap (λ found. rows_after between found more others) (sym (one_on r mid rows order reply orders replies step whole.0))
+all_on r between rows (sent ∷ orders) more [] others steps unfailed = absurd steps
+all_on r between rows (sent ∷ orders) more (reply ∷ replies) others (mid, step, _, rest) unfailed =
+    let whole = no_failure (goes_on sent reply) (some_failed orders replies) unfailed in
+    one_on r mid rows sent reply (orders ++ more) (replies ++ others) step whole.0
+    ∙ all_on mid between (rows_after r rows (sent ∷ []) (reply ∷ [])) orders more replies others rest whole.1
+    ∙ ap (λ found. rows_after between found more others) (sym (one_on r mid rows sent reply orders replies step whole.0))
 
 pub follows_on : (old mid new : Option (List Row)) (r between : Repository) (orders more : List Command) (replies others : List Reply) → Steps r orders replies between → some_failed orders replies ≡ false
     → FollowsRows old mid r orders replies → FollowsRows mid new between more others → FollowsRows old new r (orders ++ more) (replies ++ others)
@@ -186,11 +186,11 @@ follows_on old mid new r between orders more replies others steps unfailed first
 pub steps_acted : (MayFail : Type 0) (objects names : History) (r : Repository) (begin : Moment) (orders : List Command) (replies : List Reply) (moments : List Moment) (new : Repository)
     → ActsOn objects names MayFail r begin orders replies moments new → Steps r orders replies new
 steps_acted MayFail objects names r begin [] [] [] new acts = acts
-steps_acted MayFail objects names r begin (order ∷ orders) (reply ∷ replies) (moment ∷ moments) new (mid, acted, on, rest) = (mid, acted.step, on, steps_acted MayFail objects names mid moment orders replies moments new rest)
+steps_acted MayFail objects names r begin (sent ∷ orders) (reply ∷ replies) (moment ∷ moments) new (mid, acted, on, rest) = (mid, acted.step, on, steps_acted MayFail objects names mid moment orders replies moments new rest)
 steps_acted MayFail objects names r begin [] [] (moment ∷ moments) new acts = absurd acts
 steps_acted MayFail objects names r begin [] (reply ∷ replies) moments new acts = absurd acts
-steps_acted MayFail objects names r begin (order ∷ orders) [] moments new acts = absurd acts
-steps_acted MayFail objects names r begin (order ∷ orders) (reply ∷ replies) [] new acts = absurd acts
+steps_acted MayFail objects names r begin (sent ∷ orders) [] moments new acts = absurd acts
+steps_acted MayFail objects names r begin (sent ∷ orders) (reply ∷ replies) [] new acts = absurd acts
 
 pub index_leaves : {F : Type 0} (r : Repository) (result : Result (Vec ℕ Global) Stopped) (old new : own.Repository F) → OnOk result (KeepsRows (Some (rows_of r)) (rows_in new)) → OnErr result (new ≡ old) → LeavesRows r Index result (rows_in old) (rows_in new)
 index_leaves r (Ok text) old new keeps same = keeps

@@ -36,8 +36,8 @@ use Rattle.history.specs.declared.reply.Reply as own
 
 -- ---- one turn
 
-pub known_offered : (order : Command) → IsTrue (is_command order) → IsTrue (is_spoken order)
-known_offered order h = from_and_2 (has_spelling order) (is_spoken order) h
+pub known_offered : (sent : Command) → IsTrue (is_command sent) → IsTrue (is_spoken sent)
+known_offered sent h = from_and_2 (has_spelling sent) (is_spoken sent) h
 
 goes : (failed : Bool) (on : Bool) → failed ≡ not on → failed ≡ false → IsTrue on
 goes failed on e f = not-false on (sym e ∙ f)
@@ -65,12 +65,12 @@ in_two old new text (count, less, wrote) =
     (take count text, drop count text, sym (take-append-drop count text), omega (arith, long, less), wrote)
 
 -- ---- of a command that was replied to
-module _ (objects names : History) (MayFail : Type 0) (StandsNow RecoversNow : Repository → Type 0) (start finish : Moment) (kept rows : Option (List Row)) (r : Repository) (order : Command) (answer : own.Reply) (failed : Bool)
-    (a : IsAnswer objects names MayFail StandsNow RecoversNow start finish kept rows failed r order answer) where
+module _ (objects names : History) (MayFail : Type 0) (StandsNow RecoversNow : Repository → Type 0) (start finish : Moment) (kept rows : Option (List Row)) (r : Repository) (sent : Command) (answer : own.Reply) (failed : Bool)
+    (a : IsAnswer objects names MayFail StandsNow RecoversNow start finish kept rows failed r sent answer) where
   abbrev CallFailed : Type 0
   CallFailed = HasRisen start.object_failures finish.object_failures ⊎ HasRisen start.name_failures finish.name_failures ⊎ MayFail
 
-  failed_so : Failed MayFail order start finish → CallFailed
+  failed_so : Failed MayFail sent start finish → CallFailed
   failed_so (inl (changing, inl objects)) = inl objects
   failed_so (inl (changing, inr names)) = inr (inl names)
   failed_so (inr may) = inr (inr may)
@@ -78,40 +78,40 @@ module _ (objects names : History) (MayFail : Type 0) (StandsNow RecoversNow : R
   abbrev Traced : List Command → List Reply → Repository → Type 0
   Traced commands replies left = (traces : Traces objects names MayFail r start commands replies finish left) × FollowsRows kept rows r commands replies × AllLeaveAsSaid names r start commands replies traces.moments
 
-  answer_ran : (taken rest : Bytes) → Spells taken order → Ran CallFailed r (order ∷ []) (a.reply ∷ []) (taken ++ rest) (text_of answer) rest [] failed a.left
+  answer_ran : (taken rest : Bytes) → Spells taken sent → Ran CallFailed r (sent ∷ []) (a.reply ∷ []) (taken ++ rest) (text_of answer) rest [] failed a.left
   answer_ran taken rest k =
-      ran_one CallFailed r a.left (taken ++ rest) (text_of answer) order a.reply rest failed (ap (λ xs. xs ++ rest) k.1) (told_text answer a.reply a.tells) k.0 (a.acted).step (a.fails ∙ only_fails (goes_on order a.reply)) (λ is. failed_so ((a.acted).failure is))
+      ran_one CallFailed r a.left (taken ++ rest) (text_of answer) sent a.reply rest failed (ap (λ xs. xs ++ rest) k.1) (told_text answer a.reply a.tells) k.0 (a.acted).step (a.fails ∙ only_fails (goes_on sent a.reply)) (λ is. failed_so ((a.acted).failure is))
 
-  traced : Traced (order ∷ []) (a.reply ∷ []) a.left
+  traced : Traced (sent ∷ []) (a.reply ∷ []) a.left
   traced = (record { moments = finish ∷ []; acts = (a.left, a.acted, inr refl, refl); ends = refl }, a.rows_follow, (a.leaves, tt))
 
   stands_then : failed ≡ false → StandsNow a.left
-  stands_then unfailed = a.stands (goes failed (goes_on order a.reply) a.fails unfailed)
+  stands_then unfailed = a.stands (goes failed (goes_on sent a.reply) a.fails unfailed)
 
   recovers_then : failed ≡ true → RecoversNow a.left
-  recovers_then fails = a.recovers (no_goes failed (goes_on order a.reply) a.fails fails)
+  recovers_then fails = a.recovers (no_goes failed (goes_on sent a.reply) a.fails fails)
 
   -- the run goes on
-  pub turn_goes_on : (Takes Writes : Bytes → Type 0) (taken : Bytes) → Spells taken order → failed ≡ false → Takes taken → Writes (text_of answer) → GoesOn Takes Writes StandsNow Traced CallFailed r
+  pub turn_goes_on : (Takes Writes : Bytes → Type 0) (taken : Bytes) → Spells taken sent → failed ≡ false → Takes taken → Writes (text_of answer) → GoesOn Takes Writes StandsNow Traced CallFailed r
   turn_goes_on Takes Writes taken k unfailed takes writes = record {
-    commands = order ∷ [];
+    commands = sent ∷ [];
     replies = a.reply ∷ [];
     taken = taken;
     written = text_of answer;
     new = a.left;
     takes = takes;
     writes = writes;
-    ran = subst (λ b. Ran CallFailed r (order ∷ []) (a.reply ∷ []) taken (text_of answer) [] [] b a.left) unfailed
-        (subst (λ xs. Ran CallFailed r (order ∷ []) (a.reply ∷ []) xs (text_of answer) [] [] failed a.left) (append-nil taken) (answer_ran taken [] k));
+    ran = subst (λ b. Ran CallFailed r (sent ∷ []) (a.reply ∷ []) taken (text_of answer) [] [] b a.left) unfailed
+        (subst (λ xs. Ran CallFailed r (sent ∷ []) (a.reply ∷ []) xs (text_of answer) [] [] failed a.left) (append-nil taken) (answer_ran taken [] k));
     traced = traced;
     stands = stands_then unfailed;
   }
 
   -- a changing command had a fault
-  pub turn_fails : (Comes Writes : Bytes → Type 0) (AtEnd L : Type 0) (taken rest : Bytes) → Spells taken order → failed ≡ true → Comes (taken ++ rest) → Writes (text_of answer)
+  pub turn_fails : (Comes Writes : Bytes → Type 0) (AtEnd L : Type 0) (taken rest : Bytes) → Spells taken sent → failed ≡ true → Comes (taken ++ rest) → Writes (text_of answer)
       → EndsHere Comes Writes StandsNow RecoversNow Traced AtEnd L CallFailed r (Ok ByFault) failed
   turn_fails Comes Writes AtEnd L taken rest k e comes writes = record {
-    commands = order ∷ [];
+    commands = sent ∷ [];
     replies = a.reply ∷ [];
     read = taken ++ rest;
     written = text_of answer;
@@ -130,10 +130,10 @@ module _ (objects names : History) (MayFail : Type 0) (StandsNow RecoversNow : R
   }
 
   -- the writer failed within the reply
-  pub turn_cut : (Comes Writes : Bytes → Type 0) (AtEnd L : Type 0) (taken rest front back : Bytes) → Spells taken order → Comes (taken ++ rest) → text_of answer ≡ front ++ back → length front < length (text_of answer) → Writes front
+  pub turn_cut : (Comes Writes : Bytes → Type 0) (AtEnd L : Type 0) (taken rest front back : Bytes) → Spells taken sent → Comes (taken ++ rest) → text_of answer ≡ front ++ back → length front < length (text_of answer) → Writes front
       → EndsHere Comes Writes StandsNow RecoversNow Traced AtEnd L CallFailed r (Err Write) failed
   turn_cut Comes Writes AtEnd L taken rest front back k comes e short writes = record {
-    commands = order ∷ [];
+    commands = sent ∷ [];
     replies = a.reply ∷ [];
     read = taken ++ rest;
     written = front;
@@ -143,7 +143,7 @@ module _ (objects names : History) (MayFail : Type 0) (StandsNow RecoversNow : R
     ends = record {
       answered = [];
       written = [];
-      last = order ∷ [];
+      last = sent ∷ [];
       cut_off = a.reply ∷ [];
       all = (refl, refl);
       rest = taken ++ rest;
@@ -155,7 +155,7 @@ module _ (objects names : History) (MayFail : Type 0) (StandsNow RecoversNow : R
         k.0,
         ap (λ xs. xs ++ rest) k.1,
         (a.acted).step,
-        a.fails ∙ only_fails (goes_on order a.reply),
+        a.fails ∙ only_fails (goes_on sent a.reply),
         λ is. failed_so ((a.acted).failure is),
         (
           subst (λ xs. IsTrue (begins front xs)) (sym e ∙ told_text answer a.reply a.tells) (begins_front front back),

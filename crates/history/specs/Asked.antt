@@ -6,13 +6,13 @@ use Rattle.history_word.specs.Commands.{IsReceived}
 use Rattle.history_word.specs.declared.reader.Received.{Received}
 use Rattle.history_repository.specs.Stands.{Stands}
 use Rattle.history_repository.specs.declared.repository.Repository.{Repository}
-use Rattle.history_model.specs.Commands as orders
+use Rattle.history_model.specs.Commands as commands
 use Rattle.history_model.specs.Repository as plain
 
 -- The command that was read is this one, which is offered, for this repository.
 pub record Asked {F : Type 0} (IsHonest : F → Type 0) (history : F → History)
     (repository : Repository F) (received : Received)
-    (r : plain.Repository) (order : orders.Command) : Type 0 where
+    (r : plain.Repository) (sent : commands.Command) : Type 0 where
   pub serves : Stands IsHonest history repository r
-  pub reads : IsReceived received order
-  pub offered : IsTrue (is_spoken order)
+  pub reads : IsReceived received sent
+  pub offered : IsTrue (is_spoken sent)

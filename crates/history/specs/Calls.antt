@@ -84,33 +84,33 @@ module _ {F : Type 0} (files : Ghosts F) where
   module _ (r : plain.Repository) where
     -- The objects of a command are stored, and its moves are returned. If anything is put, no cause
     -- holds, and each tree on the way, once recovered, holds some of what is stored and is whole.
-    pub record StoresAsAsked (order : Command) (old new : Repository F)
+    pub record StoresAsAsked (sent : Command) (old new : Repository F)
         (result : Result Moves Stopped) : Type 0 where
       pub ends : StoresObjects (CountsFailure files.failures files.reading_may_fail old new)
-          (HasStored files.is_honest files.history new r order) r order result
-      pub passes : ObjectsPass files.history r order old new
+          (HasStored files.is_honest files.history new r sent) r sent result
+      pub passes : ObjectsPass files.history r sent old new
 
     -- On the way each name, once recovered, is as before the command or as after it.
     abbrev pub NamesPass : Command → Repository F → Repository F → Type 0
-    NamesPass order old new =
-        Adds (HoldsBetween r order) (files.history (names_part old)) (files.history (names_part new))
+    NamesPass sent old new =
+        Adds (HoldsBetween r sent) (files.history (names_part old)) (files.history (names_part new))
 
     -- The names of a command move, and no other files change than its own.
-    pub record MovesAsAsked (order : Command) (old new : Repository F)
+    pub record MovesAsAsked (sent : Command) (old new : Repository F)
         (result : Result (Unit {0}) Fault) : Type 0 where
       pub ends : LeavesMoved (CountsFailure files.failures files.reading_may_fail old new)
-          (Stands files.is_honest files.history new (after r order)) result
-      pub passes : NamesPass order old new
+          (Stands files.is_honest files.history new (after r sent)) result
+      pub passes : NamesPass sent old new
       pub leaves : OnOk result
-          (LeavesAsAsked r order (names_tree files.history old) (names_tree files.history new))
+          (LeavesAsAsked r sent (names_tree files.history old) (names_tree files.history new))
 
     -- These names move, and that one goes. Each file that isn't of them is as it was, except
     -- `packed-refs`.
-    pub record EditsAsAsked (order : Command) (moved : List edits.MovedName) (gone : Option Bytes)
+    pub record EditsAsAsked (sent : Command) (moved : List edits.MovedName) (gone : Option Bytes)
         (old new : Repository F) (result : Result (Unit {0}) Fault) : Type 0 where
       pub ends : LeavesMoved (CountsFailure files.failures files.reading_may_fail old new)
-          (NamesStand files.is_honest files.history new (after r order)) result
-      pub passes : NamesPass order old new
+          (NamesStand files.is_honest files.history new (after r sent)) result
+      pub passes : NamesPass sent old new
       pub made : OnOk result
           (EditsMade r.kind moved gone (names_tree files.history old) (names_tree files.history new))
 
@@ -122,23 +122,23 @@ module _ {F : Type 0} (files : Ghosts F) where
           (files.history (names_part old)) (files.history (names_part new))
 
     -- A command is acted on. A stop at any moment on the way, once recovered, leaves what it may.
-    pub record ActsAsAsked (CallFailed : Type 0) (order : Command) (old new : Repository F)
+    pub record ActsAsAsked (CallFailed : Type 0) (sent : Command) (old new : Repository F)
         (result : Result (Vec ℕ Global) Stopped) : Type 0 where
       pub later : GoesLater files.history files.failures old new
       pub stops : (pair : Pair) → StoodOnTheWay files.history files.failures old new pair
-          → LeavesStopped r order pair
-      pub acts : Acts CallFailed (Stands files.is_honest files.history new) r order result
-      pub leaves : LeavesFiles r order result
+          → LeavesStopped r sent pair
+      pub acts : Acts CallFailed (Stands files.is_honest files.history new) r sent result
+      pub leaves : LeavesFiles r sent result
           (names_tree files.history old) (names_tree files.history new)
 
     -- It was acted on between two moments, with this reply.
     abbrev pub AnswersAsAsked : Command → Repository F → Repository F → Reply → Type 0
-    AnswersAsAsked order old new answer =
+    AnswersAsAsked sent old new answer =
         IsAnswer (files.history (objects_part new)) (files.history (names_part new))
         files.reading_may_fail (Stands files.is_honest files.history new)
         (RecoversTo files.history new) (moment_of files.history files.failures old)
         (moment_of files.history files.failures new) (rows_in old) (rows_in new) (has_failed new)
-        r order answer
+        r sent answer
 
 -- ---- turns and runs
 

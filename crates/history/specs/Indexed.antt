@@ -32,4 +32,4 @@ FollowsRows old new r commands replies =
 abbrev pub LeavesRows : Repository → Command → Result (Vec ℕ Global) Stopped → Option (List Row)
     → Option (List Row) → Type 0
 LeavesRows r Index (Ok text) old new = KeepsRows (Some (rows_of r)) new
-LeavesRows r order result old new = new ≡ old
+LeavesRows r sent result old new = new ≡ old

@@ -42,11 +42,11 @@ gone_of taken = option_map (λ name. name.now) taken
 -- The objects of the command are stored, no cause holds of it, and it moves these names, by one
 -- actor, and removes that one, which can be done in one transaction.
 pub record AskedEdits {F : Type 0} (IsHonest : F → Type 0) (history : F → History)
-    (repository : Repository F) (r : plain.Repository) (order : Command)
+    (repository : Repository F) (r : plain.Repository) (sent : Command)
     (moved : List MovedName) (taken : Option (Bor (List ℕ))) : Type 0 where
-  pub stored : HasStored IsHonest history repository r order
-  pub none : first_cause r order ≡ None
-  pub sound : IsSound (after r order)
-  pub are : AreEditsOf r order (edits_of moved) (gone_of taken)
+  pub stored : HasStored IsHonest history repository r sent
+  pub none : first_cause r sent ≡ None
+  pub sound : IsSound (after r sent)
+  pub are : AreEditsOf r sent (edits_of moved) (gone_of taken)
   pub fit : CanBeEdited r (edits_of moved) (gone_of taken)
   pub one_actor : HaveOneActor (edits_of moved)

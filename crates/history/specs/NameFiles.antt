@@ -45,7 +45,7 @@ LeavesAsAsked r (Rename from to) old new = RenamesAlone from to old new
 LeavesAsAsked r (Delete name at) old new = TakesNameAlone name old new
 LeavesAsAsked r (Switch name) old new = ChangesHeadAlone old new
 LeavesAsAsked r Pack old new = PacksNames r old new
-LeavesAsAsked r order old new = ⊤
+LeavesAsAsked r sent old new = ⊤
 
 -- So does an accepted one.
 abbrev pub LeavesFiles : plain.Repository → Command → Result (Vec ℕ Global) Stopped → Tree → Tree
@@ -57,7 +57,7 @@ LeavesFiles r (Rename from to) result old new = OnOk result (RenamesAlone from t
 LeavesFiles r (Delete name at) result old new = OnOk result (TakesNameAlone name old new)
 LeavesFiles r (Switch name) result old new = OnOk result (ChangesHeadAlone old new)
 LeavesFiles r Pack result old new = OnOk result (PacksNames r old new)
-LeavesFiles r order result old new = ⊤
+LeavesFiles r sent result old new = ⊤
 
 -- ---- in a run
 

@@ -37,4 +37,4 @@ is_fault (Fault fault) = true
 
 -- the bytes are the reply to the command, if it is done
 abbrev pub TellsDone : Repository → Command → Bytes → Type 0
-TellsDone r order text = (reply : replies.Reply) × Answers r order reply × (text ≡ reply_text reply)
+TellsDone r sent text = (reply : replies.Reply) × Answers r sent reply × (text ≡ reply_text reply)

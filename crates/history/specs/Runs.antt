@@ -10,13 +10,9 @@ use Rattle.std.specs.Io.KnownBytes.{Consumes}
 use Rattle.history_word.specs.Buffer.{readings_made}
 use Rattle.history_word.specs.Taking.{Gave}
 use Rattle.history_word.specs.declared.buffer.Buffer.{Buffer}
-use Rattle.history_word.specs.declared.reader.Received.{Received}
 use Rattle.history.specs.declared.running.RunError.{RunError}
 use Rattle.history.specs.declared.running.RunError.TheVariants.{Read, Write}
 use Rattle.history_model.specs.Repository as plain
-use Rattle.history_word.specs.declared.command.Command as read_commands
-use Rattle.history_word.specs.declared.command.Command.TheVariants as command
-use Rattle.history_word.specs.declared.reader.Received.TheVariants as received
 
 abbrev pub is_fault_end : End → Bool
 is_fault_end Fault = true
@@ -27,26 +23,6 @@ is_fault_end Refused = false
 abbrev pub is_last_fault : Option End → Bool
 is_last_fault (Some end) = is_fault_end end
 is_last_fault None = false
-
-abbrev pub changes_files : read_commands.Command → Bool
-changes_files (command.Commit commit) = true
-changes_files (command.Tag tag) = true
-changes_files (command.Move move) = true
-changes_files (command.Rename rename) = true
-changes_files (command.Delete delete) = true
-changes_files (command.Files word) = false
-changes_files (command.Show show) = false
-changes_files (command.Names folder) = false
-changes_files (command.Past word) = false
-changes_files (command.Switch name) = true
-changes_files command.Pack = true
-changes_files command.Index = false
-changes_files (command.Log log) = false
-
--- whether the command that was read changes files
-abbrev pub is_changing : Received → Bool
-is_changing (received.Command command) = changes_files command
-is_changing (received.NoMemory changing) = changing
 
 module _ {S : Type 0} (left : S → Option (List ℕ)) (readings : S → ℕ) where
   -- The readings made through the buffer meanwhile were counted by the reader, as far as a `u64`

@@ -31,91 +31,91 @@ use Rattle.history.specs.declared.moves.Done.TheVariants as done
 use Rattle.history.specs.declared.moves.Moves.{Moves}
 use Rattle.history.specs.declared.moves.Moves.TheVariants as move
 use Rattle.history_layout.specs.EditSteps as edits
-use Rattle.history_model.specs.Commands as orders
+use Rattle.history_model.specs.Commands as commands
 use Rattle.history_model.specs.Repository as plain
 
 -- The command is this one, which changes files, for this repository.
 pub record AskedChange {F : Type 0} (IsHonest : F → Type 0) (history : F → History)
     (repository : Repository F) (command : Command)
-    (r : plain.Repository) (order : orders.Command) : Type 0 where
+    (r : plain.Repository) (sent : commands.Command) : Type 0 where
   pub serves : Stands IsHonest history repository r
-  pub reads : IsCommandOf command order
-  pub changes : IsTrue (is_changing order)
+  pub reads : IsCommandOf command sent
+  pub changes : IsTrue (is_changing sent)
 
 -- ---- moves
 
 -- the names that a command moves, and the one that it removes
-abbrev pub names_moved : plain.Repository → orders.Command → List edits.MovedName
-names_moved r (orders.Commit c) = moved_by r (commit_move r c) ∷ []
-names_moved r (orders.Tag c) = moved_by r (tag_move r c) ∷ []
-names_moved r (orders.Move c) = map (moved_on r c) c.to
-names_moved r (orders.Rename from to) = renamed r from to ∷ []
-names_moved r order = []
+abbrev pub names_moved : plain.Repository → commands.Command → List edits.MovedName
+names_moved r (commands.Commit c) = moved_by r (commit_move r c) ∷ []
+names_moved r (commands.Tag c) = moved_by r (tag_move r c) ∷ []
+names_moved r (commands.Move c) = map (moved_on r c) c.to
+names_moved r (commands.Rename from to) = renamed r from to ∷ []
+names_moved r sent = []
 
-abbrev pub name_taken : orders.Command → Option Bytes
-name_taken (orders.Rename from to) = Some from
-name_taken (orders.Delete name at) = Some name
-name_taken order = None
+abbrev pub name_taken : commands.Command → Option Bytes
+name_taken (commands.Rename from to) = Some from
+name_taken (commands.Delete name at) = Some name
+name_taken sent = None
 
 -- the command is this one, and makes a commit or tag of this id
-abbrev pub IsDone : plain.Repository → orders.Command → Done → Type 0
-IsDone r (orders.Commit c) (done.Commit id) = id_of id ≡ (commit_move r c).id
-IsDone r (orders.Tag c) (done.Tag id) = id_of id ≡ (tag_move r c).id
-IsDone r (orders.Move c) done.Move = ⊤
-IsDone r (orders.Rename from to) done.Rename = ⊤
-IsDone r (orders.Delete name at) done.Delete = ⊤
+abbrev pub IsDone : plain.Repository → commands.Command → Done → Type 0
+IsDone r (commands.Commit c) (done.Commit id) = id_of id ≡ (commit_move r c).id
+IsDone r (commands.Tag c) (done.Tag id) = id_of id ≡ (tag_move r c).id
+IsDone r (commands.Move c) done.Move = ⊤
+IsDone r (commands.Rename from to) done.Rename = ⊤
+IsDone r (commands.Delete name at) done.Delete = ⊤
 IsDone r _ _ = ⊥
 
 -- The command is this one, moves these names and removes that one.
-pub record IsChangeOf (r : plain.Repository) (order : orders.Command) (made : Done)
+pub record IsChangeOf (r : plain.Repository) (sent : commands.Command) (made : Done)
     (moved : List MovedName) (taken : Option (Vec ℕ Global)) : Type 0 where
-  pub is : IsDone r order made
-  pub moves : map moved_in moved ≡ names_moved r order
-  pub takes : option_map (λ name. name.items) taken ≡ name_taken order
+  pub is : IsDone r sent made
+  pub moves : map moved_in moved ≡ names_moved r sent
+  pub takes : option_map (λ name. name.items) taken ≡ name_taken sent
 
 -- how names are to move
-abbrev pub TellMoves : plain.Repository → orders.Command → Moves → Type 0
-TellMoves r order (move.Change made moved taken) = IsChangeOf r order made moved.items taken
-TellMoves r (orders.Switch name) (move.Switch branch) = branch.items ≡ name
-TellMoves r orders.Pack (move.Pack names) = AreAllNames r names.items
+abbrev pub TellMoves : plain.Repository → commands.Command → Moves → Type 0
+TellMoves r sent (move.Change made moved taken) = IsChangeOf r sent made moved.items taken
+TellMoves r (commands.Switch name) (move.Switch branch) = branch.items ≡ name
+TellMoves r commands.Pack (move.Pack names) = AreAllNames r names.items
 TellMoves r _ _ = ⊥
 
 -- These are the moves of a command of which no cause holds, so that no name occurs twice or
 -- collides, and each holds what is expected of it; and what it stores takes no id.
-pub record AreMovesOf (r : plain.Repository) (order : orders.Command)
+pub record AreMovesOf (r : plain.Repository) (sent : commands.Command)
     (moves : Moves) : Type 0 where
-  pub none : first_cause r order ≡ None
-  pub free : IsFalse (takes_id r order)
-  pub told : TellMoves r order moves
+  pub none : first_cause r sent ≡ None
+  pub free : IsFalse (takes_id r sent)
+  pub told : TellMoves r sent moves
 
 -- the moves of a command that stores nothing; or the first cause, or a fault of reading
-abbrev pub GivesMoves : Type 0 → plain.Repository → orders.Command → Result Moves Stopped → Type 0
-GivesMoves MayFail r order (Ok moves) = AreMovesOf r order moves
-GivesMoves MayFail r order (Err (Refused cause)) = first_cause r order ≡ Some cause
-GivesMoves MayFail r order (Err (Fault fault)) = IsReadingFault MayFail (Fault fault)
+abbrev pub GivesMoves : Type 0 → plain.Repository → commands.Command → Result Moves Stopped → Type 0
+GivesMoves MayFail r sent (Ok moves) = AreMovesOf r sent moves
+GivesMoves MayFail r sent (Err (Refused cause)) = first_cause r sent ≡ Some cause
+GivesMoves MayFail r sent (Err (Fault fault)) = IsReadingFault MayFail (Fault fault)
 
 -- ---- objects
 
 -- The repository represented this plain one before the command, and all but its objects is as it
 -- was: they are those after the command, so that each id that a name is to move to is stored.
 pub record HasStored {F : Type 0} (IsHonest : F → Type 0) (history : F → History)
-    (repository : Repository F) (r : plain.Repository) (order : orders.Command) : Type 0 where
+    (repository : Repository F) (r : plain.Repository) (sent : commands.Command) : Type 0 where
   pub before : Repository F
   pub stood : Stands IsHonest history before r
   pub kept : KeepsAllButObjects before repository
   pub honest : IsHonest (objects_part repository)
   pub kind : kind_of_objects repository.objects ≡ r.kind
-  pub holds : HoldsValues r.kind (objects_tree history repository) (after r order).objects
-  pub known : KnowsIds repository (after r order).objects
+  pub holds : HoldsValues r.kind (objects_tree history repository) (after r sent).objects
+  pub known : KnowsIds repository (after r sent).objects
 
 -- The objects are stored, and these are the moves; else the first cause is returned, or a fault.
-abbrev pub StoresObjects : Type 0 → Type 0 → plain.Repository → orders.Command
+abbrev pub StoresObjects : Type 0 → Type 0 → plain.Repository → commands.Command
     → Result Moves Stopped → Type 0
-StoresObjects CallFailed Stored r order (Ok moves) = AreMovesOf r order moves × Stored
-StoresObjects CallFailed Stored r order (Err (Refused cause)) = first_cause r order ≡ Some cause
-StoresObjects CallFailed Stored r order (Err (Fault Memory)) = ⊤
-StoresObjects CallFailed Stored r order (Err (Fault File)) = CallFailed
-StoresObjects CallFailed Stored r order (Err (Fault IdTaken)) = MayTake r order
+StoresObjects CallFailed Stored r sent (Ok moves) = AreMovesOf r sent moves × Stored
+StoresObjects CallFailed Stored r sent (Err (Refused cause)) = first_cause r sent ≡ Some cause
+StoresObjects CallFailed Stored r sent (Err (Fault Memory)) = ⊤
+StoresObjects CallFailed Stored r sent (Err (Fault File)) = CallFailed
+StoresObjects CallFailed Stored r sent (Err (Fault IdTaken)) = MayTake r sent
 
 -- whether a fault is returned
 abbrev pub is_fault_of : {T : Type 0} → Result T Stopped → Bool

@@ -11,17 +11,16 @@ ghost use Rattle.history.specs.Acts.{CountsFailure};
 ghost use Rattle.history.specs.Calls.{ActsAsAsked, KeepsBoth};
 ghost use Rattle.history.specs.Replies.{TellsDone};
 ghost use Rattle.history.specs.Storing.{AreMovesOf, AskedChange, IsDone};
-ghost use Rattle.history_model.specs.Commands as orders;
+ghost use Rattle.history_model.specs.Commands as commands;
 ghost use Rattle.history_model.specs.Repository as plain;
 ghost use Rattle.history_repository.specs.declared.stopped.Stopped.TheVariants as stopped;
 
 use crate::moves::{Done, Moves, move_names, store_objects};
 use gix_hash::{Kind, ObjectId};
 use gix_ref_file::Files;
-use history_queries::line;
 use history_repository::{Repository, Stopped};
 use history_store::hex_digits;
-use history_word::Command;
+use history_word::{Command, line};
 use std::alloc::{AllocError, Global};
 
 /// Returns the text that says with this word that a command is done.
@@ -50,8 +49,8 @@ fn id_text(alloc: Global, word: &[u8], id: &ObjectId) -> Result<Vec<u8>, AllocEr
 
 /// Returns the text of the reply to a command that changed names so.
 fn change_text(alloc: Global, done: &Done) -> Result<Vec<u8>, AllocError>
-    ensures { (r : plain.Repository) (order : orders.Command) → IsDone r order done.now
-        → IfOk result (λ text. TellsDone r order text.items) }
+    ensures { (r : plain.Repository) (sent : commands.Command) → IsDone r sent done.now
+        → IfOk result (λ text. TellsDone r sent text.items) }
 {
     match done {
         Done::Commit(id) => id_text(alloc, b"commit", id),
@@ -64,8 +63,8 @@ fn change_text(alloc: Global, done: &Done) -> Result<Vec<u8>, AllocError>
 
 /// Returns the text of the reply to a command with these moves.
 fn done_text(alloc: Global, moves: &Moves) -> Result<Vec<u8>, AllocError>
-    ensures { (r : plain.Repository) (order : orders.Command) → AreMovesOf r order moves.now
-        → IfOk result (λ text. TellsDone r order text.items) }
+    ensures { (r : plain.Repository) (sent : commands.Command) → AreMovesOf r sent moves.now
+        → IfOk result (λ text. TellsDone r sent text.items) }
 {
     match moves {
         Moves::Change { done, .. } => change_text(alloc, done),
@@ -88,10 +87,10 @@ pub(crate) fn change<F: Files>(
     ensures rows { rows_in repository.new ≡ rows_in repository.old }
     ensures keeps { KeepsBoth F.Files (IsErrOf result (stopped.Fault File))
         repository.old repository.new }
-    ensures acts { (r : plain.Repository) (order : orders.Command)
-        → AskedChange F.is_honest F.history repository.old command r order
+    ensures acts { (r : plain.Repository) (sent : commands.Command)
+        → AskedChange F.is_honest F.history repository.old command r sent
         → ActsAsAsked F.Files r (CountsFailure F.failures F.reading_may_fail repository.old repository.new)
-        order repository.old repository.new result }
+        sent repository.old repository.new result }
 {
     let moves = store_objects(repository, alloc, command)?;
     let text = done_text(alloc, &moves)?;

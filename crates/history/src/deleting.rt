@@ -5,7 +5,7 @@ ghost use Rattle.history_model.specs.Bytes.{Bytes};
 ghost use Rattle.history_word.specs.Commands.{IsDelete};
 ghost use Rattle.history.specs.Storing.{GivesMoves};
 ghost use Rattle.history_repository.specs.Stands.{Stands};
-ghost use Rattle.history_model.specs.Commands as orders;
+ghost use Rattle.history_model.specs.Commands as commands;
 ghost use Rattle.history_model.specs.Repository as plain;
 
 use crate::moves::{Done, Moves};
@@ -23,7 +23,7 @@ pub(crate) fn plan_deletion<F: Files>(
 ) -> Result<Moves, Stopped>
     ensures { (r : plain.Repository) (name : Bytes) (at : Option Bytes)
         → Stands F.is_honest F.history repository.now r → IsDelete command name at
-        → GivesMoves F.reading_may_fail r (orders.Delete name at) result }
+        → GivesMoves F.reading_may_fail r (commands.Delete name at) result }
 {
     test_delete(repository, alloc, &command)?;
     Ok(Moves::Change {

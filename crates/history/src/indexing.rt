@@ -7,13 +7,14 @@ ghost use Rattle.history_repository.specs.Face.{KeepsAllButRows, rows_in};
 ghost use Rattle.history.specs.Indexed.{KeepsRows};
 ghost use Rattle.history_repository.specs.Stands.{Stands};
 ghost use Rattle.history_model.specs.Answers as model;
-ghost use Rattle.history_model.specs.Commands as orders;
+ghost use Rattle.history_model.specs.Commands as commands;
 ghost use Rattle.history_model.specs.Repository as plain;
 
 use gix_ref_file::Files;
 use gix_traverse_graph::Graph;
-use history_queries::{all_rows, line};
+use history_queries::all_rows;
 use history_repository::{Repository, Stopped};
+use history_word::line;
 use std::alloc::{AllocError, Global};
 
 /// Returns the text that says how many rows were made.
@@ -42,7 +43,7 @@ pub(crate) fn index<F: Files>(
     ensures kept { KeepsAllButRows repository.old repository.new }
     ensures refused { OnErr result (repository.new ≡ repository.old) }
     ensures answers { (r : plain.Repository) → Stands F.is_honest F.history repository.old r
-        → OnlyAnswers F.reading_may_fail r orders.Index result }
+        → OnlyAnswers F.reading_may_fail r commands.Index result }
     ensures serves { (r : plain.Repository) → Stands F.is_honest F.history repository.old r
         → Stands F.is_honest F.history repository.new r }
     ensures rows { (r : plain.Repository) → Stands F.is_honest F.history repository.old r

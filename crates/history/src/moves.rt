@@ -8,9 +8,9 @@ ghost use Rattle.history_model.specs.declared.Fault.TheVariants.{File};
 ghost use Rattle.history_repository.specs.Faults.{IsRefusal, file_fault};
 ghost use Rattle.history.specs.Calls.{EditsAsAsked, MovesAlone, MovesAsAsked, StoresAlone, StoresAsAsked};
 ghost use Rattle.history.specs.Moving.{AskedEdits, edits_of, gone_of};
-ghost use Rattle.history.specs.Runs.{changes_files};
 ghost use Rattle.history.specs.Storing.{AreMovesOf, AskedChange, HasStored};
-ghost use Rattle.history_model.specs.Commands as orders;
+ghost use Rattle.history_word.specs.Commands.{is_changing};
+ghost use Rattle.history_model.specs.Commands as commands;
 ghost use Rattle.history_model.specs.Repository as plain;
 ghost use Rattle.history_repository.specs.declared.stopped.Stopped.TheVariants as stopped;
 
@@ -88,11 +88,11 @@ pub(crate) fn store_objects<F: Files>(
     ensures refused { IfErr result (λ stopped. IsRefusal stopped → repository.new ≡ repository.old) }
     ensures alone { StoresAlone F.Files (IsErrOf result (stopped.Fault File))
         repository.old repository.new }
-    ensures reads { changes_files command ≡ false
+    ensures reads { is_changing command ≡ false
         → (result ≡ Ok Moves.Nothing) × (repository.new ≡ repository.old) }
-    ensures stores { (r : plain.Repository) (order : orders.Command)
-        → AskedChange F.is_honest F.history repository.old command r order
-        → StoresAsAsked F.Files r order repository.old repository.new result }
+    ensures stores { (r : plain.Repository) (sent : commands.Command)
+        → AskedChange F.is_honest F.history repository.old command r sent
+        → StoresAsAsked F.Files r sent repository.old repository.new result }
 {
     match command {
         Command::Commit(command) => store_commit(repository, alloc, command),
@@ -116,9 +116,9 @@ fn change_names<F: Files>(
 ) -> Result<(), Fault>
     ensures alone { MovesAlone F.Files (IsErrOf result File) repository.old repository.new }
     ensures branch { repository.new.branch ≡ repository.old.branch }
-    ensures edits { (r : plain.Repository) (order : orders.Command)
-        → AskedEdits F.is_honest F.history repository.old r order moved.now taken.entry
-        → EditsAsAsked F.Files r order (edits_of moved.now) (gone_of taken.entry)
+    ensures edits { (r : plain.Repository) (sent : commands.Command)
+        → AskedEdits F.is_honest F.history repository.old r sent moved.now taken.entry
+        → EditsAsAsked F.Files r sent (edits_of moved.now) (gone_of taken.entry)
         repository.old repository.new result }
 {
     match repository.names.change(alloc, moved, taken) {
@@ -136,9 +136,9 @@ pub(crate) fn move_names<F: Files>(
 ) -> Result<(), Fault>
     ensures alone { MovesAlone F.Files (IsErrOf result File) repository.old repository.new }
     ensures nothing { moves ≡ Moves.Nothing → IsOk result × (repository.new ≡ repository.old) }
-    ensures moves { (r : plain.Repository) (order : orders.Command)
-        → HasStored F.is_honest F.history repository.old r order → AreMovesOf r order moves
-        → MovesAsAsked F.Files r order repository.old repository.new result }
+    ensures moves { (r : plain.Repository) (sent : commands.Command)
+        → HasStored F.is_honest F.history repository.old r sent → AreMovesOf r sent moves
+        → MovesAsAsked F.Files r sent repository.old repository.new result }
 {
     match moves {
         Moves::Change { moved, taken, .. } => {

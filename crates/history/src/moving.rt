@@ -3,7 +3,7 @@
 ghost use Rattle.history_word.specs.Commands.{IsMove};
 ghost use Rattle.history.specs.Storing.{GivesMoves};
 ghost use Rattle.history_repository.specs.Stands.{Stands};
-ghost use Rattle.history_model.specs.Commands as orders;
+ghost use Rattle.history_model.specs.Commands as commands;
 ghost use Rattle.history_model.specs.Repository as plain;
 
 use crate::moves::{Done, Moves};
@@ -19,9 +19,9 @@ pub(crate) fn plan_together<F: Files>(
     alloc: Global,
     command: MoveCommand,
 ) -> Result<Moves, Stopped>
-    ensures { (r : plain.Repository) (order : orders.MoveCommand)
-        → Stands F.is_honest F.history repository.now r → IsMove command order
-        → GivesMoves F.reading_may_fail r (orders.Move order) result }
+    ensures { (r : plain.Repository) (sent : commands.MoveCommand)
+        → Stands F.is_honest F.history repository.now r → IsMove command sent
+        → GivesMoves F.reading_may_fail r (commands.Move sent) result }
 {
     Ok(Moves::Change {
         done: Done::Move,

@@ -8,7 +8,7 @@ ghost use Rattle.history.specs.Storing.{GivesMoves};
 ghost use Rattle.history_plans.specs.Halves.{names_tree};
 ghost use Rattle.history_plans.specs.Packing.{AreAllNames};
 ghost use Rattle.history_repository.specs.Stands.{Stands};
-ghost use Rattle.history_model.specs.Commands as orders;
+ghost use Rattle.history_model.specs.Commands as commands;
 ghost use Rattle.history_model.specs.Repository as plain;
 
 use crate::moves::{Moves, fault_of};
@@ -25,7 +25,7 @@ pub(crate) fn plan_pack<F: Files>(
     alloc: Global,
 ) -> Result<Moves, Stopped>
     ensures { (r : plain.Repository) → Stands F.is_honest F.history repository.now r
-        → GivesMoves F.reading_may_fail r orders.Pack result }
+        → GivesMoves F.reading_may_fail r commands.Pack result }
 {
     Ok(Moves::Pack(names_to_pack(repository, alloc)?))
 }

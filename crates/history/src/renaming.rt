@@ -4,7 +4,7 @@ ghost use Rattle.history_model.specs.Bytes.{Bytes};
 ghost use Rattle.history_word.specs.Commands.{IsRename};
 ghost use Rattle.history.specs.Storing.{GivesMoves};
 ghost use Rattle.history_repository.specs.Stands.{Stands};
-ghost use Rattle.history_model.specs.Commands as orders;
+ghost use Rattle.history_model.specs.Commands as commands;
 ghost use Rattle.history_model.specs.Repository as plain;
 
 use crate::moves::{Done, Moves, only};
@@ -22,7 +22,7 @@ pub(crate) fn plan_renaming<F: Files>(
 ) -> Result<Moves, Stopped>
     ensures { (r : plain.Repository) (from to : Bytes)
         → Stands F.is_honest F.history repository.now r → IsRename command from to
-        → GivesMoves F.reading_may_fail r (orders.Rename from to) result }
+        → GivesMoves F.reading_may_fail r (commands.Rename from to) result }
 {
     let to = plan_rename(repository, alloc, &command)?;
     Ok(Moves::Change {

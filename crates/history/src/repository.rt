@@ -13,9 +13,9 @@ ghost use Rattle.history_repository.specs.Face.{has_failed, names_part, objects_
 ghost use Rattle.history_repository.specs.Faults.{IsRefusal};
 ghost use Rattle.history_repository.specs.Stands.{Stands};
 ghost use Rattle.history.specs.Calls.{KeepsHonesty, MovesAsAsked, StoresAsAsked};
-ghost use Rattle.history.specs.Runs.{changes_files};
 ghost use Rattle.history.specs.Storing.{AreMovesOf, AskedChange, HasStored, is_fault_of};
-ghost use Rattle.history_model.specs.Commands as orders;
+ghost use Rattle.history_word.specs.Commands.{is_changing};
+ghost use Rattle.history_model.specs.Commands as commands;
 ghost use Rattle.history_model.specs.Repository as plain;
 ghost use Rattle.history_repository.specs.declared.stopped.Stopped.TheVariants as stopped;
 
@@ -133,11 +133,11 @@ impl<F: Files> Repository<F> {
         ensures keeps { (kind_of_objects self.new.objects ≡ kind_of_objects self.old.objects)
             × KeepsHonesty F.Files (IsErrOf result (stopped.Fault File))
             (objects_part self.old) (objects_part self.new) }
-        ensures reads { changes_files command ≡ false
+        ensures reads { is_changing command ≡ false
             → (result ≡ Ok Moves.Nothing) × (self.new ≡ self.old) }
-        ensures stores { (r : plain.Repository) (order : orders.Command)
-            → AskedChange F.is_honest F.history self.old command r order
-            → StoresAsAsked F.Files r order self.old self.new result }
+        ensures stores { (r : plain.Repository) (sent : commands.Command)
+            → AskedChange F.is_honest F.history self.old command r sent
+            → StoresAsAsked F.Files r sent self.old self.new result }
     {
         match store_objects(&mut self.state, alloc, command) {
             Ok(moves) => Ok(moves),
@@ -164,9 +164,9 @@ impl<F: Files> Repository<F> {
             × KeepsHonesty F.Files (IsErrOf result File)
             (names_part self.old) (names_part self.new) }
         ensures nothing { moves ≡ Moves.Nothing → IsOk result × (self.new ≡ self.old) }
-        ensures moves { (r : plain.Repository) (order : orders.Command)
-            → HasStored F.is_honest F.history self.old r order → AreMovesOf r order moves
-            → MovesAsAsked F.Files r order self.old self.new result }
+        ensures moves { (r : plain.Repository) (sent : commands.Command)
+            → HasStored F.is_honest F.history self.old r sent → AreMovesOf r sent moves
+            → MovesAsAsked F.Files r sent self.old self.new result }
     {
         match move_names(&mut self.state, alloc, moves) {
             Ok(()) => Ok(()),

@@ -6,7 +6,7 @@ ghost use Rattle.history_model.specs.declared.Fault.TheVariants.{File};
 ghost use Rattle.history.specs.Calls.{MovesAlone, MovesAsAsked};
 ghost use Rattle.history.specs.Storing.{GivesMoves};
 ghost use Rattle.history_repository.specs.Stands.{Stands};
-ghost use Rattle.history_model.specs.Commands as orders;
+ghost use Rattle.history_model.specs.Commands as commands;
 ghost use Rattle.history_model.specs.Repository as plain;
 
 use crate::moves::{Moves, fault_of};
@@ -23,7 +23,7 @@ pub(crate) fn plan_switch<F: Files>(
     name: Vec<u8>,
 ) -> Result<Moves, Stopped>
     ensures { (r : plain.Repository) → Stands F.is_honest F.history repository.now r
-        → GivesMoves F.reading_may_fail r (orders.Switch name.items) result }
+        → GivesMoves F.reading_may_fail r (commands.Switch name.items) result }
 {
     test_switch(repository, &name)?;
     Ok(Moves::Switch(name))
@@ -38,8 +38,8 @@ pub(crate) fn switch_head<F: Files>(
 ) -> Result<(), Fault>
     ensures alone { MovesAlone F.Files (IsErrOf result File) repository.old repository.new }
     ensures moves { (r : plain.Repository) → Stands F.is_honest F.history repository.old r
-        → first_cause r (orders.Switch name.items) ≡ None
-        → MovesAsAsked F.Files r (orders.Switch name.items) repository.old repository.new result }
+        → first_cause r (commands.Switch name.items) ≡ None
+        → MovesAsAsked F.Files r (commands.Switch name.items) repository.old repository.new result }
 {
     match repository.names.switch(alloc, &repository.branch, &name) {
         Ok(()) => {

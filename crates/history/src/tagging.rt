@@ -6,7 +6,7 @@ ghost use Rattle.history_word.specs.Commands.{IsTag};
 ghost use Rattle.history_repository.specs.Faults.{IsRefusal};
 ghost use Rattle.history_repository.specs.Stands.{Stands};
 ghost use Rattle.history.specs.Calls.{StoresAlone, StoresAsAsked};
-ghost use Rattle.history_model.specs.Commands as orders;
+ghost use Rattle.history_model.specs.Commands as commands;
 ghost use Rattle.history_model.specs.Repository as plain;
 ghost use Rattle.history_repository.specs.declared.stopped.Stopped.TheVariants as stopped;
 
@@ -28,9 +28,9 @@ pub(crate) fn store_tag<F: Files>(
     ensures refused { IfErr result (λ stopped. IsRefusal stopped → repository.new ≡ repository.old) }
     ensures alone { StoresAlone F.Files (IsErrOf result (stopped.Fault File))
         repository.old repository.new }
-    ensures stores { (r : plain.Repository) (order : orders.TagCommand)
-        → Stands F.is_honest F.history repository.old r → IsTag command order
-        → StoresAsAsked F.Files r (orders.Tag order) repository.old repository.new result }
+    ensures stores { (r : plain.Repository) (sent : commands.TagCommand)
+        → Stands F.is_honest F.history repository.old r → IsTag command sent
+        → StoresAsAsked F.Files r (commands.Tag sent) repository.old repository.new result }
 {
     let tagged = plan_tag(repository, alloc, command)?;
     let made = tagged.moves.entry.after;

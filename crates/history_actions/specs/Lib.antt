@@ -8,3 +8,4 @@ pub mod Recovering
 pub mod Refusals
 pub mod Saying
 pub mod Told
+pub use Rattle.clap.specs.Words

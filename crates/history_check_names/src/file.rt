@@ -19,12 +19,12 @@ ghost use Rattle.history_check_objects.specs.Stored.{Facts, facts_in, kind_in};
 use crate::log::{LogFault, log_fault};
 use crate::loose::{Loose, MAX_LOOSE, read_loose};
 use crate::packed::Packed;
-use crate::records::PACKED_REFS;
 use gix_hash::{Kind, ObjectId};
 use gix_object_lines::Kind as ObjectKind;
 use gix_ref_file::{FileError, Files, Place};
 use history_check_objects::Stored;
 use history_model::names::{HEAD, REFS};
+use history_store::PACKED;
 use history_texts::{NamedBy, OpenError, is_name};
 use std::alloc::Global;
 
@@ -58,7 +58,7 @@ pub(crate) fn test_file<F: Files>(
     if path.as_slice() == HEAD {
         return Ok(());
     }
-    if path.as_slice() == PACKED_REFS {
+    if path.as_slice() == PACKED {
         return Ok(());
     }
     if path.ends_with(LOCK_END) {
@@ -252,8 +252,8 @@ pub(crate) fn file_len<F: Files>(files: &F, path: &[u8]) -> Result<Option<u64>, 
     }
 }
 
-/// Returns what a file has in it; nothing if there is no file.
-pub(crate) fn text_at<F: Files>(alloc: Global, files: &F, path: &[u8]) -> Result<Vec<u8>, FileError>
+// Returns what a file has in it; nothing if there is no file.
+fn text_at<F: Files>(alloc: Global, files: &F, path: &[u8]) -> Result<Vec<u8>, FileError>
     ensures found { Finds F.is_honest F.history files.now
         (λ tree. IfOk result (λ text. text.items ≡ bytes_at tree path.now)) }
     ensures failed { IsErrOf result Failed → F.reading_may_fail }

@@ -19,9 +19,6 @@ use history_check_objects::Stored;
 use history_texts::OpenError;
 use std::alloc::Global;
 
-/// The file of packed names.
-pub(crate) const PACKED_REFS: &[u8] = b"packed-refs";
-
 /// Tests that each record is one that a repository has: of a name that is no worktree's own and
 /// collides with no other; with the id of a stored commit or tag, unless the name has a file; and
 /// with no peeled id but that of its tag's commit. Otherwise returns a cause that holds.

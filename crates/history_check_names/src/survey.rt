@@ -1,23 +1,23 @@
 //! Everything that is in the names part.
 
-ghost use Rattle.std.specs.Prelude.{◌≡◌, IfErr, IfOk, IsTrue, OnOk};
+ghost use Rattle.std.specs.Prelude.{◌≡◌, IfErr, IfOk, OnOk};
 ghost use Rattle.gix_ref_file.specs.Tree.{bytes_at};
 ghost use Rattle.history_model.specs.Places.{packed_place};
-ghost use Rattle.history_check_names.specs.Packed.{is_packed_text};
 ghost use Rattle.gix_ref_file.specs.Calls.{Finds};
 ghost use Rattle.history_model.specs.Forms.{is_branch};
 ghost use Rattle.history_model.specs.Repository.{Repository};
 ghost use Rattle.history_store.specs.NamesFace.{files_of_names, kind_of_names};
+ghost use Rattle.history_store.specs.Packing.{KeepsRecords};
 ghost use Rattle.history_check_names.specs.Causes.{HasCause, IsOpenFault};
 ghost use Rattle.history_check_names.specs.PackedRead.{ReadsPacked};
 ghost use Rattle.history_check_names.specs.Parts.{IsNamesPart, NamesBranch, StandsNames};
 ghost use Rattle.history_check_names.specs.Sound.{IsSound, IsSoundBelow};
 ghost use Rattle.history_check_objects.specs.Stored.{AreFactsOf, Facts, facts_in};
 
-use crate::file::{file_len, test_file, text_at};
+use crate::file::{file_len, test_file};
 use crate::loose::MAX_LOOSE;
 use crate::packed::Packed;
-use crate::records::{PACKED_REFS, test_records};
+use crate::records::test_records;
 use gix_hash::Kind;
 use gix_ref_file::paths::{is_deeper, joined};
 use gix_ref_file::{Files, Place};
@@ -27,36 +27,43 @@ use history_store::Names;
 use history_texts::{OpenError, Part, is_name};
 use std::alloc::Global;
 
-/// Returns HEAD's branch, if the names part is a repository's over this store of objects: HEAD
-/// names a branch; each name, in a file of its own or in `packed-refs`, holds a stored commit or
-/// tag and is no folder of another; a record's peeled id is its tag's commit; each log is of a name
-/// and has only moves; and there is nothing else but folders of names and logs. A name's own file
-/// takes precedence over its record. No file is changed; each is read once, a long log in pieces,
-/// and each folder is listed once.
+/// Returns HEAD's branch and keeps the records of `packed-refs`, if the names part is a repository's
+/// over this store of objects: HEAD names a branch; each name, in a file of its own or in
+/// `packed-refs`, holds a stored commit or tag and is no folder of another; a record's peeled id is
+/// its tag's commit; each log is of a name and has only moves; and there is nothing else but folders
+/// of names and logs. A name's own file takes precedence over its record. No file is changed; each
+/// is read once, a long log in pieces, and each folder is listed once.
 ///
 /// Otherwise the error is a cause that holds of this part, none that only objects have. It is `File`
 /// if a call of the files failed, and `Memory` if no memory is left.
 pub fn survey_names<F: Files>(
     alloc: Global,
-    names: &Names<F>,
+    names: &mut Names<F>,
     stored: &Stored,
 ) -> Result<Vec<u8>, OpenError>
-    ensures stands { Finds F.is_honest F.history (files_of_names names.now) (λ tree. IfOk result
-        (λ branch. IsNamesPart (kind_of_names names.now) (facts_in stored.now) tree branch.items)) }
-    ensures wrong { Finds F.is_honest F.history (files_of_names names.now) (λ tree. IfErr result
-        (HasCause F.reading_may_fail (kind_of_names names.now) (facts_in stored.now) tree)) }
-    // The file of packed names is in its form.
-    ensures packed { Finds F.is_honest F.history (files_of_names names.now) (λ tree. OnOk result
-        (IsTrue (is_packed_text (kind_of_names names.now) (bytes_at tree packed_place)))) }
+    ensures files { files_of_names names.new ≡ files_of_names names.old }
+    ensures kind { kind_of_names names.new ≡ kind_of_names names.old }
+    ensures stands { Finds F.is_honest F.history (files_of_names names.old) (λ tree. IfOk result
+        (λ branch. IsNamesPart (kind_of_names names.old) (facts_in stored.now) tree branch.items)) }
+    ensures keeps { Finds F.is_honest F.history (files_of_names names.old)
+        (λ tree. OnOk result (KeepsRecords names.new tree)) }
+    ensures wrong { Finds F.is_honest F.history (files_of_names names.old) (λ tree. IfErr result
+        (HasCause F.reading_may_fail (kind_of_names names.old) (facts_in stored.now) tree)) }
     // A repository's names part is refused only for a fault.
-    ensures accepted { (r : Repository) → r.kind ≡ kind_of_names names.now
+    ensures accepted { (r : Repository) → r.kind ≡ kind_of_names names.old
         → AreFactsOf (facts_in stored.now) r.objects
-        → Finds F.is_honest F.history (files_of_names names.now)
+        → Finds F.is_honest F.history (files_of_names names.old)
         (λ tree. StandsNames tree r → IfErr result IsOpenFault) }
 {
-    let branch = head_branch(alloc, names)?;
-    test_all(alloc, names.files(), names.kind(), stored)?;
-    Ok(branch)
+    let branch = head_branch(alloc, &*names)?;
+    let text = names.read_packed(alloc)?;
+    let bytes = text.as_deref().unwrap_or(b"");
+    test_all(alloc, names.files(), names.kind(), stored, bytes)?;
+    match names.keep_packed(alloc, text) {
+        Ok(()) => Ok(branch),
+        // The text was tested, so memory ran out.
+        Err(_) => Err(OpenError::Memory),
+    }
 }
 
 // Returns the branch that HEAD names.
@@ -89,20 +96,22 @@ fn is_branch(name: &[u8]) -> bool
     is_name(name) && name.starts_with(HEADS)
 }
 
-// Tests everything in the part.
+// Tests everything in the part, where `packed-refs` has this text.
 fn test_all<F: Files>(
     alloc: Global,
     files: &F,
     kind: Kind,
     stored: &Stored,
+    text: &[u8],
 ) -> Result<(), OpenError>
+    requires { Finds F.is_honest F.history files.now
+        (λ tree. text.now ≡ bytes_at tree packed_place) }
     ensures sound { Finds F.is_honest F.history files.now
         (λ tree. OnOk result (IsSound kind (facts_in stored.now) tree)) }
     ensures wrong { Finds F.is_honest F.history files.now
         (λ tree. IfErr result (HasCause F.reading_may_fail kind (facts_in stored.now) tree)) }
 {
-    let text = text_at(alloc, files, PACKED_REFS)?;
-    let packed = Packed::read(alloc, kind, &text)?;
+    let packed = Packed::read(alloc, kind, text)?;
     test_folder(alloc, files, kind, stored, &packed, b"")?;
     test_records(alloc, files, kind, stored, &packed)
 }

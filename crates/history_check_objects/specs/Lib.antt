@@ -8,3 +8,4 @@ pub mod Reading
 pub mod Stored
 pub mod Surveyed
 pub mod Surveying
+pub use Rattle.gix_hash.specs.Id

@@ -9,4 +9,16 @@ pub mod TreeIds
 pub mod StandIns
 pub mod Opening
 pub mod Lookups
+pub mod Making
 pub mod KeptTrees
+pub use Rattle.gix_hash.specs.Id
+pub use Rattle.gix_object_editor.specs.Editor
+pub use Rattle.gix_object_editor.specs.Outcomes
+pub use Rattle.gix_object_editor.specs.Stored
+pub use Rattle.gix_object_lookup.specs.Existing
+pub use Rattle.gix_object_lookup.specs.Table
+pub use Rattle.gix_object_nodes.specs.Files
+pub use Rattle.gix_traverse_tree.specs.AtPaths
+pub use Rattle.history_model.specs.Answers
+pub use Rattle.history_model.specs.FileMap
+pub use Rattle.history_model.specs.Objects

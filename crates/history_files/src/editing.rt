@@ -1,6 +1,6 @@
 //! The trees that edits make of a root's files.
 
-ghost use Rattle.std.specs.Prelude.{◌≡◌, ◌≤◌, ◌+◌, IfOk, IfErr, IsErrOf, map, not};
+ghost use Rattle.std.specs.Prelude.{◌≡◌, ◌≤◌, ◌+◌, IfOk, IfErr, IsErrOf, map};
 ghost use Rattle.std.specs.List.{list_all, list_any};
 ghost use Rattle.gix_hash.specs.Id.{id_of};
 ghost use Rattle.gix_object_editor.specs.Asked.{CountsUp};
@@ -8,8 +8,7 @@ ghost use Rattle.gix_object_editor.specs.Editor.{IsAsRead, asked_by};
 ghost use Rattle.gix_object_editor.specs.Stored.{HasStored};
 ghost use Rattle.gix_object_nodes.specs.Files.{Path, Trees, is_null};
 ghost use Rattle.gix_hash.specs.declared.kind.Kind.{Kind};
-ghost use Rattle.history_model.specs.Bytes.{is_empty};
-ghost use Rattle.history_model.specs.FileMap.{FileMap, components, is_path};
+ghost use Rattle.history_model.specs.FileMap.{FileMap, is_path};
 ghost use Rattle.history_files.specs.StandIns.{puts_null, stand_in};
 ghost use Rattle.history_files.specs.Edits.{name_count};
 ghost use Rattle.history_files.specs.Entries.{own_folders};
@@ -23,6 +22,7 @@ ghost use Rattle.history_files.specs.declared.edits.EditError.TheVariants.{Faile
 
 use crate::edits::{Change, Edit, EditError, make_edits};
 use crate::opening::open_editor;
+use crate::paths::is_file_path;
 use crate::trees::{EditedFiles, EditedTree};
 use gix_hash::{Kind, ObjectId};
 use gix_object_editor::tree::editor::Editor;
@@ -85,24 +85,11 @@ pub fn edit_files<S: FindInto>(
     Ok(edited)
 }
 
-fn are_paths(edits: &[Edit<'_>]) -> bool
+/// Returns whether each edit has a well-formed path.
+pub(crate) fn are_paths(edits: &[Edit<'_>]) -> bool
     ensures { result ≡ list_all (λ edit. is_path edit.path.now) edits.now }
 {
-    edits.iter().all(|edit| is_path(edit.path))
-}
-
-// Returns whether no name is empty, and no byte is zero.
-fn is_path(path: &[u8]) -> bool
-    ensures { result ≡ is_path path.now }
-{
-    has_names(path) && !path.contains(&0)
-}
-
-fn has_names(path: &[u8]) -> bool
-    ensures { result ≡ not (list_any is_empty (components path.now)) }
-{
-    path.split(|byte| *byte == b'/')
-        .all(|name| !name.is_empty())
+    edits.iter().all(|edit| is_file_path(edit.path))
 }
 
 // Returns an editor of the root's files, or of none.

@@ -1,27 +1,21 @@
 //! Edits of a root's files.
 
-ghost use Rattle.std.specs.Prelude.{◌≡◌, ◌≤◌, ◌+◌, List, [], ◌∷◌, length, OnOk, IfErr, IsErrOf, IsFalse, IsTrue};
-ghost use Rattle.gix_hash.specs.declared.kind.Kind.{Kind};
-ghost use Rattle.gix_object_nodes.specs.Files.{Trees};
-ghost use Rattle.gix_object_editor.specs.Stored.{HasStored};
+ghost use Rattle.std.specs.Prelude.{◌≡◌, ◌≤◌, ◌+◌, length, OnOk, IfErr, IsErrOf};
 ghost use Rattle.gix_object_editor.specs.Asked.{CountsUp};
-ghost use Rattle.gix_object_editor.specs.Editor.{asked_by, files_of, leaf_of_kind, EachEntryHas, IsAsRead};
-ghost use Rattle.gix_object_editor.specs.Entries.{Property, PassesDown};
-ghost use Rattle.history_files.specs.Editing.{HavePaths};
-ghost use Rattle.std.specs.List.{AllByRecursion};
-ghost use Rattle.history_files.specs.Entries.{MayPut, MayBeMade, GraftsStand, found_leaf};
+ghost use Rattle.gix_object_editor.specs.Editor.{IsAsRead, OverStored, asked_by, leaf_of_kind};
+ghost use Rattle.gix_object_editor.specs.Outcomes.{KeepsEach};
+ghost use Rattle.history_files.specs.Entries.{MayBeMade, MayPut, found_leaf};
 ghost use Rattle.history_files.specs.Lookups.{AsksOf, edit_way};
-ghost use Rattle.history_files.specs.Opening.{EditsFiles, MakingFault, TellsBroken};
-ghost use Rattle.history_model.specs.FileMap as model;
-ghost use Rattle.history_model.specs.FileMap.{FileMap, components, edited, is_path, is_refused};
+ghost use Rattle.history_files.specs.Making.{AcceptsEdit, AcceptsEdits, MakesEdit, MakesEdits, RefusesEdit, RefusesEdits};
+ghost use Rattle.history_files.specs.Opening.{TellsBroken};
+ghost use Rattle.history_model.specs.FileMap.{components};
 ghost use Rattle.history_files.specs.Unfolding as unfolded;
-ghost use Rattle.history_files.specs.Unfolding.{IsUnfolded};
-ghost use Rattle.history_files.specs.Edits.{AreEdits, IsEdit, EditsMake, EditsPass, name_count, as_edited, as_opened, as_unread};
+ghost use Rattle.history_files.specs.Edits.{name_count, as_edited, as_opened, as_unread};
 ghost use Rattle.history_files.specs.declared.edits.EditError.TheVariants.{Failed, Memory};
 
 use crate::error::ReadError;
 use crate::found::Found;
-use crate::names::names_of;
+use crate::paths::names_of;
 use gix_hash::{Kind, ObjectId};
 use gix_object_editor::tree::editor::{self, Editor};
 use gix_object_lines::decode;
@@ -153,30 +147,18 @@ pub fn make_edits<S: FindInto>(
     editor: &mut Editor<S>,
     edits: &[Edit<'_>],
 ) -> Result<(), EditError>
-    ensures files { S.is_honest editor.old.store
-        → OnOk result (EditsMake (S.table editor.old.store) edits.now
-        (λ trees. files_of trees editor.old) (λ trees. files_of trees editor.new)) }
-    ensures accepted { S.is_honest editor.old.store
-        → OnOk result (EditsPass (S.table editor.old.store) edits.now
-        (λ trees. files_of trees editor.old)) }
-    ensures refused { S.is_honest editor.old.store
-        → (kind : Kind) (stands : List FileMap) (files : FileMap) (made : List model.Edit)
-        → EditsFiles (S.table editor.old.store) kind stands files editor.old
-        → HavePaths made → AreEdits (S.table editor.old.store) kind edits.now made
-        → AllByRecursion (GraftsStand stands) made
-        → IfErr result (MakingFault (S.may_fail editor.old.store) files made) }
+    ensures files { MakesEdits S.is_honest S.table edits.now editor.old editor.new result }
+    ensures accepted { AcceptsEdits S.is_honest S.table edits.now editor.old result }
+    ensures refused { RefusesEdits S.is_honest S.may_fail S.table edits.now editor.old result }
     ensures broken { IfErr result
         (TellsBroken (S.is_honest editor.old.store) (S.table editor.old.store)) }
-    ensures each { S.is_honest editor.old.store → (has : Property)
-        → PassesDown (S.table editor.old.store) has → MayBeMade has edits.now
-        → EachEntryHas has editor.old → EachEntryHas has editor.new }
-    ensures as_read { S.is_honest editor.old.store
-        → (trees : Trees) → HasStored (S.table editor.old.store) trees
-        → IsAsRead trees editor.old → IsAsRead trees editor.new }
-    ensures asked { S.is_honest editor.old.store
-        → (trees : Trees) → HasStored (S.table editor.old.store) trees
-        → OnOk result (AsksOf (λ names. asked_by editor.old names trees) edits.now
-        editor.old.lookups editor.new.lookups) }
+    ensures each { KeepsEach S.is_honest S.table (λ has. MayBeMade has edits.now) editor.old
+        editor.new }
+    ensures as_read { OverStored (S.is_honest editor.old.store) (S.table editor.old.store)
+        (λ trees. IsAsRead trees editor.old → IsAsRead trees editor.new) }
+    ensures asked { OverStored (S.is_honest editor.old.store) (S.table editor.old.store)
+        (λ trees. OnOk result (AsksOf (λ names. asked_by editor.old names trees) edits.now
+        editor.old.lookups editor.new.lookups)) }
     ensures counted { editor.new.lookups ≤ editor.old.lookups + name_count edits.now }
     ensures store { editor.new.store ≡ editor.old.store }
     ensures failed { IsErrOf result Failed → S.may_fail editor.old.store }
@@ -187,43 +169,24 @@ pub fn make_edits<S: FindInto>(
     Ok(())
 }
 
-// Makes one edit.
-fn make_edit<S: FindInto>(
+/// Makes one edit.
+pub(crate) fn make_edit<S: FindInto>(
     alloc: Global,
     editor: &mut Editor<S>,
     edit: &Edit<'_>,
 ) -> Result<(), EditError>
-    ensures files { S.is_honest editor.old.store
-        → OnOk result ((trees : Trees) (kind : Kind) (files : FileMap) (made : model.Edit)
-        → HasStored (S.table editor.old.store) trees
-        → IsEdit (S.table editor.old.store) kind edit.now made
-        → IsUnfolded kind files (files_of trees editor.old)
-        → IsUnfolded kind (edited files made) (files_of trees editor.new)) }
-    ensures accepted { S.is_honest editor.old.store
-        → OnOk result ((trees : Trees) (kind : Kind) (files : FileMap) (made : model.Edit)
-        → HasStored (S.table editor.old.store) trees
-        → IsEdit (S.table editor.old.store) kind edit.now made
-        → IsUnfolded kind files (files_of trees editor.old)
-        → IsFalse (is_refused files made)) }
-    ensures refused { S.is_honest editor.old.store
-        → (kind : Kind) (stands : List FileMap) (files : FileMap) (made : model.Edit)
-        → EditsFiles (S.table editor.old.store) kind stands files editor.old
-        → IsTrue (is_path edit.now.path.now)
-        → IsEdit (S.table editor.old.store) kind edit.now made → GraftsStand stands made
-        → IfErr result (MakingFault (S.may_fail editor.old.store) files (made ∷ [])) }
+    ensures files { MakesEdit S.is_honest S.table edit.now editor.old editor.new result }
+    ensures accepted { AcceptsEdit S.is_honest S.table edit.now editor.old result }
+    ensures refused { RefusesEdit S.is_honest S.may_fail S.table edit.now editor.old result }
     ensures broken { IfErr result
         (TellsBroken (S.is_honest editor.old.store) (S.table editor.old.store)) }
-    ensures each { S.is_honest editor.old.store → (has : Property)
-        → PassesDown (S.table editor.old.store) has
-        → MayPut has edit.now.path.now edit.now.change
-        → EachEntryHas has editor.old → EachEntryHas has editor.new }
-    ensures as_read { S.is_honest editor.old.store
-        → (trees : Trees) → HasStored (S.table editor.old.store) trees
-        → IsAsRead trees editor.old → IsAsRead trees editor.new }
-    ensures asked { S.is_honest editor.old.store
-        → (trees : Trees) → HasStored (S.table editor.old.store) trees
-        → OnOk result (CountsUp editor.old.lookups editor.new.lookups
-        (length (asked_by editor.old (edit_way edit.now) trees))) }
+    ensures each { KeepsEach S.is_honest S.table
+        (λ has. MayPut has edit.now.path.now edit.now.change) editor.old editor.new }
+    ensures as_read { OverStored (S.is_honest editor.old.store) (S.table editor.old.store)
+        (λ trees. IsAsRead trees editor.old → IsAsRead trees editor.new) }
+    ensures asked { OverStored (S.is_honest editor.old.store) (S.table editor.old.store)
+        (λ trees. OnOk result (CountsUp editor.old.lookups editor.new.lookups
+        (length (asked_by editor.old (edit_way edit.now) trees)))) }
     ensures counted { editor.new.lookups
         ≤ editor.old.lookups + length (components edit.now.path.now) }
     ensures store { editor.new.store ≡ editor.old.store }

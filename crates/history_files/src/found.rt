@@ -14,7 +14,7 @@ ghost use Rattle.history_files.specs.declared.error.ReadError.TheVariants.{Faile
 ghost use Rattle.history_files.specs.declared.found.Found.TheVariants.{File, Folder};
 
 use crate::error::ReadError;
-use crate::names::names_of;
+use crate::paths::names_of;
 use gix_hash::ObjectId;
 use gix_object_lines::decode;
 use gix_object_lookup::{self as lookup, FindInto};

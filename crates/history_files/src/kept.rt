@@ -1,51 +1,24 @@
-//! All files below a root; each distinct tree is read once.
+//! All trees below a root, and all files; each distinct tree is read once.
 
-ghost use Rattle.std.specs.Prelude.{◌≡◌, ◌++◌, map, IfOk, IfErr, IsErrOf, OnOk};
+ghost use Rattle.std.specs.Prelude.{◌≡◌, map, IfOk, IfErr, IsErrOf, OnOk};
 ghost use Rattle.std.specs.FinMap.{entries};
 ghost use Rattle.gix_hash.specs.Id.{id_of};
 ghost use Rattle.gix_object_lookup.specs.declared.find.Error.TheVariants as looked_up;
 ghost use Rattle.history_model.specs.Answers.{file_line};
-ghost use Rattle.history_files.specs.KeptTrees.{AreKept, ids_of, kept_or};
+ghost use Rattle.history_files.specs.KeptTrees.{AreOf};
 ghost use Rattle.history_files.specs.Reading.{OfFiles, OwnFault, line_of};
 ghost use Rattle.history_files.specs.declared.error.ReadError.TheVariants.{Failed};
 
 use crate::error::ReadError;
 use crate::listing::{File, files};
-use gix_hash::{ObjectId, oid};
-use gix_object_lines::{Kind, decode};
+use crate::read_trees::{ReadTrees, TreeStore};
+use gix_hash::ObjectId;
+use gix_object_lines::decode;
+use gix_object_lookup::FindInto;
 use gix_object_lookup::find::Error;
-use gix_object_lookup::{FindInto, Lookup};
 use gix_object_tree::TreeRefIter;
 use std::alloc::{AllocError, Global};
-use std::collections::BTreeMap;
-
-// The contents of trees under their ids, and a store for what isn't among them.
-#[derive(Drop)]
-struct KeptTrees<S> {
-    contents: BTreeMap<ObjectId, Vec<u8>>,
-    store: S,
-}
-
-impl<S: Lookup> Lookup for KeptTrees<S> {
-    ghost table = { λ kept. kept_or kept.contents (S.table kept.store) };
-
-    ghost ids = { λ kept. ids_of kept.contents ++ S.ids kept.store };
-
-    ghost is_honest = { λ kept. S.is_honest kept.store };
-
-    ghost may_fail = { λ kept. S.may_fail kept.store };
-}
-
-impl<S: FindInto> FindInto for KeptTrees<S> {
-    fn find_into(&self, id: oid<'_>, buffer: &mut Vec<u8>) -> Result<Option<Kind>, Error> {
-        let Some(content) = self.contents.get(&ObjectId::from(id)) else {
-            return self.store.find_into(id, buffer);
-        };
-        buffer.clear();
-        buffer.extend_from_slice(content)?;
-        Ok(Some(Kind::Tree))
-    }
-}
+use std::collections::BTreeSet;
 
 /// Like [`files`], errors included, but looks each distinct tree up once, however often it occurs:
 /// all of them are kept in memory meanwhile.
@@ -61,62 +34,50 @@ pub fn files_by_trees<S: FindInto>(
         (λ kind files. IfErr result (OwnFault (S.may_fail store.now))) }
     ensures failed { IsErrOf result Failed → S.may_fail store.now }
 {
-    let contents = trees_below(alloc, store, *root)?;
-    files(alloc, &KeptTrees { contents, store }, root)
+    let mut read = ReadTrees::new(alloc);
+    read_below(alloc, store, &mut read, *root)?;
+    files(alloc, &TreeStore { store, read: &read }, root)
 }
 
-// Returns the contents of the trees below a root, each read once. What can't be read is left out.
-fn trees_below<S: FindInto>(
+/// Reads a root's tree and all trees below it, but those that are kept. What can't be read is left
+/// out.
+///
+/// Returns `Failed` if a lookup failed, and `Memory` if no memory is left.
+pub fn read_below<S: FindInto>(
     alloc: Global,
     store: &S,
+    read: &mut ReadTrees,
     root: ObjectId,
-) -> Result<BTreeMap<ObjectId, Vec<u8>>, Error>
-    ensures kept { S.is_honest store.now → IfOk result (AreKept (S.table store.now)) }
+) -> Result<(), Error>
+    ensures kept { S.is_honest store.now → AreOf (S.table store.now) read.old
+        → OnOk result (AreOf (S.table store.now) read.new) }
     ensures failed { IsErrOf result looked_up.Failed → S.may_fail store.now }
 {
-    let mut contents = BTreeMap::new(alloc);
+    let mut seen = BTreeSet::new(alloc);
     let mut waiting = Vec::new(alloc);
     waiting.push(root)?;
     'reading: for _ in 0..u64::MAX {
         let Some(id) = waiting.pop() else {
-            return Ok(contents);
+            return Ok(());
         };
-        read_tree(alloc, store, id, &mut contents, &mut waiting)?;
+        if seen.insert(id)? {
+            read.read(alloc, store, &id)?;
+            add_folders(alloc, &mut waiting, id, read)?;
+        }
     }
-    Ok(contents)
-}
-
-// Reads a tree that isn't kept yet, and adds its folders to the waiting trees.
-fn read_tree<S: FindInto>(
-    alloc: Global,
-    store: &S,
-    id: ObjectId,
-    contents: &mut BTreeMap<ObjectId, Vec<u8>>,
-    waiting: &mut Vec<ObjectId>,
-) -> Result<(), Error>
-    ensures kept { S.is_honest store.now → AreKept (S.table store.now) contents.old
-        → OnOk result (AreKept (S.table store.now) contents.new) }
-    ensures failed { IsErrOf result looked_up.Failed → S.may_fail store.now }
-{
-    if contents.contains_key(&id) {
-        return Ok(());
-    }
-    let mut content = Vec::new(alloc);
-    let Some(Kind::Tree) = store.find_into(id.as_oid(), &mut content)? else {
-        return Ok(());
-    };
-    add_folders(alloc, waiting, id, &content)?;
-    contents.insert(id, content)?;
     Ok(())
 }
 
-// Adds the folders that a tree's content names, if it can be read.
+// Adds the folders that a kept tree's content names, if it can be read.
 fn add_folders(
     alloc: Global,
     waiting: &mut Vec<ObjectId>,
     id: ObjectId,
-    content: &[u8],
+    read: &ReadTrees,
 ) -> Result<(), AllocError> {
+    let Some(content) = read.content(&id) else {
+        return Ok(());
+    };
     match TreeRefIter::from_bytes(content, id.kind()).entries(alloc) {
         Ok(entries) => {
             for entry in &entries {

@@ -1,12 +1,12 @@
 //! Trees that were read, and a store in which they aren't looked up again.
 
-ghost use Rattle.std.specs.Prelude.{◌++◌, IsErrOf, MatchOption, OnOk, ⊤};
+ghost use Rattle.std.specs.Prelude.{◌++◌, IsErrOf, MatchOption, None, OnOk, ⊤};
 ghost use Rattle.gix_hash.specs.Id.{id_of};
 ghost use Rattle.gix_object_lines.specs.declared.kind.Kind.TheVariants as kinds;
 ghost use Rattle.gix_object_lookup.specs.Existing.{Stands};
 ghost use Rattle.gix_object_lookup.specs.Table.{Table};
 ghost use Rattle.gix_object_lookup.specs.declared.find.Error.TheVariants as looked_up;
-ghost use Rattle.history_files.specs.KeptTrees.{AreOf, ids_of};
+ghost use Rattle.history_files.specs.KeptTrees.{AreOf, ids_of, kept_or};
 
 use gix_hash::{ObjectId, oid};
 use gix_object_lines::Kind;
@@ -15,7 +15,8 @@ use gix_object_lookup::{FindInto, Lookup};
 use std::alloc::{AllocError, Global};
 use std::collections::BTreeMap;
 
-/// The contents of trees, under their ids. A lookup of one fails only if memory runs out.
+/// The contents of trees, under their ids. A lookup of one fails only if memory runs out; of what
+/// isn't kept it finds nothing.
 #[derive(Drop)]
 pub struct ReadTrees {
     contents: BTreeMap<ObjectId, Vec<u8>>,
@@ -44,7 +45,7 @@ impl ReadTrees {
     }
 
     /// Returns the content of the tree of this id, if it is kept.
-    pub(crate) fn content(&self, id: &ObjectId) -> Option<&[u8]>
+    pub fn content(&self, id: &ObjectId) -> Option<&[u8]>
         ensures { (table : Table) → AreOf table self.now → MatchOption result ⊤ (λ content.
             Stands table (id_of id.now) kinds.Tree content.now) }
     {
@@ -82,6 +83,27 @@ impl ReadTrees {
             self.keep(*id, content)?;
         }
         Ok(())
+    }
+}
+
+impl Lookup for ReadTrees {
+    ghost table = { λ it. kept_or it.contents (λ _. None) };
+
+    ghost ids = { λ it. ids_of it.contents };
+
+    ghost is_honest = { λ _. ⊤ };
+
+    ghost may_fail = { λ _. ⊥ };
+}
+
+impl FindInto for ReadTrees {
+    fn find_into(&self, id: oid<'_>, buffer: &mut Vec<u8>) -> Result<Option<Kind>, Error> {
+        buffer.clear();
+        let Some(content) = self.contents.get(&ObjectId::from(id)) else {
+            return Ok(None);
+        };
+        buffer.extend_from_slice(content)?;
+        Ok(Some(Kind::Tree))
     }
 }
 

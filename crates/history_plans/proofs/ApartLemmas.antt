@@ -24,9 +24,8 @@ use Rattle.history_plans.specs.Apart.{HaveAll, do_lines_collide, is_made, made_n
 use Rattle.history_plans.specs.Moving.{AreLines, bars, line_name}
 use Rattle.history_plans.specs.declared.moving.Line.{Line}
 use Rattle.history_repository.proofs.WordCauses.{any_map}
-use Rattle.history_plans.proofs.Collisions.{above_it}
+use Rattle.history_plans.proofs.Collisions.{above_it, is_below_it}
 use Rattle.history_plans.proofs.LineLemmas.{any_filter, line_names, line_stands, name_of, not_there}
-use Rattle.history_plans.proofs.NameWays.{is_below_it}
 use Rattle.history_plans.proofs.NewFolders.{none_pass}
 use Rattle.history_model.specs.Repository as plain
 
@@ -273,9 +272,9 @@ module _ (r : plain.Repository) where
   made_orders names (order ∷ orders) (line ∷ lines) are = λ i.
       ((sym (not_there line.held) ∙ ap not (line_stands r order line are.0)) i && list_any (do_collide ((are.0).name i)) names) || made_orders names orders lines are.1 i
 
-  module _ (order : MoveCommand) where
+  module _ (sent : MoveCommand) where
     abbrev own : To → Bool
-    own to = not (stands r to.name) && list_any (do_collide to.name) (map name_of order.to)
+    own to = not (stands r to.name) && list_any (do_collide to.name) (map name_of sent.to)
 
     turned : (a b : Bool) → (a || b) ≡ (b || a)
     turned true true = refl
@@ -284,19 +283,19 @@ module _ (r : plain.Repository) where
     turned false false = refl
 
     abbrev meets : Bytes → Bool
-    meets made = list_any (do_collide made) (keys r.names ++ map name_of order.to)
+    meets made = list_any (do_collide made) (keys r.names ++ map name_of sent.to)
 
     parted : (to : To) → (not (stands r to.name) && meets to.name) ≡ (own to || bars r to)
     parted to =
-        ap (λ b. not (stands r to.name) && b) (list_any-append (do_collide to.name) (keys r.names) (map name_of order.to))
-        ∙ and_or (not (stands r to.name)) (list_any (do_collide to.name) (keys r.names)) (list_any (do_collide to.name) (map name_of order.to))
+        ap (λ b. not (stands r to.name) && b) (list_any-append (do_collide to.name) (keys r.names) (map name_of sent.to))
+        ∙ and_or (not (stands r to.name)) (list_any (do_collide to.name) (keys r.names)) (list_any (do_collide to.name) (map name_of sent.to))
         ∙ turned (bars r to) (own to)
 
     -- the names collide among themselves, or one does with those that exist
-    pub collide_parts : (lines : List Line) → AreLines r order.to lines → some_collide r (Move order) ≡ (do_lines_collide lines || list_any (bars r) order.to)
+    pub collide_parts : (lines : List Line) → AreLines r sent.to lines → some_collide r (Move sent) ≡ (do_lines_collide lines || list_any (bars r) sent.to)
     collide_parts lines are =
-        any_filter meets (λ name. not (stands r name)) (map name_of order.to) ∙ any_map (λ name. not (stands r name) && meets name) name_of order.to
-        ∙ any_same (λ to. not (stands r to.name) && meets to.name) (λ to. own to || bars r to) order.to parted
-        ∙ any_or own (bars r) order.to
-        ∙ ap (λ b. b || list_any (bars r) order.to) (sym (made_orders (map name_of order.to) order.to lines are)
-        ∙ ap (λ ns. list_any (λ line. is_made line && list_any (do_collide (line_name line)) ns) lines) (sym (line_names r order.to lines are)))
+        any_filter meets (λ name. not (stands r name)) (map name_of sent.to) ∙ any_map (λ name. not (stands r name) && meets name) name_of sent.to
+        ∙ any_same (λ to. not (stands r to.name) && meets to.name) (λ to. own to || bars r to) sent.to parted
+        ∙ any_or own (bars r) sent.to
+        ∙ ap (λ b. b || list_any (bars r) sent.to) (sym (made_orders (map name_of sent.to) sent.to lines are)
+        ∙ ap (λ ns. list_any (λ line. is_made line && list_any (do_collide (line_name line)) ns) lines) (sym (line_names r sent.to lines are)))

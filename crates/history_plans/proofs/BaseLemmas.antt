@@ -40,32 +40,32 @@ use Rattle.gix_ref_file.specs.declared.files.FileError.TheVariants.{Failed, Memo
 use Rattle.history_repository.specs.Faults.{file_fault}
 use Rattle.history_repository.proofs.NameReads.{held}
 use Rattle.history_files.proofs.Lines.{map_twice}
-use Rattle.history_word.specs.declared.command.Expect.TheVariants as sent
+use Rattle.history_word.specs.declared.command.Expect.TheVariants as expects
 
 -- ---- what is expected
 
-pub any_sent : (r : Repository) (expect : Expect) → IsExpect sent.Any expect → IsExpected r expect expected.Any
+pub any_sent : (r : Repository) (expect : Expect) → IsExpect expects.Any expect → IsExpected r expect expected.Any
 any_sent r Any h = tt
 any_sent r New h = absurd h
 any_sent r (At word) h = absurd h
 
-pub new_sent : (r : Repository) (expect : Expect) → IsExpect sent.New expect → IsExpected r expect expected.New
+pub new_sent : (r : Repository) (expect : Expect) → IsExpect expects.New expect → IsExpected r expect expected.New
 new_sent r Any h = absurd h
 new_sent r New h = tt
 new_sent r (At word) h = absurd h
 
-pub at_sent : (r : Repository) (word : Vec ℕ Global) (meaning : own.WordMeaning) (expect : Expect) → IsExpect (sent.At word) expect → meaning_of meaning ≡ commit_or_cause r word.items → IsExpected r expect (expected.At meaning)
+pub at_sent : (r : Repository) (word : Vec ℕ Global) (meaning : own.WordMeaning) (expect : Expect) → IsExpect (expects.At word) expect → meaning_of meaning ≡ commit_or_cause r word.items → IsExpected r expect (expected.At meaning)
 at_sent r word meaning Any h is = absurd h
 at_sent r word meaning New h is = absurd h
 at_sent r word meaning (At bytes) h is = is ∙ ap (commit_or_cause r) h
 
 -- a fault of reading is reported whatever the causes are
-pub fault_told : (MayFail : Type 0) (causes : List Cause) (r : Repository) (order : CommitCommand) (stopped : Stopped) → IsReadingFault MayFail stopped → IsToldBy MayFail causes r order stopped
-fault_told MayFail causes r order (Refused cause) h = absurd h
-fault_told MayFail causes r order (Fault fault) h = h
+pub fault_told : (MayFail : Type 0) (causes : List Cause) (r : Repository) (sent : CommitCommand) (stopped : Stopped) → IsReadingFault MayFail stopped → IsToldBy MayFail causes r sent stopped
+fault_told MayFail causes r sent (Refused cause) h = absurd h
+fault_told MayFail causes r sent (Fault fault) h = h
 
-pub gives_told : {A : Type 0} (MayFail : Type 0) (P : A → Type 0) (causes : List Cause) (r : Repository) (order : CommitCommand) (result : Result A Stopped) (stopped : Stopped) → result ≡ Err stopped → GivesMeant MayFail P result → IsToldBy MayFail causes r order stopped
-gives_told {A} MayFail P causes r order result stopped was gives = fault_told MayFail causes r order stopped (subst (λ (x : Result A Stopped). GivesMeant MayFail P x) was gives)
+pub gives_told : {A : Type 0} (MayFail : Type 0) (P : A → Type 0) (causes : List Cause) (r : Repository) (sent : CommitCommand) (result : Result A Stopped) (stopped : Stopped) → result ≡ Err stopped → GivesMeant MayFail P result → IsToldBy MayFail causes r sent stopped
+gives_told {A} MayFail P causes r sent result stopped was gives = fault_told MayFail causes r sent stopped (subst (λ (x : Result A Stopped). GivesMeant MayFail P x) was gives)
 
 -- ---- words
 
@@ -179,14 +179,14 @@ module _ (r : Repository) where
       of_held None has = words_rooted meanings rooted
       of_held (Some held) has = (has, words_rooted meanings rooted)
 
-module _ (r : Repository) (order : CommitCommand) where
+module _ (r : Repository) (sent : CommitCommand) where
   -- the words of the parents, and then those of the edits
   abbrev pub others : List Bytes
-  others = order.parents ++ flat_map edit_words order.edits
+  others = sent.parents ++ flat_map edit_words sent.edits
 
-  all_told : first_among word_causes r (Commit order) ≡ words_cause (map (commit_or_cause r) (at_word order.expect ++ others))
+  all_told : first_among word_causes r (Commit sent) ≡ words_cause (map (commit_or_cause r) (at_word sent.expect ++ others))
   all_told =
-      let words = at_word order.expect ++ others in
+      let words = at_word sent.expect ++ others in
       words_told r words (map (commit_or_cause r) words) (λ test. any_map test (commit_or_cause r) words) None
 
   at_meanings : (expect : Expect) (what : Expected) → IsExpected r expect what → expected_meanings what ≡ map (commit_or_cause r) (at_word expect)
@@ -201,22 +201,22 @@ module _ (r : Repository) (order : CommitCommand) where
   at_meanings (At word) expected.New is = absurd is
 
   -- what the parents' words mean
-  pub parent_meanings : (words : List (Vec ℕ Global)) (meanings : List own.WordMeaning) → map (λ (word : Vec ℕ Global). word.items) words ≡ order.parents
-      → map meaning_of meanings ≡ map (λ (word : Vec ℕ Global). commit_or_cause r word.items) words → map meaning_of meanings ≡ map (commit_or_cause r) order.parents
+  pub parent_meanings : (words : List (Vec ℕ Global)) (meanings : List own.WordMeaning) → map (λ (word : Vec ℕ Global). word.items) words ≡ sent.parents
+      → map meaning_of meanings ≡ map (λ (word : Vec ℕ Global). commit_or_cause r word.items) words → map meaning_of meanings ≡ map (commit_or_cause r) sent.parents
   parent_meanings words meanings are is = is ∙ sym (map_twice (commit_or_cause r) (λ (word : Vec ℕ Global). word.items) words) ∙ ap (map (commit_or_cause r)) are
 
-  pub words_so : (what : Expected) (meanings : List own.WordMeaning) → IsExpected r order.expect what → map meaning_of meanings ≡ map (commit_or_cause r) others
-      → first_among word_causes r (Commit order) ≡ words_cause (expected_meanings what ++ map meaning_of meanings)
+  pub words_so : (what : Expected) (meanings : List own.WordMeaning) → IsExpected r sent.expect what → map meaning_of meanings ≡ map (commit_or_cause r) others
+      → first_among word_causes r (Commit sent) ≡ words_cause (expected_meanings what ++ map meaning_of meanings)
   words_so what meanings is are =
       all_told
-      ∙ ap words_cause (map-append (commit_or_cause r) (at_word order.expect) others ∙ (λ i. sym (at_meanings order.expect what is) i ++ sym are i))
+      ∙ ap words_cause (map-append (commit_or_cause r) (at_word sent.expect) others ∙ (λ i. sym (at_meanings sent.expect what is) i ++ sym are i))
 
   -- those of the edits, of which each has one at most
-  pub others_meant : (parents : List own.WordMeaning) (sources : List (Option own.WordMeaning)) (all : List own.WordMeaning) → map meaning_of parents ≡ map (commit_or_cause r) order.parents
-      → map (option_map meaning_of) sources ≡ map (λ line. option_map (commit_or_cause r) (line_word line)) order.edits → all ≡ parents ++ filter_map (λ source. source) sources → map meaning_of all ≡ map (commit_or_cause r) others
+  pub others_meant : (parents : List own.WordMeaning) (sources : List (Option own.WordMeaning)) (all : List own.WordMeaning) → map meaning_of parents ≡ map (commit_or_cause r) sent.parents
+      → map (option_map meaning_of) sources ≡ map (λ line. option_map (commit_or_cause r) (line_word line)) sent.edits → all ≡ parents ++ filter_map (λ source. source) sources → map meaning_of all ≡ map (commit_or_cause r) others
   others_meant parents sources all are told is =
-      ap (map meaning_of) is ∙ map-append meaning_of parents (filter_map (λ source. source) sources) ∙ (λ i. are i ++ sources_meant r order.edits sources told i)
-      ∙ sym (map-append (commit_or_cause r) order.parents (flat_map edit_words order.edits))
+      ap (map meaning_of) is ∙ map-append meaning_of parents (filter_map (λ source. source) sources) ∙ (λ i. are i ++ sources_meant r sent.edits sources told i)
+      ∙ sym (map-append (commit_or_cause r) sent.parents (flat_map edit_words sent.edits))
 
 -- ---- what the name holds
 
@@ -260,18 +260,18 @@ module _ (r : Repository) (name : Bytes) where
       → of_expect expect ≡ held_cause what (option_map id_of commit)
   expected_told expect what held commit is held_is same = by_expect expect what (option_map held_commit held) is (commit_stands r name held held_is) (sym held_is.commit) ∙ ap (held_cause what) (sym same)
 
-module _ (r : Repository) (order : CommitCommand) where
+module _ (r : Repository) (sent : CommitCommand) where
   abbrev name : Bytes
-  name = branch_or_name r order.name
+  name = branch_or_name r sent.name
 
-  pub held_told : (what : Expected) (held : Option Held) (commit : Option ObjectId) → IsExpected r order.expect what → IsHeld r name held → option_map id_of commit ≡ option_map held_commit held
-      → first_among held_causes r (Commit order) ≡ held_cause what (option_map id_of commit)
-  held_told what held commit is held_is same = expected_told r name order.expect what held commit is held_is same
+  pub held_told : (what : Expected) (held : Option Held) (commit : Option ObjectId) → IsExpected r sent.expect what → IsHeld r name held → option_map id_of commit ≡ option_map held_commit held
+      → first_among held_causes r (Commit sent) ≡ held_cause what (option_map id_of commit)
+  held_told what held commit is held_is same = expected_told r name sent.expect what held commit is held_is same
 
   -- ---- the parents
 
   pub parents_told : (held : Option Held) (first : Option PeeledCommit) (meanings : List own.WordMeaning) (commits : List PeeledCommit) → first ≡ option_map held_peeled held → option_map held_commit held ≡ name_commit r name
-      → map meaning_of meanings ≡ map (commit_or_cause r) order.parents → commits ≡ option_to_list first ++ filter_map peeled_in meanings → map peeled_id commits ≡ parents_of r order
+      → map meaning_of meanings ≡ map (commit_or_cause r) sent.parents → commits ≡ option_to_list first ++ filter_map peeled_in meanings → map peeled_id commits ≡ parents_of r sent
   parents_told held first meanings commits same at are is =
       ap (map peeled_id) is ∙ map-append peeled_id (option_to_list first) (filter_map peeled_in meanings)
       ∙ (λ i. front i ++ behind i)
@@ -287,13 +287,13 @@ module _ (r : Repository) (order : CommitCommand) where
       front : map peeled_id (option_to_list first) ≡ option_to_list (name_commit r name)
       front = told first ∙ ap option_to_list (ap (option_map peeled_id) same ∙ of_held held ∙ at)
 
-      behind : map peeled_id (filter_map peeled_in meanings) ≡ filter_map (commit_of r) order.parents
-      behind = peeled_ids r meanings ∙ commits_told r meanings order.parents are
+      behind : map peeled_id (filter_map peeled_in meanings) ≡ filter_map (commit_of r) sent.parents
+      behind = peeled_ids r meanings ∙ commits_told r meanings sent.parents are
 
-  pub ids_told : (commits : List PeeledCommit) (ids : List ObjectId) → map peeled_id commits ≡ parents_of r order → ids ≡ map (λ (commit : PeeledCommit). commit.id) commits → map id_of ids ≡ parents_of r order
+  pub ids_told : (commits : List PeeledCommit) (ids : List ObjectId) → map peeled_id commits ≡ parents_of r sent → ids ≡ map (λ (commit : PeeledCommit). commit.id) commits → map id_of ids ≡ parents_of r sent
   ids_told commits ids are is = ap (map id_of) is ∙ map_twice id_of (λ (commit : PeeledCommit). commit.id) commits ∙ are
 
-  pub parents_so : (parents : List ObjectId) → map id_of parents ≡ parents_of r order → first_among parent_causes r (Commit order) ≡ parents_cause (map id_of parents)
+  pub parents_so : (parents : List ObjectId) → map id_of parents ≡ parents_of r sent → first_among parent_causes r (Commit sent) ≡ parents_cause (map id_of parents)
   parents_so parents is = ap parents_cause (sym is)
 
 -- ---- one word after another
@@ -335,10 +335,10 @@ twice_told [] d some = cc
 twice_told (x ∷ xs) d some = ap (λ b. b || has_twice id_eq (map id_of xs)) (any_map (id_eq (id_of x)) id_of xs)
 
 -- a call of the files that failed
-pub file_told : {A B : Type 0} (MayFail : Type 0) (causes : List Cause) (r : Repository) (order : CommitCommand) (Q : B → Type 0) (result : Result A FileError) (ends : Result B Stopped) (error : FileError)
-    → result ≡ Err error → ends ≡ Err (Fault (file_fault error)) → (IsErrOf result Failed → MayFail) → Tests MayFail causes r order Q ends
-file_told {A} {B} MayFail causes r order Q result ends error was is_end failed =
-    subst (λ (x : Result B Stopped). Tests MayFail causes r order Q x) (sym is_end) (by_error error (subst (λ (x : Result A FileError). IsErrOf x Failed → MayFail) was failed))
+pub file_told : {A B : Type 0} (MayFail : Type 0) (causes : List Cause) (r : Repository) (sent : CommitCommand) (Q : B → Type 0) (result : Result A FileError) (ends : Result B Stopped) (error : FileError)
+    → result ≡ Err error → ends ≡ Err (Fault (file_fault error)) → (IsErrOf result Failed → MayFail) → Tests MayFail causes r sent Q ends
+file_told {A} {B} MayFail causes r sent Q result ends error was is_end failed =
+    subst (λ (x : Result B Stopped). Tests MayFail causes r sent Q x) (sym is_end) (by_error error (subst (λ (x : Result A FileError). IsErrOf x Failed → MayFail) was failed))
   where
     by_error : (error : FileError) → (IsErrOf {T = A} (Err error) Failed → MayFail) → IsReadingFault MayFail (Fault (file_fault error))
     by_error Failed may = may refl

@@ -1,21 +1,19 @@
 -- When a name collides with those that exist.
-use Rattle.std.proofs.Common.{◌≡◌, Bool, true, false, cond, not, ◌&&◌, ◌||◌, List, [], ◌∷◌, ◌++◌, length, drop, refl, ◌∙◌, ap, Some, None, append_assoc, nat_eq}
+use Rattle.std.proofs.Common.{◌≡◌, Bool, true, false, cond, not, ◌&&◌, ◌||◌, List, [], ◌∷◌, ◌++◌, length, drop, refl, sym, ◌∙◌, ap, Some, None, append_assoc, nat_eq}
 use Rattle.std.specs.List.{list_any, list_all}
 use Rattle.std.specs.FinMap.{keys}
 use Rattle.std.proofs.lemmas.List.Folds.{list_any-append}
 use Rattle.history_model.specs.Bytes.{Bytes, begins}
 use Rattle.history_model.specs.FileMap.{is_below}
 use Rattle.history_model.specs.Repository.{stands}
-use Rattle.history_model.specs.Forms.{is_name}
 use Rattle.history_model.specs.Commands.{Commit, CommitCommand}
 use Rattle.history_model.specs.Causes.{do_collide, holds_tag, some_collide}
 use Rattle.history_model.specs.declared.Cause.TheVariants.{Collides, HoldsTag}
 use Rattle.history_layout.proofs.OfferedFiles.{each_key}
 use Rattle.gix_ref_way.specs.Ways.{IsAbove}
 use Rattle.history_plans.specs.CommitCauses.{first_among, place_causes}
-use Rattle.history_plans.proofs.NameWays.{FitsAmong}
 use Rattle.std.proofs.lemmas.Bool.{not-true, or_from}
-use Rattle.history_model.proofs.WholePaths.{begins_parts}
+use Rattle.history_model.proofs.WholePaths.{begins_front, begins_parts}
 use Rattle.history_model.specs.Repository as plain
 
 -- ---- lists
@@ -52,12 +50,12 @@ below_itself name = go name
 pub above_it : (place path : Bytes) → is_below place path ≡ true → IsAbove place path
 above_it place path h = (drop (length (place ++ 47 ∷ [])) path, begins_parts (place ++ 47 ∷ []) path h ∙ append_assoc place (47 ∷ []) (drop (length (place ++ 47 ∷ [])) path))
 
--- a name that collides with no existing name fits among them
-pub fits_free : (r : plain.Repository) (name : Bytes) → is_name name ≡ true → list_any (do_collide name) (keys r.names) ≡ false → FitsAmong r name
-fits_free r name formed none = record {
-  named = formed;
-  apart = λ other there. not-true (do_collide name other) (each_key (λ k. not (do_collide name k)) r.names (all_not (do_collide name) (keys r.names) none) other there);
-}
+pub is_below_it : (place path : Bytes) → IsAbove place path → is_below place path ≡ true
+is_below_it place path (rest, is) = ap (begins (place ++ 47 ∷ [])) (is ∙ sym (append_assoc place (47 ∷ []) rest)) ∙ begins_front (place ++ 47 ∷ []) rest
+
+-- each existing name is apart from one that collides with none
+pub apart_free : (r : plain.Repository) (name : Bytes) → list_any (do_collide name) (keys r.names) ≡ false → (other : Bytes) → stands r other ≡ true → do_collide name other ≡ false
+apart_free r name none other there = not-true (do_collide name other) (each_key (λ k. not (do_collide name k)) r.names (all_not (do_collide name) (keys r.names) none) other there)
 
 -- ---- a command that is to make one name
 
@@ -84,6 +82,6 @@ module _ (r : plain.Repository) (name : Bytes) where
       last false = refl
 
 -- the first cause of a commit's place, by whether its name collides and whether it holds a tag
-pub place_told : (r : plain.Repository) (order : CommitCommand) (collides tag : Bool) → some_collide r (Commit order) ≡ collides → holds_tag r (Commit order) ≡ tag
-    → first_among place_causes r (Commit order) ≡ cond collides (Some Collides) (cond tag (Some HoldsTag) None)
-place_told r order collides tag is holds = λ i. cond (is i) (Some Collides) (cond (holds i) (Some HoldsTag) None)
+pub place_told : (r : plain.Repository) (sent : CommitCommand) (collides tag : Bool) → some_collide r (Commit sent) ≡ collides → holds_tag r (Commit sent) ≡ tag
+    → first_among place_causes r (Commit sent) ≡ cond collides (Some Collides) (cond tag (Some HoldsTag) None)
+place_told r sent collides tag is holds = λ i. cond (is i) (Some Collides) (cond (holds i) (Some HoldsTag) None)

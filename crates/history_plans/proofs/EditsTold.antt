@@ -1,10 +1,12 @@
 -- What edits of files report if they fail.
 use Rattle.std.proofs.Common.{◌≡◌, refl, sym, ◌∙◌, subst, List, [], ◌∷◌}
-use Rattle.std.specs.Prelude.{Option, Some, None, Result, Ok, Err, IfOk, IfErr, option_map}
+use Rattle.std.specs.Prelude.{Option, Some, None, Result, Ok, Err, IfOk, IfErr, IsErrAnd, OnOk, option_map}
 use Rattle.gix_hash.specs.Id.{Id, id_of}
 use Rattle.gix_hash.specs.declared.kind.Kind.{Kind}
 use Rattle.gix_hash.specs.declared.object_id.ObjectId.{ObjectId}
 use Rattle.gix_object_lookup.specs.Table.{Table}
+use Rattle.gix_object_lookup.specs.declared.find.Error as find
+use Rattle.gix_object_lookup.specs.declared.find.Error.TheVariants as looked_up
 use Rattle.gix_ref_file.specs.History.{History}
 use Rattle.history_model.specs.FileMap.{FileMap}
 use Rattle.history_model.specs.Meaning.{files_at, first_files}
@@ -13,9 +15,12 @@ use Rattle.history_files.specs.declared.trees.EditedFiles.{EditedFiles}
 use Rattle.history_files.specs.declared.edits.EditError.{EditError}
 use Rattle.history_store.specs.KnownObjects.{table_of, HoldsKnown}
 use Rattle.history_plans.specs.Files.{TellsEdited, unmade}
+use Rattle.history_repository.specs.Faults.{find_fault}
 use Rattle.history_repository.specs.TreesBefore.{IsTreeBefore}
 use Rattle.history_repository.specs.Stands.{Stands}
 use Rattle.history_repository.specs.declared.repository.Repository.{Repository}
+use Rattle.history_repository.specs.declared.stopped.Stopped.{Stopped}
+use Rattle.history_repository.specs.declared.stopped.Stopped.TheVariants.{Fault}
 use Rattle.history_repository.proofs.Tables.{root_of, holds_known, tables_same}
 use Rattle.history_model.specs.FileMap as model
 use Rattle.history_model.specs.Repository as plain
@@ -66,3 +71,15 @@ unmade_told r MayFail ids made paths refused.EmptyTree h = absurd h
 unmade_told r MayFail ids made paths refused.Failed h = h
 unmade_told r MayFail ids made paths (refused.Broken oid) h = absurd h
 unmade_told r MayFail ids made paths refused.Memory h = tt
+
+-- so is a lookup that failed
+pub find_told : (r : plain.Repository) (MayFail : Type 0) (ids : List Id) (made : List model.Edit) (result : Result (Option EditedFiles) Stopped) (error : find.Error) → IsErrAnd result (λ stopped. stopped ≡ Fault (find_fault error))
+    → (error ≡ looked_up.Failed → MayFail) → TellsEdited MayFail r ids made result
+find_told r MayFail ids made (Ok edited) error is fails = absurd is
+find_told r MayFail ids made (Err stopped) looked_up.Failed is fails = subst (λ (s : Stopped). TellsEdited MayFail r ids made (Err s)) (sym is) (fails refl)
+find_told r MayFail ids made (Err stopped) looked_up.Memory is fails = subst (λ (s : Stopped). TellsEdited MayFail r ids made (Err s)) (sym is) tt
+
+-- what holds at any rate holds if a call succeeds
+pub on_ok : {A E : Type 0} (result : Result A E) (P : Type 0) → P → OnOk result P
+on_ok (Ok value) P holds = holds
+on_ok (Err error) P holds = tt

@@ -50,28 +50,28 @@ here false x rest e = cc
 
 -- ---- the first cause of a commit
 
-module _ (r : Repository) (order : CommitCommand) where
-  pub refused_by_name : (cause : Cause) → first_among name_causes r (Commit order) ≡ Some cause → first_cause r (Commit order) ≡ Some cause
+module _ (r : Repository) (sent : CommitCommand) where
+  pub refused_by_name : (cause : Cause) → first_among name_causes r (Commit sent) ≡ Some cause → first_cause r (Commit sent) ≡ Some cause
   refused_by_name cause e =
-      find_in_front (λ cause. holds cause r (Commit order)) name_causes (form_causes ++ TooLarge ∷ []) cause e
+      find_in_front (λ cause. holds cause r (Commit sent)) name_causes (form_causes ++ TooLarge ∷ []) cause e
 
-  pub refused_by_form : (cause : Cause) → first_among name_causes r (Commit order) ≡ None → first_among (form_causes ++ TooLarge ∷ []) r (Commit order) ≡ Some cause → first_cause r (Commit order) ≡ Some cause
+  pub refused_by_form : (cause : Cause) → first_among name_causes r (Commit sent) ≡ None → first_among (form_causes ++ TooLarge ∷ []) r (Commit sent) ≡ Some cause → first_cause r (Commit sent) ≡ Some cause
   refused_by_form cause none e =
-      find_after_none (λ cause. holds cause r (Commit order)) name_causes (form_causes ++ TooLarge ∷ []) none ∙ e
+      find_after_none (λ cause. holds cause r (Commit sent)) name_causes (form_causes ++ TooLarge ∷ []) none ∙ e
 
   -- if all but the last cause are ruled out, it decides
-  pub refused_by_size : first_among name_causes r (Commit order) ≡ None → first_among form_causes r (Commit order) ≡ None → first_cause r (Commit order) ≡ first_among (TooLarge ∷ []) r (Commit order)
+  pub refused_by_size : first_among name_causes r (Commit sent) ≡ None → first_among form_causes r (Commit sent) ≡ None → first_cause r (Commit sent) ≡ first_among (TooLarge ∷ []) r (Commit sent)
   refused_by_size none formed =
-      find_after_none (λ cause. holds cause r (Commit order)) name_causes (form_causes ++ TooLarge ∷ []) none
-      ∙ find_after_none (λ cause. holds cause r (Commit order)) form_causes (TooLarge ∷ []) formed
+      find_after_none (λ cause. holds cause r (Commit sent)) name_causes (form_causes ++ TooLarge ∷ []) none
+      ∙ find_after_none (λ cause. holds cause r (Commit sent)) form_causes (TooLarge ∷ []) formed
 
 -- ---- what is too large
 
-module _ (r : Repository) (order : CommitCommand) where
-  pub long_content : list_any is_long (contents_in (Commit order)) ≡ true → is_too_large r (Commit order) ≡ true
+module _ (r : Repository) (sent : CommitCommand) where
+  pub long_content : list_any is_long (contents_in (Commit sent)) ≡ true → is_too_large r (Commit sent) ≡ true
   long_content e =
-      list_any-append is_long (contents_in (Commit order)) (map (content_of r.kind) (stored_by r (Commit order)))
-      ∙ ap (λ b. b || list_any is_long (map (content_of r.kind) (stored_by r (Commit order)))) e
+      list_any-append is_long (contents_in (Commit sent)) (map (content_of r.kind) (stored_by r (Commit sent)))
+      ∙ ap (λ b. b || list_any is_long (map (content_of r.kind) (stored_by r (Commit sent)))) e
 
   -- a commit's content holds its message
   long_commit : (commit : CommitValue) → max_content < length commit.message → is_long (commit_content r.kind commit) ≡ true
@@ -80,17 +80,17 @@ module _ (r : Repository) (order : CommitCommand) where
       ++ line (codes "author " ++ actor_text commit.author) ++ line (codes "committer " ++ actor_text commit.committer) ++ line [] in
       beyond max_content (length (front ++ commit.message)) (omega (arith, length-append front commit.message))
 
-  pub long_message : max_content < length order.message → is_too_large r (Commit order) ≡ true
+  pub long_message : max_content < length sent.message → is_too_large r (Commit sent) ≡ true
   long_message large =
-      let before = flat_map put_bytes (edits_of r order) ++ map StoredFolder (folders_of (new_commit r order).files) in
-      let last = long_commit (new_commit r order) large in
-      list_any-append is_long (contents_in (Commit order)) (map (content_of r.kind) (stored_by r (Commit order)))
-      ∙ ap (λ b. list_any is_long (contents_in (Commit order)) || b)
-      (ap (list_any is_long) (map-append (content_of r.kind) before (StoredCommit (new_commit r order) ∷ []))
-      ∙ list_any-append is_long (map (content_of r.kind) before) (commit_content r.kind (new_commit r order) ∷ [])
+      let before = flat_map put_bytes (edits_of r sent) ++ map StoredFolder (folders_of (new_commit r sent).files) in
+      let last = long_commit (new_commit r sent) large in
+      list_any-append is_long (contents_in (Commit sent)) (map (content_of r.kind) (stored_by r (Commit sent)))
+      ∙ ap (λ b. list_any is_long (contents_in (Commit sent)) || b)
+      (ap (list_any is_long) (map-append (content_of r.kind) before (StoredCommit (new_commit r sent) ∷ []))
+      ∙ list_any-append is_long (map (content_of r.kind) before) (commit_content r.kind (new_commit r sent) ∷ [])
       ∙ ap (λ b. list_any is_long (map (content_of r.kind) before) || (b || false)) last
       ∙ or_true (list_any is_long (map (content_of r.kind) before)))
-      ∙ or_true (list_any is_long (contents_in (Commit order)))
+      ∙ or_true (list_any is_long (contents_in (Commit sent)))
     where
       or_true : (a : Bool) → (a || true) ≡ true
       or_true true = refl
@@ -98,20 +98,20 @@ module _ (r : Repository) (order : CommitCommand) where
 
 -- ---- what follows if no cause of the form holds
 
-module _ (r : Repository) (order : CommitCommand) (formed : first_among form_causes r (Commit order) ≡ None) where
-  pub good_paths : list_any is_bad_path (paths_in (Commit order)) ≡ false
-  good_paths = (or_parts (list_any is_bad_path (paths_in (Commit order))) (list_any is_bad_path (grafted_in r (Commit order)))
-      (sym (list_any-append is_bad_path (paths_in (Commit order)) (grafted_in r (Commit order))) ∙ (none_of _ _ _ formed).0)).0
+module _ (r : Repository) (sent : CommitCommand) (formed : first_among form_causes r (Commit sent) ≡ None) where
+  pub good_paths : list_any is_bad_path (paths_in (Commit sent)) ≡ false
+  good_paths = (or_parts (list_any is_bad_path (paths_in (Commit sent))) (list_any is_bad_path (grafted_in r (Commit sent)))
+      (sym (list_any-append is_bad_path (paths_in (Commit sent)) (grafted_in r (Commit sent))) ∙ (none_of _ _ _ formed).0)).0
 
   abbrev Holds : Cause → Bool
-  Holds cause = holds cause r (Commit order)
+  Holds cause = holds cause r (Commit sent)
 
   behind_paths : find Holds (BadActor ∷ BadTime ∷ BadMessage ∷ []) ≡ None
   behind_paths = (find_none Holds NoSuchPath (BadActor ∷ BadTime ∷ BadMessage ∷ []) (find_none Holds IsFolder (NoSuchPath ∷ BadActor ∷ BadTime ∷ BadMessage ∷ [])
       (find_none Holds BadPath (IsFolder ∷ NoSuchPath ∷ BadActor ∷ BadTime ∷ BadMessage ∷ []) formed).1).1).1
 
-  pub good_actors : (is_bad_actor order.author ≡ false) × (is_bad_actor order.committer ≡ false)
+  pub good_actors : (is_bad_actor sent.author ≡ false) × (is_bad_actor sent.committer ≡ false)
   good_actors =
-      let bad : (is_bad_actor order.author || (is_bad_actor order.committer || false)) ≡ false = (find_none Holds BadActor (BadTime ∷ BadMessage ∷ []) behind_paths).0 in
-      let actors = or_parts (is_bad_actor order.author) (is_bad_actor order.committer || false) bad in
-      (actors.0, (or_parts (is_bad_actor order.committer) false actors.1).0)
+      let bad : (is_bad_actor sent.author || (is_bad_actor sent.committer || false)) ≡ false = (find_none Holds BadActor (BadTime ∷ BadMessage ∷ []) behind_paths).0 in
+      let actors = or_parts (is_bad_actor sent.author) (is_bad_actor sent.committer || false) bad in
+      (actors.0, (or_parts (is_bad_actor sent.committer) false actors.1).0)

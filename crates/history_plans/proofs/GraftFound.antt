@@ -25,7 +25,7 @@ use Rattle.history_files.specs.declared.found.Found.{Found}
 use Rattle.history_word.specs.Commands.{IsEdit}
 use Rattle.history_word.specs.declared.command.Edit.{Edit}
 use Rattle.history_word.specs.declared.command.Edit.TheVariants.{Put, Remove, RemoveFile, Graft}
-use Rattle.history_word.specs.declared.command.Graft as sent
+use Rattle.history_word.specs.declared.command.Graft as grafts
 use Rattle.history_repository.specs.Reads.{GivesMeant, IsReadingFault}
 use Rattle.history_repository.specs.Fields.{kept_bytes}
 use Rattle.history_repository.specs.Meant.{HasRoot, peeled_id}
@@ -48,7 +48,7 @@ fault_told MayFail made IsRead (Refused cause) fault = absurd fault
 fault_told MayFail made IsRead (Fault reason) fault = fault
 
 -- for an edit that is no graft nothing need be found
-pub none_found : (MayFail : Type 0) (r : plain.Repository) (edit : Edit) → ((graft : sent.Graft) → edit ≡ Graft graft → ⊥) → TellsRead MayFail (kept_edit r edit ∷ []) (IsFoundFor r edit) (Ok None)
+pub none_found : (MayFail : Type 0) (r : plain.Repository) (edit : Edit) → ((graft : grafts.Graft) → edit ≡ Graft graft → ⊥) → TellsRead MayFail (kept_edit r edit ∷ []) (IsFoundFor r edit) (Ok None)
 none_found MayFail r (Put put) apart = (refl, tt)
 none_found MayFail r (Remove path) apart = (refl, tt)
 none_found MayFail r (RemoveFile path) apart = (refl, tt)
@@ -59,7 +59,7 @@ pub stopped_as : {S T : Type 0} (MayFail : Type 0) (made : List model.Edit) (IsR
 stopped_as MayFail made IsRead AreRead (Refused cause) told = told
 stopped_as MayFail made IsRead AreRead (Fault reason) told = told
 
-module _ (r : plain.Repository) (graft : sent.Graft) where
+module _ (r : plain.Repository) (graft : grafts.Graft) where
   -- the commit of a graft's word, and its path
   pub commit_there : (line : EditLine) (commit : PeeledCommit) → IsEdit (Graft graft) line → list_any is_bad_path (edit_paths line) ≡ false → HasSource r line (Some commit)
       → (commit_of r graft.word.items ≡ Some (peeled_id commit)) × (is_bad_path (kept_bytes graft.path) ≡ false) × HasRoot r commit

@@ -11,8 +11,8 @@ pub mod FirstCauses
 pub mod GraftFound
 pub mod GraftPaths
 pub mod LineLemmas
-pub mod NameWays
 pub mod NamesTold
+pub mod NeededLemmas
 pub mod NewFolders
 pub mod PackedLines
 pub mod PartsStand
@@ -28,4 +28,5 @@ pub mod TagLemmas
 pub mod Tested
 pub mod TimesLemmas
 pub mod TitleLemmas
+pub mod TreesRead
 pub mod Zipped

@@ -19,35 +19,35 @@ use Rattle.history_repository.proofs.NamesFormed.{formed_of}
 abbrev by_tests : Bool → Bool → Option Cause
 by_tests bad private = cond bad (Some BadName) (cond private (Some PrivateName) None)
 
-module _ (r : Repository) (order : CommitCommand) where
+module _ (r : Repository) (sent : CommitCommand) where
   abbrev by_head : Bool → Option Cause
-  by_head head = by_tests (list_any (λ n. not (is_name n)) (cond head [] (order.name ∷ [])) || false) (list_any is_private (cond head [] (order.name ∷ [])))
+  by_head head = by_tests (list_any (λ n. not (is_name n)) (cond head [] (sent.name ∷ [])) || false) (list_any is_private (cond head [] (sent.name ∷ [])))
 
   -- HEAD is no name
-  pub head_named : bytes_eq order.name head_word ≡ true → first_among name_form_causes r (Commit order) ≡ None
+  pub head_named : bytes_eq sent.name head_word ≡ true → first_among name_form_causes r (Commit sent) ≡ None
   head_named is = ap by_head is
 
-  pub other_named : bytes_eq order.name head_word ≡ false → first_among name_form_causes r (Commit order) ≡ form_cause order.name
-  other_named is = ap by_head is ∙ told (is_name order.name) (is_private order.name)
+  pub other_named : bytes_eq sent.name head_word ≡ false → first_among name_form_causes r (Commit sent) ≡ form_cause sent.name
+  other_named is = ap by_head is ∙ told (is_name sent.name) (is_private sent.name)
     where
       told : (x y : Bool) → by_tests ((not x || false) || false) (y || false) ≡ by_tests (not x) y
       told true true = refl
       told true false = refl
       told false y = refl
 
-  pub head_means : bytes_eq order.name head_word ≡ true → branch_or_name r order.name ≡ r.branch
-  head_means is = ap (λ b. cond b r.branch order.name) is
+  pub head_means : bytes_eq sent.name head_word ≡ true → branch_or_name r sent.name ≡ r.branch
+  head_means is = ap (λ b. cond b r.branch sent.name) is
 
-  pub other_means : bytes_eq order.name head_word ≡ false → branch_or_name r order.name ≡ order.name
-  other_means is = ap (λ b. cond b r.branch order.name) is
+  pub other_means : bytes_eq sent.name head_word ≡ false → branch_or_name r sent.name ≡ sent.name
+  other_means is = ap (λ b. cond b r.branch sent.name) is
 
 pub branch_formed : (r : Repository) → IsWritten r → is_name r.branch ≡ true
 branch_formed r written = (and_parts (is_name r.branch) (begins (codes "refs/heads/") r.branch) written.branch).0
 
 -- the name that an accepted commit moves is one
-pub named_so : (r : Repository) (order : CommitCommand) → IsWritten r → first_among name_form_causes r (Commit order) ≡ None → is_name (branch_or_name r order.name) ≡ true
-named_so r order written none = go (bytes_eq order.name head_word) refl
+pub named_so : (r : Repository) (sent : CommitCommand) → IsWritten r → first_among name_form_causes r (Commit sent) ≡ None → is_name (branch_or_name r sent.name) ≡ true
+named_so r sent written none = go (bytes_eq sent.name head_word) refl
   where
-    go : (b : Bool) → bytes_eq order.name head_word ≡ b → is_name (branch_or_name r order.name) ≡ true
-    go true e = ap is_name (head_means r order e) ∙ branch_formed r written
-    go false e = ap is_name (other_means r order e) ∙ formed_of order.name (sym (other_named r order e) ∙ none)
+    go : (b : Bool) → bytes_eq sent.name head_word ≡ b → is_name (branch_or_name r sent.name) ≡ true
+    go true e = ap is_name (head_means r sent e) ∙ branch_formed r written
+    go false e = ap is_name (other_means r sent e) ∙ formed_of sent.name (sym (other_named r sent e) ∙ none)

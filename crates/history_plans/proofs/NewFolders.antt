@@ -177,15 +177,15 @@ module _ (r : Repository) (sound : IsSound r) (files : FileMap) (folders : List 
 
 -- ---- the null id
 
-pub null_taken : (r : Repository) (order : CommitCommand) → HaveNull r.kind (first_files r (parents_of r order)) (edits_of r order) → takes_id r (Commit order) ≡ true
-null_taken r order null = go (some_taken r.kind r.objects (stored_by r (Commit order))) refl
+pub null_taken : (r : Repository) (sent : CommitCommand) → HaveNull r.kind (first_files r (parents_of r sent)) (edits_of r sent) → takes_id r (Commit sent) ≡ true
+null_taken r sent null = go (some_taken r.kind r.objects (stored_by r (Commit sent))) refl
   where
-    go : (b : Bool) → some_taken r.kind r.objects (stored_by r (Commit order)) ≡ b → b ≡ true
+    go : (b : Bool) → some_taken r.kind r.objects (stored_by r (Commit sent)) ≡ b → b ≡ true
     go true e = refl
     go false e =
         let value = null.value in
         let id = id_of r.kind value in
-        let among : In value (stored_by r (Commit order)) = in_left value (values_of (first_files r (parents_of r order)) (edits_of r order)) (StoredCommit (new_commit r order) ∷ [])
-        (contains_in (values_of (first_files r (parents_of r order)) (edits_of r order)) value null.among) in
+        let among : In value (stored_by r (Commit sent)) = in_left value (values_of (first_files r (parents_of r sent)) (edits_of r sent)) (StoredCommit (new_commit r sent) ∷ [])
+        (contains_in (values_of (first_files r (parents_of r sent)) (edits_of r sent)) value null.among) in
         let kind = (has_kind r.kind id (digest_is_id r.kind (value_text r.kind value))).of_kind in
-        clash (ap (λ k. id_eq id (null_id k)) (sym kind) ∙ null.null) (none_reserved r.kind r.objects (stored_by r (Commit order)) e value among).0
+        clash (ap (λ k. id_eq id (null_id k)) (sym kind) ∙ null.null) (none_reserved r.kind r.objects (stored_by r (Commit sent)) e value among).0

@@ -1,12 +1,10 @@
 -- What is true of each of the two parts of a repository.
-use Rattle.std.proofs.Common.{◌≡◌, false, ◌≢◌, refl, sym, ◌∙◌, ap, subst, true, None}
-use Rattle.std.specs.Prelude.{Option, Some, IsSome, is_some, option_and_then, not, ◌&&◌}
+use Rattle.std.proofs.Common.{◌≡◌, false, ◌≢◌, sym, ◌∙◌, ap, subst, true}
+use Rattle.std.specs.Prelude.{Some, IsSome, option_and_then}
 use Rattle.gix_hash.specs.Id.{Id, null_id}
 use Rattle.gix_ref_file.specs.History.{History}
 use Rattle.history_model.specs.Bytes.{Bytes}
-use Rattle.std.specs.FinMap.{get}
-use Rattle.history_model.specs.Forms.{IsWritten, is_name, is_private, is_reference}
-use Rattle.history_model.specs.Repository.{HaveOwnIds, IsWhole, Reference, id_at, peeled_value, stands}
+use Rattle.history_model.specs.Repository.{HaveOwnIds, IsWhole, id_at, peeled_value}
 use Rattle.history_layout.specs.TreeHalves.{HoldsValues, HoldsNames}
 use Rattle.history_layout.proofs.TreePuts.{halves_stand}
 use Rattle.history_store.specs.Packing.{KeepsRecords}
@@ -14,16 +12,7 @@ use Rattle.history_repository.specs.Face.{KeepsAllButObjects}
 use Rattle.history_plans.specs.Halves.{objects_tree, ObjectsStand, NamesStand}
 use Rattle.history_repository.specs.Stands.{pair_of, Stands}
 use Rattle.history_repository.specs.declared.repository.Repository.{Repository}
-use Rattle.std.proofs.lemmas.Bool.{and_parts}
 use Rattle.history_model.specs.Repository as plain
-
--- an existing name is a valid one
-pub name_formed : (r : plain.Repository) → IsWritten r → (name : Bytes) → stands r name ≡ true → is_name name ≡ true
-name_formed r written name stood = of_ref (get r.names name) refl stood
-  where
-    of_ref : (o : Option Reference) → get r.names name ≡ o → is_some o ≡ true → is_name name ≡ true
-    of_ref None e there = cc
-    of_ref (Some ref) e there = (and_parts (is_name name) (not (is_private name)) (and_parts (is_name name && not (is_private name)) (is_reference r.kind ref) (written.names name ref e)).0).0
 
 -- no name of a whole repository holds the null id
 pub names_set : (r : plain.Repository) → IsWhole r → (name : Bytes) → id_at r name ≢ Some (null_id r.kind)

@@ -64,16 +64,16 @@ none_among {X = X} test (y ∷ ys) e x i = go (test y) refl e i (λ k j. none_am
     go false f k (inl g) rest = ap test g ∙ f
     go false f k (inr j) rest = rest k j
 
-module _ (r : Repository) (order : CommitCommand) (none : first_among name_causes r (Commit order) ≡ None) where
-  not_held : (cause : Cause) → In cause name_causes → holds cause r (Commit order) ≡ false
-  not_held cause i = none_among (λ cause. holds cause r (Commit order)) name_causes none cause i
+module _ (r : Repository) (sent : CommitCommand) (none : first_among name_causes r (Commit sent) ≡ None) where
+  not_held : (cause : Cause) → In cause name_causes → holds cause r (Commit sent) ≡ false
+  not_held cause i = none_among (λ cause. holds cause r (Commit sent)) name_causes none cause i
 
-  word_reads : (word : Bytes) → In word (words_in (Commit order)) → IsSome (commit_of r word)
+  word_reads : (word : Bytes) → In word (words_in (Commit sent)) → IsSome (commit_of r word)
   word_reads word i = go (word_meaning r word) (fails UnknownWord (λ w. is_unknown (word_meaning r w)) (inr (inr (inl refl))) refl) (fails AmbiguousWord (λ w. is_ambiguous (word_meaning r w)) (inr (inr (inr (inl refl)))) refl)
       (fails UnbornHead (λ w. is_unborn (word_meaning r w)) (inr (inr (inr (inr (inl refl))))) refl) (fails NotACommit (λ w. is_no_commit r (word_meaning r w)) (inr (inr (inr (inr (inr (inl refl)))))) refl)
     where
-      fails : (cause : Cause) (test : Bytes → Bool) → In cause name_causes → holds cause r (Commit order) ≡ list_any test (words_in (Commit order)) → test word ≡ false
-      fails cause test among is = none_passes test (words_in (Commit order)) (sym is ∙ not_held cause among) word i
+      fails : (cause : Cause) (test : Bytes → Bool) → In cause name_causes → holds cause r (Commit sent) ≡ list_any test (words_in (Commit sent)) → test word ≡ false
+      fails cause test among is = none_passes test (words_in (Commit sent)) (sym is ∙ not_held cause among) word i
 
       some_commit : (o : Option Id) → is_none o ≡ false → IsSome o
       some_commit None e = cc
@@ -86,9 +86,9 @@ module _ (r : Repository) (order : CommitCommand) (none : first_among name_cause
       go Ambiguous a b c d = cc
 
   -- so each edit's word reads as the commit that is given
-  pub sources_told : (sources : List (Option PeeledCommit)) → map (option_map peeled_id) sources ≡ map (source_id r) order.edits → AllByRecursion (IsRootedSource r) sources → AllZip (HasSource r) order.edits sources
-  sources_told sources same rooted = all_read r order.edits sources same rooted (λ word i.
-      word_reads word (in_right word (at_word order.expect) (order.parents ++ flat_map edit_words order.edits) (in_right word order.parents (flat_map edit_words order.edits) i)))
+  pub sources_told : (sources : List (Option PeeledCommit)) → map (option_map peeled_id) sources ≡ map (source_id r) sent.edits → AllByRecursion (IsRootedSource r) sources → AllZip (HasSource r) sent.edits sources
+  sources_told sources same rooted = all_read r sent.edits sources same rooted (λ word i.
+      word_reads word (in_right word (at_word sent.expect) (sent.parents ++ flat_map edit_words sent.edits) (in_right word sent.parents (flat_map edit_words sent.edits) i)))
 
 -- ---- one edit after another
 

@@ -54,12 +54,12 @@ any_flat p f (x ∷ xs) = list_any-append p (f x) (flat_map f xs) ∙ ap (λ b. 
 
 -- ---- the first of the causes
 
-module _ (r : Repository) (order : CommitCommand) where
+module _ (r : Repository) (sent : CommitCommand) where
   abbrev Holds : Cause → Bool
-  Holds cause = holds cause r (Commit order)
+  Holds cause = holds cause r (Commit sent)
 
   -- if none of the causes of its paths holds
-  module _ (none : first_among path_causes r (Commit order) ≡ None) where
+  module _ (none : first_among path_causes r (Commit sent) ≡ None) where
     path : Holds BadPath ≡ false
     path = (none_of _ _ _ none).0
 
@@ -69,19 +69,19 @@ module _ (r : Repository) (order : CommitCommand) where
     found : Holds NoSuchPath ≡ false
     found = (none_of (Holds NoSuchPath) NoSuchPath None (none_of (Holds IsFolder) IsFolder _ (none_of (Holds BadPath) BadPath _ none).1).1).0
 
-    pub actor_refused : Holds BadActor ≡ true → AreTimes r order (Err BadActor)
+    pub actor_refused : Holds BadActor ≡ true → AreTimes r sent (Err BadActor)
     actor_refused actor = passed _ _ _ _ path (passed _ _ _ _ folder (passed _ _ _ _ found (here _ _ _ actor)))
 
-    pub time_refused : Holds BadActor ≡ false → Holds BadTime ≡ true → AreTimes r order (Err BadTime)
+    pub time_refused : Holds BadActor ≡ false → Holds BadTime ≡ true → AreTimes r sent (Err BadTime)
     time_refused actor time = passed _ _ _ _ path (passed _ _ _ _ folder (passed _ _ _ _ found (passed _ _ _ _ actor (here _ _ _ time))))
 
-    pub title_refused : Holds BadActor ≡ false → Holds BadTime ≡ false → Holds BadMessage ≡ true → AreTimes r order (Err BadMessage)
+    pub title_refused : Holds BadActor ≡ false → Holds BadTime ≡ false → Holds BadMessage ≡ true → AreTimes r sent (Err BadMessage)
     title_refused actor time title = passed _ _ _ _ path (passed _ _ _ _ folder (passed _ _ _ _ found (passed _ _ _ _ actor (passed _ _ _ _ time (here _ _ _ title)))))
 
-    pub size_refused : Holds BadActor ≡ false → Holds BadTime ≡ false → Holds BadMessage ≡ false → Holds TooLarge ≡ true → AreTimes r order (Err TooLarge)
+    pub size_refused : Holds BadActor ≡ false → Holds BadTime ≡ false → Holds BadMessage ≡ false → Holds TooLarge ≡ true → AreTimes r sent (Err TooLarge)
     size_refused actor time title size = passed _ _ _ _ path (passed _ _ _ _ folder (passed _ _ _ _ found (passed _ _ _ _ actor (passed _ _ _ _ time (passed _ _ _ _ title (here _ _ _ size))))))
 
-    pub all_formed : Holds BadActor ≡ false → Holds BadTime ≡ false → Holds BadMessage ≡ false → first_among form_causes r (Commit order) ≡ None
+    pub all_formed : Holds BadActor ≡ false → Holds BadTime ≡ false → Holds BadMessage ≡ false → first_among form_causes r (Commit sent) ≡ None
     all_formed actor time title = passed _ _ _ _ path (passed _ _ _ _ folder (passed _ _ _ _ found (passed _ _ _ _ actor (passed _ _ _ _ time (passed _ _ _ _ title refl)))))
 
 -- ---- actors and times

@@ -14,15 +14,15 @@ use Rattle.history_repository.specs.Stands.{Stands}
 use Rattle.history_repository.specs.TreesBefore.{IsTreeBefore}
 use Rattle.history_repository.specs.declared.repository.Repository.{Repository}
 use Rattle.history_repository.specs.declared.stored.PeeledCommit.{PeeledCommit}
-use Rattle.history_model.specs.Commands as orders
+use Rattle.history_model.specs.Commands as commands
 use Rattle.history_model.specs.Repository as plain
 
 -- This commit is requested of a repository.
 pub record AskedCommit {F : Type 0} (IsHonest : F → Type 0) (history : F → History)
     (repository : Repository F) (command : CommitCommand)
-    (r : plain.Repository) (order : orders.CommitCommand) : Type 0 where
+    (r : plain.Repository) (sent : commands.CommitCommand) : Type 0 where
   pub serves : Stands IsHonest history repository r
-  pub reads : IsCommit command order
+  pub reads : IsCommit command sent
 
 -- The files of a commit are requested of a repository, with these edits of this tree, which is that
 -- of its first parent, and with the commits of the edits' words; none of the causes of its name
@@ -30,10 +30,10 @@ pub record AskedCommit {F : Type 0} (IsHonest : F → Type 0) (history : F → H
 pub record AskedFiles {F : Type 0} (IsHonest : F → Type 0) (history : F → History)
     (repository : Repository F) (tree : Option ObjectId) (sources : List (Option PeeledCommit))
     (edits : List Edit)
-    (r : plain.Repository) (order : orders.CommitCommand) : Type 0 where
+    (r : plain.Repository) (sent : commands.CommitCommand) : Type 0 where
   pub serves : Stands IsHonest history repository r
-  pub unrefused : first_among name_causes r (orders.Commit order) ≡ None
-  pub tree_is : IsTreeBefore r (parents_of r order) tree
-  pub sources_are : map (option_map peeled_id) sources ≡ map (source_id r) order.edits
+  pub unrefused : first_among name_causes r (commands.Commit sent) ≡ None
+  pub tree_is : IsTreeBefore r (parents_of r sent) tree
+  pub sources_are : map (option_map peeled_id) sources ≡ map (source_id r) sent.edits
   pub rooted : AllByRecursion (IsRootedSource r) sources
-  pub edits_are : AreEdits edits order.edits
+  pub edits_are : AreEdits edits sent.edits

@@ -7,7 +7,7 @@ use Rattle.history_model.specs.Repository as plain
 use Rattle.history_model.specs.Repository.{HoldsCommit, id_at}
 use Rattle.history_model.specs.Forms.{max_parents}
 use Rattle.history_model.specs.Words.{commit_of}
-use Rattle.history_model.specs.Commands as orders
+use Rattle.history_model.specs.Commands as commands
 use Rattle.history_model.specs.Meaning.{branch_or_name, parents_of}
 use Rattle.history_model.specs.declared.Cause.{Cause}
 use Rattle.history_model.specs.declared.Cause.TheVariants.{NoSuchName, Taken, TooManyParents, DuplicateParent}
@@ -23,10 +23,10 @@ use Rattle.history_plans.specs.declared.base.Expected.{Expected}
 use Rattle.history_plans.specs.declared.base.Expected.TheVariants.{Any, New, At}
 
 -- the same is expected, its word read
-abbrev pub IsExpected : plain.Repository → orders.Expect → Expected → Type 0
-IsExpected r orders.Any Any = ⊤
-IsExpected r orders.New New = ⊤
-IsExpected r (orders.At word) (At meaning) = meaning_of meaning ≡ commit_or_cause r word
+abbrev pub IsExpected : plain.Repository → commands.Expect → Expected → Type 0
+IsExpected r commands.Any Any = ⊤
+IsExpected r commands.New New = ⊤
+IsExpected r (commands.At word) (At meaning) = meaning_of meaning ≡ commit_or_cause r word
 IsExpected r _ _ = ⊥
 
 -- what the word of the expectation means, if there is one
@@ -50,11 +50,11 @@ parents_cause ids =
     then Some DuplicateParent else None
 
 -- the word of an edit's line, if it has one, and the commit that it means
-abbrev pub line_word : orders.EditLine → Option Bytes
-line_word (orders.GraftLine path word source) = Some word
+abbrev pub line_word : commands.EditLine → Option Bytes
+line_word (commands.GraftLine path word source) = Some word
 line_word _ = None
 
-abbrev pub source_id : plain.Repository → orders.EditLine → Option Id
+abbrev pub source_id : plain.Repository → commands.EditLine → Option Id
 source_id r line = option_and_then (commit_of r) (line_word line)
 
 -- the words were read as what they mean, with the roots of their commits, if those are known
@@ -71,12 +71,12 @@ abbrev pub IsRootedSource : plain.Repository → Option PeeledCommit → Type 0
 IsRootedSource r source = MatchOption source ⊤ (HasRoot r)
 
 -- the word of an edit's line was read as what it means, and so were those of lines
-abbrev pub IsSourceRead : plain.Repository → orders.EditLine → Option WordMeaning → Type 0
+abbrev pub IsSourceRead : plain.Repository → commands.EditLine → Option WordMeaning → Type 0
 IsSourceRead r line source =
     (option_map meaning_of source ≡ option_map (commit_or_cause r) (line_word line))
     × IsRootedWord r source
 
-abbrev pub AreSourcesRead : plain.Repository → List orders.EditLine → List (Option WordMeaning)
+abbrev pub AreSourcesRead : plain.Repository → List commands.EditLine → List (Option WordMeaning)
     → Type 0
 AreSourcesRead r lines sources =
     (map (option_map meaning_of) sources
@@ -101,11 +101,11 @@ AreRootedSources r sources roots =
 
 -- the name that the commit moves, what it holds, the commit's parents, the tree of the first, and
 -- of each edit the commit of its word, if it has one
-pub record IsCommitBase (r : plain.Repository) (order : orders.CommitCommand)
+pub record IsCommitBase (r : plain.Repository) (sent : commands.CommitCommand)
     (base : Base) : Type 0 where
-  pub name : base.name.items ≡ branch_or_name r order.name
-  pub held : option_map id_of base.held ≡ id_at r (branch_or_name r order.name)
-  pub parents : map id_of base.parents.items ≡ parents_of r order
-  pub tree : IsTreeBefore r (parents_of r order) base.tree
-  pub sources : map (option_map peeled_id) base.sources.items ≡ map (source_id r) order.edits
+  pub name : base.name.items ≡ branch_or_name r sent.name
+  pub held : option_map id_of base.held ≡ id_at r (branch_or_name r sent.name)
+  pub parents : map id_of base.parents.items ≡ parents_of r sent
+  pub tree : IsTreeBefore r (parents_of r sent) base.tree
+  pub sources : map (option_map peeled_id) base.sources.items ≡ map (source_id r) sent.edits
   pub rooted : AllByRecursion (IsRootedSource r) base.sources.items

@@ -57,7 +57,7 @@ IsToldOf MayFail causes r command (Refused cause) = first_among causes r command
 IsToldOf MayFail causes r command (Fault fault) = IsReadingFault MayFail (Fault fault)
 
 abbrev pub IsToldBy : Type 0 → List Cause → plain.Repository → CommitCommand → Stopped → Type 0
-IsToldBy MayFail causes r order = IsToldOf MayFail causes r (Commit order)
+IsToldBy MayFail causes r sent = IsToldOf MayFail causes r (Commit sent)
 
 -- None of these causes holds, and this is what is meant; or it is refused for the first that holds,
 -- or a fault was met.
@@ -69,12 +69,12 @@ TestsOf MayFail causes r command IsMeant (Err stopped) = IsToldOf MayFail causes
 
 abbrev pub Tests : {T : Type 0} → Type 0 → List Cause → plain.Repository → CommitCommand
     → (T → Type 0) → Result T Stopped → Type 0
-Tests MayFail causes r order = TestsOf MayFail causes r (Commit order)
+Tests MayFail causes r sent = TestsOf MayFail causes r (Commit sent)
 
 -- the name that the commit moves, which is one
-pub record IsNamed (r : plain.Repository) (order : CommitCommand)
+pub record IsNamed (r : plain.Repository) (sent : CommitCommand)
     (name : Vec ℕ Global) : Type 0 where
-  pub named : name.items ≡ branch_or_name r order.name
+  pub named : name.items ≡ branch_or_name r sent.name
   pub formed : IsTrue (is_name name.items)
 
 -- the words of the line are a time's, this one
@@ -96,15 +96,15 @@ is_long content = nat_lt max_content (length content)
 
 -- None of the causes that lie in the command itself holds, its message and contents are within
 -- their limit, and these are its times.
-pub record HasTimes (r : plain.Repository) (order : CommitCommand) (times : Times) : Type 0 where
-  pub formed : first_among form_causes r (Commit order) ≡ None
-  pub message : length order.message ≤ max_content
-  pub contents : IsFalse (list_any is_long (contents_in (Commit order)))
-  pub author : IsTime order.author times.author
-  pub committer : IsTime order.committer times.committer
+pub record HasTimes (r : plain.Repository) (sent : CommitCommand) (times : Times) : Type 0 where
+  pub formed : first_among form_causes r (Commit sent) ≡ None
+  pub message : length sent.message ≤ max_content
+  pub contents : IsFalse (list_any is_long (contents_in (Commit sent)))
+  pub author : IsTime sent.author times.author
+  pub committer : IsTime sent.committer times.committer
 
 -- The times are read; or it is refused for the first cause that holds.
 abbrev pub AreTimes : plain.Repository → CommitCommand → Result Times Cause → Type 0
-AreTimes r order (Ok times) = HasTimes r order times
-AreTimes r order (Err cause) =
-    first_among (form_causes ++ TooLarge ∷ []) r (Commit order) ≡ Some cause
+AreTimes r sent (Ok times) = HasTimes r sent times
+AreTimes r sent (Err cause) =
+    first_among (form_causes ++ TooLarge ∷ []) r (Commit sent) ≡ Some cause

@@ -6,7 +6,15 @@ pub mod Deleting
 pub mod Files
 pub mod Halves
 pub mod Moving
+pub mod Needed
 pub mod Packing
 pub mod Plans
 pub mod Renaming
 pub mod Tagging
+pub use Rattle.history_model.specs.Bytes
+pub use Rattle.history_model.specs.Causes
+pub use Rattle.history_model.specs.Commands
+pub use Rattle.history_model.specs.Repository
+pub use Rattle.history_repository.specs.Reads
+pub use Rattle.history_repository.specs.Stands
+pub use Rattle.history_word.specs.Commands as WordCommands

@@ -22,14 +22,17 @@ use Rattle.history_model.specs.declared.Fault.TheVariants.{Memory, File, IdTaken
 use Rattle.history_files.specs.Editing.{AreEdited, HaveNull}
 use Rattle.history_files.specs.declared.trees.EditedFiles.{EditedFiles}
 use Rattle.history_files.specs.declared.trees.EditedTree.{EditedTree}
+use Rattle.history_files.specs.declared.read_trees.ReadTrees.{ReadTrees}
 use Rattle.history_texts.specs.Formats.{actor_of, entry_of}
 use Rattle.history_plans.specs.CommitCauses.{first_among, form_causes, is_long, path_causes}
+use Rattle.history_plans.specs.Needed.{AreNeededOf, HasTextAmong}
 use Rattle.history_plans.specs.declared.planning.Actors.{Actors}
 use Rattle.history_plans.specs.declared.planning.Below.{Below}
 use Rattle.history_plans.specs.declared.planning.Committed.{Committed}
 use Rattle.history_plans.specs.declared.planning.NewFiles.{NewFiles}
 use Rattle.history_plans.specs.declared.planning.Plan.{Plan}
 use Rattle.history_store.specs.declared.changing.MovedName.{MovedName}
+use Rattle.history_repository.specs.Reads.{AreTrees}
 use Rattle.history_repository.specs.declared.stopped.Stopped.{Stopped}
 use Rattle.history_repository.specs.declared.stopped.Stopped.TheVariants.{Refused, Fault}
 use Rattle.gix_hash.specs.Id as object_id
@@ -74,41 +77,45 @@ IsNotAdded trees (Fault Memory) = ⊤
 IsNotAdded trees (Fault File) = ⊥
 IsNotAdded trees (Fault IdTaken) = ⊥
 
--- the objects of what is put, and after them those of the trees, with the root's id; or why they
--- aren't added
-abbrev pub GivesObjects : List NewObject → EditedFiles → Result Below Stopped → Type 0
-GivesObjects blobs edited (Ok below) =
-    (below.root ≡ edited.root) × AreAdded blobs edited.trees.items below.objects.items
-GivesObjects blobs edited (Err stopped) = IsNotAdded edited.trees.items stopped
+-- of the objects of what is put, and of the trees after them, those that need storing, with the
+-- root's id; or why they aren't added
+abbrev pub GivesObjects : ReadTrees → List NewObject → EditedFiles → Result Below Stopped → Type 0
+GivesObjects read blobs edited (Ok below) =
+    (below.root ≡ edited.root)
+    × ((objects : List NewObject) × AreAdded blobs edited.trees.items objects
+    × AreNeededOf read objects below.objects.items)
+GivesObjects read blobs edited (Err stopped) = IsNotAdded edited.trees.items stopped
 
 -- None of the causes that lie in the command itself holds, its message and contents are within
 -- their limit, and these are its actors.
-pub record HasActors (r : plain.Repository) (order : CommitCommand) (actors : Actors) : Type 0 where
-  pub formed : first_among form_causes r (Commit order) ≡ None
-  pub message : length order.message ≤ max_content
-  pub contents : IsFalse (list_any is_long (contents_in (Commit order)))
-  pub author : actor_of actors.author ≡ read_actor order.author
-  pub committer : actor_of actors.committer ≡ read_actor order.committer
+pub record HasActors (r : plain.Repository) (sent : CommitCommand) (actors : Actors) : Type 0 where
+  pub formed : first_among form_causes r (Commit sent) ≡ None
+  pub message : length sent.message ≤ max_content
+  pub contents : IsFalse (list_any is_long (contents_in (Commit sent)))
+  pub author : actor_of actors.author ≡ read_actor sent.author
+  pub committer : actor_of actors.committer ≡ read_actor sent.committer
 
 -- The actors are read; or it is refused for the first cause that holds.
 abbrev pub AreActors : plain.Repository → CommitCommand → Result Actors Cause → Type 0
-AreActors r order (Ok actors) = HasActors r order actors
-AreActors r order (Err cause) =
-    first_among (form_causes ++ TooLarge ∷ []) r (Commit order) ≡ Some cause
+AreActors r sent (Ok actors) = HasActors r sent actors
+AreActors r sent (Err cause) =
+    first_among (form_causes ++ TooLarge ∷ []) r (Commit sent) ≡ Some cause
 
 -- What edits come to, if none of the causes that lie in their paths holds. Of a content over its
 -- limit only a front is kept, so the objects and trees are the commit's only if there is no such
 -- content.
-pub record AreNewFiles (r : plain.Repository) (order : CommitCommand)
+pub record AreNewFiles (r : plain.Repository) (sent : CommitCommand)
     (files : NewFiles) : Type 0 where
-  pub paths : first_among path_causes r (Commit order) ≡ None
-  pub long : files.has_long_content ≡ list_any is_long (contents_in (Commit order))
-  pub blobs : IsFalse (list_any is_long (contents_in (Commit order)))
-      → AreObjectsOf r.kind (flat_map put_bytes (edits_of r order)) files.blobs.items
-  pub edited : IsFalse (list_any is_long (contents_in (Commit order)))
+  pub paths : first_among path_causes r (Commit sent) ≡ None
+  pub long : files.has_long_content ≡ list_any is_long (contents_in (Commit sent))
+  pub blobs : IsFalse (list_any is_long (contents_in (Commit sent)))
+      → AreObjectsOf r.kind (flat_map put_bytes (edits_of r sent)) files.blobs.items
+  pub edited : IsFalse (list_any is_long (contents_in (Commit sent)))
       → MatchOption files.edited
-      (HaveNull r.kind (first_files r (parents_of r order)) (edits_of r order))
-      (AreEdited r.kind (first_files r (parents_of r order)) (edits_of r order))
+      (HaveNull r.kind (first_files r (parents_of r sent)) (edits_of r sent))
+      (AreEdited r.kind (first_files r (parents_of r sent)) (edits_of r sent))
+  -- the trees that were read are as they are stored
+  pub trees : AreTrees r files.read
 
 -- ---- the commit
 
@@ -141,32 +148,33 @@ MakesCommit kind value = IfItFits (commit_content kind value) (IsMadeOf kind val
 
 -- the command's commit is made, and its name is to move to it
 abbrev pub GivesCommitted : plain.Repository → CommitCommand → Result Committed Stopped → Type 0
-GivesCommitted r order =
-    IfItFits (commit_content r.kind (new_commit r order)) (λ (made : Committed).
-    IsMadeOf r.kind (new_commit r order) made.object × IsMove r (commit_move r order) made.moves)
+GivesCommitted r sent =
+    IfItFits (commit_content r.kind (new_commit r sent)) (λ (made : Committed).
+    IsMadeOf r.kind (new_commit r sent) made.object × IsMove r (commit_move r sent) made.moves)
 
 -- ---- the plan
 
--- The objects are those of what the command stores, but for some whose text is stored already, in
--- an order of which each beginning leaves a whole store; and the name moves to the commit.
-pub record IsPlan (r : plain.Repository) (order : CommitCommand) (plan : Plan) : Type 0 where
+-- The objects are those of some of what the command stores, and the text of all else that it
+-- stores is among theirs, or is stored already. Each beginning of them leaves a whole store. The
+-- name moves to the commit.
+pub record IsPlan (r : plain.Repository) (sent : CommitCommand) (plan : Plan) : Type 0 where
   pub values : List Value
-  pub among : (value : Value) → Contains values value → Contains (stored_by r (Commit order)) value
-  pub all : (value : Value) → Contains (stored_by r (Commit order)) value
-      → Contains values value ⊎ HasText r.kind r.objects value
-  pub whole : StoresWhole r values
   pub objects : AreObjectsOf r.kind values plan.objects.items
-  pub moves : IsMove r (commit_move r order) plan.moves
+  pub among : (value : Value) → Contains values value → Contains (stored_by r (Commit sent)) value
+  pub all : (value : Value) → Contains (stored_by r (Commit sent)) value
+      → HasTextAmong r.kind values value ⊎ HasText r.kind r.objects value
+  pub whole : StoresWhole r values
+  pub moves : IsMove r (commit_move r sent) plan.moves
 
 -- why there is no plan: it is refused for the first cause that holds, or an id is taken, or a fault
 -- was met
 abbrev pub IsUnplanned : Type 0 → plain.Repository → CommitCommand → Stopped → Type 0
-IsUnplanned MayFail r order (Refused cause) = first_cause r (Commit order) ≡ Some cause
-IsUnplanned MayFail r order (Fault Memory) = ⊤
-IsUnplanned MayFail r order (Fault File) = MayFail
-IsUnplanned MayFail r order (Fault IdTaken) = MayTake r (Commit order)
+IsUnplanned MayFail r sent (Refused cause) = first_cause r (Commit sent) ≡ Some cause
+IsUnplanned MayFail r sent (Fault Memory) = ⊤
+IsUnplanned MayFail r sent (Fault File) = MayFail
+IsUnplanned MayFail r sent (Fault IdTaken) = MayTake r (Commit sent)
 
 -- A plan is made if no cause holds.
 abbrev pub Plans : Type 0 → plain.Repository → CommitCommand → Result Plan Stopped → Type 0
-Plans MayFail r order (Ok plan) = (first_cause r (Commit order) ≡ None) × IsPlan r order plan
-Plans MayFail r order (Err stopped) = IsUnplanned MayFail r order stopped
+Plans MayFail r sent (Ok plan) = (first_cause r (Commit sent) ≡ None) × IsPlan r sent plan
+Plans MayFail r sent (Err stopped) = IsUnplanned MayFail r sent stopped

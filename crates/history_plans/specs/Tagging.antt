@@ -48,22 +48,22 @@ is_tag_place name = begins tags_front name && is_tag_name (tag_rest name)
 -- ---- what is read
 
 -- what the tag's name holds, and the commit that its word means
-pub record IsTagBase (r : plain.Repository) (order : TagCommand) (base : TagBase) : Type 0 where
-  pub held : IsHeld r order.name base.held
-  pub commit : commit_of r order.word ≡ Some (id_of base.commit)
+pub record IsTagBase (r : plain.Repository) (sent : TagCommand) (base : TagBase) : Type 0 where
+  pub held : IsHeld r sent.name base.held
+  pub commit : commit_of r sent.word ≡ Some (id_of base.commit)
 
 -- None of the causes that lie in tagger and message holds, the message is within the limit, and
 -- this is the tagger.
-pub record HasTagger (r : plain.Repository) (order : TagCommand) (actor : Actor) : Type 0 where
-  pub formed : first_among tagger_causes r (Tag order) ≡ None
-  pub message : length order.message ≤ max_content
-  pub tagger : actor_of actor ≡ read_actor order.tagger
+pub record HasTagger (r : plain.Repository) (sent : TagCommand) (actor : Actor) : Type 0 where
+  pub formed : first_among tagger_causes r (Tag sent) ≡ None
+  pub message : length sent.message ≤ max_content
+  pub tagger : actor_of actor ≡ read_actor sent.tagger
 
 -- the tagger is read; or it is refused for the first cause that holds
 abbrev pub TellsTagger : plain.Repository → TagCommand → Field → Result Actor Cause → Type 0
-TellsTagger r order message (Ok actor) = HasTagger r order actor
-TellsTagger r order message (Err cause) =
-    first_among (tagger_causes ++ TooLarge ∷ []) r (Tag order) ≡ Some cause
+TellsTagger r sent message (Ok actor) = HasTagger r sent actor
+TellsTagger r sent message (Err cause) =
+    first_among (tagger_causes ++ TooLarge ∷ []) r (Tag sent) ≡ Some cause
 
 -- ---- what is made
 
@@ -75,13 +75,13 @@ abbrev pub MakesTag : Kind → TagValue → Result NewObject Stopped → Type 0
 MakesTag kind value = IfItFits (tag_content value) (IsMadeTag kind value)
 
 -- No cause holds, the object is the tag's, and the name moves to it.
-pub record IsTagged (r : plain.Repository) (order : TagCommand) (tagged : Tagged) : Type 0 where
-  pub none : first_cause r (Tag order) ≡ None
-  pub object : IsMadeTag r.kind (new_tag r order) tagged.object
-  pub moves : IsMove r (tag_move r order) tagged.moves
+pub record IsTagged (r : plain.Repository) (sent : TagCommand) (tagged : Tagged) : Type 0 where
+  pub none : first_cause r (Tag sent) ≡ None
+  pub object : IsMadeTag r.kind (new_tag r sent) tagged.object
+  pub moves : IsMove r (tag_move r sent) tagged.moves
 
 -- the tag is made; or it is refused for the first cause that holds, or a fault was met
 abbrev pub PlansTag : Type 0 → plain.Repository → TagCommand → Result Tagged Stopped → Type 0
-PlansTag MayFail r order (Ok tagged) = IsTagged r order tagged
-PlansTag MayFail r order (Err (Refused cause)) = first_cause r (Tag order) ≡ Some cause
-PlansTag MayFail r order (Err (Fault fault)) = IsReadingFault MayFail (Fault fault)
+PlansTag MayFail r sent (Ok tagged) = IsTagged r sent tagged
+PlansTag MayFail r sent (Err (Refused cause)) = first_cause r (Tag sent) ≡ Some cause
+PlansTag MayFail r sent (Err (Fault fault)) = IsReadingFault MayFail (Fault fault)

@@ -38,15 +38,15 @@ fn is_email(field: &Field) -> bool
 
 /// Returns whether the name and the email can be in an actor's line. The email may be empty.
 pub(crate) fn has_good_names(line: &ActorLine) -> bool
-    ensures { (order : model.ActorLine) → IsActor line.now order
-        → result ≡ not (is_bad_actor order) }
+    ensures { (sent : model.ActorLine) → IsActor line.now sent
+        → result ≡ not (is_bad_actor sent) }
 {
     is_name(&line.name) && is_email(&line.email)
 }
 
 /// Returns when the actor acted, if both words can be in an actor's line.
 pub(crate) fn time_of(line: &ActorLine) -> Option<Time>
-    ensures { (order : model.ActorLine) → IsActor line.now order → ReadsTime order result }
+    ensures { (sent : model.ActorLine) → IsActor line.now sent → ReadsTime sent result }
 {
     parse_time(&line.seconds, &line.offset)
 }
@@ -54,9 +54,9 @@ pub(crate) fn time_of(line: &ActorLine) -> Option<Time>
 /// Returns the actor of a line, who acted at this time; `None` if the parts can't be in an actor's
 /// line.
 pub(crate) fn actor_at(line: ActorLine, time: Time) -> Option<Actor>
-    ensures { (order : model.ActorLine) → IsActor line order → IsFalse (is_bad_actor order)
-        → IsTime order time
-        → MatchOption result ⊥ (λ actor. actor_of actor ≡ read_actor order) }
+    ensures { (sent : model.ActorLine) → IsActor line sent → IsFalse (is_bad_actor sent)
+        → IsTime sent time
+        → MatchOption result ⊥ (λ actor. actor_of actor ≡ read_actor sent) }
 {
     Actor::new(into_kept(line.name), into_kept(line.email), time)
 }

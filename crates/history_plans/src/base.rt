@@ -16,7 +16,7 @@ ghost use Rattle.history_repository.specs.Held.{IsHeld};
 ghost use Rattle.gix_hash.specs.Id.{id_of};
 ghost use Rattle.history_repository.specs.declared.stored.PeeledCommit.{PeeledCommit};
 ghost use Rattle.history_model.specs.Repository as plain;
-ghost use Rattle.history_model.specs.Commands as orders;
+ghost use Rattle.history_model.specs.Commands as commands;
 
 use gix_hash::ObjectId;
 use gix_ref_file::Files;
@@ -39,9 +39,9 @@ pub(crate) fn name_of<F: Files>(
     alloc: Global,
     name: &[u8],
 ) -> Result<Vec<u8>, Stopped>
-    ensures { (r : plain.Repository) (order : orders.CommitCommand)
-        → Stands F.is_honest F.history repository.now r → name.now ≡ order.name
-        → Tests F.reading_may_fail name_form_causes r order (IsNamed r order) result }
+    ensures { (r : plain.Repository) (sent : commands.CommitCommand)
+        → Stands F.is_honest F.history repository.now r → name.now ≡ sent.name
+        → Tests F.reading_may_fail name_form_causes r sent (IsNamed r sent) result }
 {
     if name == HEAD {
         return Ok(Vec::from_slice(alloc, &repository.branch)?);
@@ -187,9 +187,9 @@ pub(crate) fn read_expected<F: Files>(
     read: &mut ReadObjects,
     expect: &Expect,
 ) -> Result<Expected, Stopped>
-    ensures reads { (r : plain.Repository) (order : orders.Expect)
-        → Stands F.is_honest F.history repository.now r → IsExpect expect.now order
-        → AreMeant r read.old → GivesMeant F.reading_may_fail (IsExpected r order) result }
+    ensures reads { (r : plain.Repository) (sent : commands.Expect)
+        → Stands F.is_honest F.history repository.now r → IsExpect expect.now sent
+        → AreMeant r read.old → GivesMeant F.reading_may_fail (IsExpected r sent) result }
     ensures kept { (r : plain.Repository) → Stands F.is_honest F.history repository.now r
         → AreMeant r read.old → OnOk result (AreMeant r read.new) }
 {
@@ -226,7 +226,7 @@ fn read_source<F: Files>(
     read: &mut ReadObjects,
     edit: &Edit,
 ) -> Result<Option<WordMeaning>, Stopped>
-    ensures reads { (r : plain.Repository) (line : orders.EditLine)
+    ensures reads { (r : plain.Repository) (line : commands.EditLine)
         → Stands F.is_honest F.history repository.now r → IsEdit edit.now line
         → AreMeant r read.old → GivesMeant F.reading_may_fail (IsSourceRead r line) result }
     ensures kept { (r : plain.Repository) → Stands F.is_honest F.history repository.now r
@@ -248,7 +248,7 @@ fn read_sources<F: Files>(
     read: &mut ReadObjects,
     edits: &[Edit],
 ) -> Result<Vec<Option<WordMeaning>>, Stopped>
-    ensures { (r : plain.Repository) (lines : List orders.EditLine)
+    ensures { (r : plain.Repository) (lines : List commands.EditLine)
         → Stands F.is_honest F.history repository.now r → AreEdits edits.now lines
         → ReadsMore F.reading_may_fail r read.old read.new
         (λ sources. AreSourcesRead r lines sources.items) result }
@@ -305,11 +305,11 @@ fn test_place<F: Files>(
     name: &[u8],
     held: Option<Held>,
 ) -> Result<(), Stopped>
-    ensures { (r : plain.Repository) (order : orders.CommitCommand)
+    ensures { (r : plain.Repository) (sent : commands.CommitCommand)
         → Stands F.is_honest F.history repository.now r
-        → name.now ≡ branch_or_name r order.name → IsTrue (is_name name.now)
-        → IsHeld r (branch_or_name r order.name) held
-        → Tests F.reading_may_fail place_causes r order (λ _. ⊤) result }
+        → name.now ≡ branch_or_name r sent.name → IsTrue (is_name name.now)
+        → IsHeld r (branch_or_name r sent.name) held
+        → Tests F.reading_may_fail place_causes r sent (λ _. ⊤) result }
 {
     if let Some(held) = held {
         if held.is_tag() {
@@ -331,9 +331,9 @@ pub(crate) fn read_base<F: Files>(
     alloc: Global,
     command: &CommitCommand,
 ) -> Result<Base, Stopped>
-    ensures { (r : plain.Repository) (order : orders.CommitCommand)
-        → AskedCommit F.is_honest F.history repository.now command.now r order
-        → Tests F.reading_may_fail name_causes r order (IsCommitBase r order) result }
+    ensures { (r : plain.Repository) (sent : commands.CommitCommand)
+        → AskedCommit F.is_honest F.history repository.now command.now r sent
+        → Tests F.reading_may_fail name_causes r sent (IsCommitBase r sent) result }
 {
     let mut read = ReadObjects::new(alloc);
     let name = name_of(repository, alloc, &command.name)?;

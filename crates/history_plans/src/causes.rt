@@ -108,12 +108,12 @@ pub(crate) fn read_times(
     message: &Field,
     has_long_content: bool,
 ) -> Result<Times, Cause>
-    ensures { (r : plain.Repository) (order : model.CommitCommand)
-        → IsActor author.now order.author → IsActor committer.now order.committer
-        → Keeps max_content message.now order.message
-        → has_long_content ≡ list_any is_long (contents_in (Commit order))
-        → first_among path_causes r (Commit order) ≡ None
-        → AreTimes r order result }
+    ensures { (r : plain.Repository) (sent : model.CommitCommand)
+        → IsActor author.now sent.author → IsActor committer.now sent.committer
+        → Keeps max_content message.now sent.message
+        → has_long_content ≡ list_any is_long (contents_in (Commit sent))
+        → first_among path_causes r (Commit sent) ≡ None
+        → AreTimes r sent result }
 {
     if !has_good_names(author) || !has_good_names(committer) {
         return Err(Cause::BadActor);

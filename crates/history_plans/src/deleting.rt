@@ -6,7 +6,7 @@ ghost use Rattle.history_model.specs.Bytes.{Bytes};
 ghost use Rattle.history_word.specs.Commands.{IsDelete};
 ghost use Rattle.history_plans.specs.Deleting.{TestsAll, gone_cause};
 ghost use Rattle.history_repository.specs.Stands.{Stands};
-ghost use Rattle.history_model.specs.Commands as orders;
+ghost use Rattle.history_model.specs.Commands as commands;
 ghost use Rattle.history_model.specs.Repository as plain;
 
 use crate::base::{Expected, read_expected, test_words};
@@ -41,7 +41,7 @@ pub fn test_delete<F: Files>(
 ) -> Result<(), Stopped>
     ensures { (r : plain.Repository) (name : Bytes) (at : Option Bytes)
         → Stands F.is_honest F.history repository.now r → IsDelete command.now name at
-        → TestsAll F.reading_may_fail r (orders.Delete name at) result }
+        → TestsAll F.reading_may_fail r (commands.Delete name at) result }
 {
     let mut read = ReadObjects::new(alloc);
     test_name(&command.name)?;

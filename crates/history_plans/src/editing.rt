@@ -1,6 +1,6 @@
 //! What a commit's edits put, and what they make of its first parent's files.
 
-ghost use Rattle.std.specs.Prelude.{◌≡◌, IfOk, IsFalse, List, map, option_to_list};
+ghost use Rattle.std.specs.Prelude.{◌≡◌, IfOk, IsFalse, List, OnOk, map, option_to_list};
 ghost use Rattle.std.specs.List.{AllZip, flat_map, list_any};
 ghost use Rattle.gix_hash.specs.Id.{Id};
 ghost use Rattle.history_model.specs.Causes.{is_bad_path};
@@ -11,6 +11,7 @@ ghost use Rattle.history_files.specs.Editing.{HavePaths};
 ghost use Rattle.history_store.specs.Stores.{AreObjectsOf};
 ghost use Rattle.history_word.specs.Commands.{AreEdits};
 ghost use Rattle.history_plans.specs.Files.{AreChangesOf, AreReadAs, HasSource, IsFoundFor, TellsEdited, TellsRead, IsChangeOf, change_parts, edit_parts, grafts_none, kept_edit, unmade};
+ghost use Rattle.history_repository.specs.Reads.{AreTrees};
 ghost use Rattle.history_repository.specs.Stands.{Stands};
 ghost use Rattle.history_repository.specs.TreesBefore.{IsTreeBefore};
 ghost use Rattle.history_model.specs.FileMap as model;
@@ -19,7 +20,9 @@ ghost use Rattle.history_model.specs.Repository as plain;
 use crate::grafts::{found_for, source_at};
 use gix_hash::{Kind, ObjectId};
 use gix_ref_file::Files;
-use history_files::{Change, EditError, EditedFiles, Found, edit_files};
+use history_files::{
+    Change, EditError, EditedFiles, Found, ReadTrees, TreeStore, edit_files, read_for_edits,
+};
 use history_model::{Cause, Fault};
 use history_repository::{PeeledCommit, Repository, Stopped, into_kept};
 use history_store::NewObject;
@@ -82,22 +85,25 @@ fn read_edit(kind: Kind, edit: Edit, found: Option<Found>) -> (PathChange, Optio
 pub(crate) fn read_edits<F: Files>(
     repository: &Repository<F>,
     alloc: Global,
+    read: &mut ReadTrees,
     edits: Vec<Edit>,
     sources: &[Option<PeeledCommit>],
 ) -> Result<Changes, Stopped>
-    ensures { (r : plain.Repository) (lines : List EditLine)
+    ensures changes { (r : plain.Repository) (lines : List EditLine)
         → Stands F.is_honest F.history repository.now r → AreEdits edits.items lines
         → IsFalse (list_any is_bad_path (flat_map edit_paths lines))
-        → AllZip (HasSource r) lines sources.now
+        → AllZip (HasSource r) lines sources.now → AreTrees r read.old
         → TellsRead F.reading_may_fail (map (kept_edit r) edits.items)
         (λ changes. AreReadAs r changes (map (kept_edit r) edits.items)) result }
+    ensures trees { (r : plain.Repository) → Stands F.is_honest F.history repository.now r
+        → AreTrees r read.old → OnOk result (AreTrees r read.new) }
 {
     let mut made = Vec::with_capacity(alloc, edits.len())?;
     let mut blobs = Vec::new(alloc);
     for edit in edits {
         let at = made.len();
         let source = source_at(sources, at);
-        let found = found_for(repository, alloc, &edit, source)?;
+        let found = found_for(repository, alloc, read, &edit, source)?;
         let (change, blob) = read_edit(repository.objects.kind(), edit, found);
         made.push(change)?;
         blobs.extend(blob)?;
@@ -151,23 +157,32 @@ fn unmade(error: EditError) -> Result<Option<EditedFiles>, Stopped>
 }
 
 /// Returns what changes make of the files of the first parent's tree, or of none; `None` if what is
-/// put or a tree would have the null id. It is refused with `IsFolder` if there is a folder where a
-/// file is to be removed. The faults are those of `read_edits`.
+/// put or a tree would have the null id. Trees that were read aren't read again. It is refused with
+/// `IsFolder` if there is a folder where a file is to be removed. The faults are those of
+/// `read_edits`.
 pub(crate) fn edited<F: Files>(
     repository: &Repository<F>,
     alloc: Global,
+    read: &mut ReadTrees,
     tree: Option<ObjectId>,
     changes: &[PathChange],
 ) -> Result<Option<EditedFiles>, Stopped>
-    ensures { (r : plain.Repository) (parents : List Id) (made : List model.Edit)
+    ensures edited { (r : plain.Repository) (parents : List Id) (made : List model.Edit)
         → Stands F.is_honest F.history repository.now r → IsTreeBefore r parents tree
-        → AreChangesOf r changes.now made → HavePaths made
+        → AreChangesOf r changes.now made → HavePaths made → AreTrees r read.old
         → TellsEdited F.reading_may_fail r parents made result }
+    ensures trees { (r : plain.Repository) → Stands F.is_honest F.history repository.now r
+        → AreTrees r read.old → OnOk result (AreTrees r read.new) }
 {
     let edits = edits_of(alloc, changes)?;
+    read_for_edits(alloc, &repository.objects, read, tree.as_ref(), &edits)?;
+    let store = TreeStore {
+        store: &repository.objects,
+        read,
+    };
     match edit_files(
         alloc,
-        &repository.objects,
+        &store,
         repository.objects.kind(),
         tree.as_ref(),
         &edits,

@@ -10,6 +10,7 @@ mod deleting;
 mod editing;
 mod grafts;
 mod moving;
+mod needed;
 mod packing;
 mod planning;
 mod renaming;

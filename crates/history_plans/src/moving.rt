@@ -13,7 +13,7 @@ ghost use Rattle.history_plans.specs.Moving.{AreLines, AreMoves, IsLine, IsLineM
 ghost use Rattle.history_plans.specs.CommitCauses.{TestsOf, place_causes};
 ghost use Rattle.history_repository.specs.Stands.{Stands};
 ghost use Rattle.history_model.specs.Causes as model;
-ghost use Rattle.history_model.specs.Commands as orders;
+ghost use Rattle.history_model.specs.Commands as commands;
 ghost use Rattle.history_model.specs.Repository as plain;
 
 use crate::actors::{actor_at, has_good_names, time_of};
@@ -96,9 +96,9 @@ impl Line {
         actor: &Actor,
         message: &[u8],
     ) -> Result<MovedName, AllocError>
-        ensures { (r : plain.Repository) (order : orders.MoveCommand) (to : orders.To)
-            → IsLine r to self → kind ≡ r.kind → IsTeller order actor.now message.now
-            → IfOk result (IsLineMove r order to) }
+        ensures { (r : plain.Repository) (sent : commands.MoveCommand) (to : commands.To)
+            → IsLine r to self → kind ≡ r.kind → IsTeller sent actor.now message.now
+            → IfOk result (IsLineMove r sent to) }
     {
         let before = id_before(self.held, kind);
         let after = self.word.id().unwrap_or(ObjectId::null(kind));
@@ -141,9 +141,9 @@ fn test_names(alloc: Global, to: &[To]) -> Result<(), Stopped>
 
 /// Returns whether the message has a second line, or can't be a title.
 fn is_bad_message(message: &Field) -> bool
-    ensures { (r : plain.Repository) (order : orders.MoveCommand)
-        → Keeps max_content message.now order.message
-        → result ≡ model.is_bad_message (orders.Move order) }
+    ensures { (r : plain.Repository) (sent : commands.MoveCommand)
+        → Keeps max_content message.now sent.message
+        → result ≡ model.is_bad_message (commands.Move sent) }
 {
     let text = kept(message);
     is_bad_title(text) || text.contains(&b'\n')
@@ -152,9 +152,9 @@ fn is_bad_message(message: &Field) -> bool
 /// Returns the actor of a move, if neither this nor the message is refused; otherwise `BadActor`,
 /// `BadTime` or `BadMessage`.
 fn read_teller(actor: ActorLine, message: &Field) -> Result<Actor, Cause>
-    ensures { (r : plain.Repository) (order : orders.MoveCommand)
-        → IsActor actor order.actor → Keeps max_content message.now order.message
-        → TellsTeller r order message.now result }
+    ensures { (r : plain.Repository) (sent : commands.MoveCommand)
+        → IsActor actor sent.actor → Keeps max_content message.now sent.message
+        → TellsTeller r sent message.now result }
 {
     if !has_good_names(&actor) {
         return Err(Cause::BadActor);
@@ -242,9 +242,9 @@ fn moves_of(
     actor: &Actor,
     message: &[u8],
 ) -> Result<Vec<MovedName>, AllocError>
-    ensures { (r : plain.Repository) (order : orders.MoveCommand) → AreLines r order.to lines.items
-        → kind ≡ r.kind → IsTeller order actor.now message.now
-        → IfOk result (λ moves. AreMoves r order order.to moves.items) }
+    ensures { (r : plain.Repository) (sent : commands.MoveCommand) → AreLines r sent.to lines.items
+        → kind ≡ r.kind → IsTeller sent actor.now message.now
+        → IfOk result (λ moves. AreMoves r sent sent.to moves.items) }
 {
     let mut moves = Vec::new(alloc);
     for line in lines {
@@ -261,9 +261,9 @@ fn read_line<F: Files>(
     read: &mut ReadObjects,
     to: To,
 ) -> Result<Line, Stopped>
-    ensures reads { (r : plain.Repository) (order : orders.To)
-        → Stands F.is_honest F.history repository.now r → IsTo to order
-        → AreMeant r read.old → GivesMeant F.reading_may_fail (IsLine r order) result }
+    ensures reads { (r : plain.Repository) (sent : commands.To)
+        → Stands F.is_honest F.history repository.now r → IsTo to sent
+        → AreMeant r read.old → GivesMeant F.reading_may_fail (IsLine r sent) result }
     ensures kept { (r : plain.Repository) → Stands F.is_honest F.history repository.now r
         → AreMeant r read.old → OnOk result (AreMeant r read.new) }
 {
@@ -284,7 +284,7 @@ fn read_lines<F: Files>(
     alloc: Global,
     to: Vec<To>,
 ) -> Result<Vec<Line>, Stopped>
-    ensures { (r : plain.Repository) (tos : List orders.To)
+    ensures { (r : plain.Repository) (tos : List commands.To)
         → Stands F.is_honest F.history repository.now r
         → AreTos to.items tos
         → GivesMeant F.reading_may_fail (λ lines. AreLines r tos lines.items) result }
@@ -303,7 +303,7 @@ fn is_barred<F: Files>(
     alloc: Global,
     line: &Line,
 ) -> Result<bool, Stopped>
-    ensures { (r : plain.Repository) (to : orders.To)
+    ensures { (r : plain.Repository) (to : commands.To)
         → Stands F.is_honest F.history repository.now r
         → IsLine r to line.now → IsTrue (is_name to.name)
         → GivesMeant F.reading_may_fail (λ barred. barred ≡ bars r to) result }
@@ -320,7 +320,7 @@ fn have_barred<F: Files>(
     alloc: Global,
     lines: &[Line],
 ) -> Result<bool, Stopped>
-    ensures { (r : plain.Repository) (tos : List orders.To)
+    ensures { (r : plain.Repository) (tos : List commands.To)
         → Stands F.is_honest F.history repository.now r → AreLines r tos lines.now
         → IsTrue (list_all (λ to. is_name to.name) tos)
         → GivesMeant F.reading_may_fail (λ barred. barred ≡ list_any (bars r) tos) result }
@@ -340,10 +340,10 @@ fn test_places<F: Files>(
     alloc: Global,
     lines: &[Line],
 ) -> Result<(), Stopped>
-    ensures { (r : plain.Repository) (order : orders.MoveCommand)
-        → Stands F.is_honest F.history repository.now r → AreLines r order.to lines.now
-        → IsTrue (list_all (λ to. is_name to.name) order.to)
-        → TestsOf F.reading_may_fail place_causes r (orders.Move order) (λ _. ⊤) result }
+    ensures { (r : plain.Repository) (sent : commands.MoveCommand)
+        → Stands F.is_honest F.history repository.now r → AreLines r sent.to lines.now
+        → IsTrue (list_all (λ to. is_name to.name) sent.to)
+        → TestsOf F.reading_may_fail place_causes r (commands.Move sent) (λ _. ⊤) result }
 {
     if do_lines_collide(alloc, lines)? {
         return Err(Stopped::Refused(Cause::Collides));
@@ -365,9 +365,9 @@ pub fn plan_moves<F: Files>(
     alloc: Global,
     command: MoveCommand,
 ) -> Result<Vec<MovedName>, Stopped>
-    ensures { (r : plain.Repository) (order : orders.MoveCommand)
-        → Stands F.is_honest F.history repository.now r → IsMove command order
-        → PlansMoves F.reading_may_fail r order result }
+    ensures { (r : plain.Repository) (sent : commands.MoveCommand)
+        → Stands F.is_honest F.history repository.now r → IsMove command sent
+        → PlansMoves F.reading_may_fail r sent result }
 {
     test_names(alloc, &command.to)?;
     let lines = read_lines(repository, alloc, command.to)?;

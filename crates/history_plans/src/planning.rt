@@ -19,16 +19,17 @@ ghost use Rattle.history_plans.specs.CommitCauses.{first_among, is_long, path_ca
 ghost use Rattle.history_plans.specs.Plans.{AreActors, AreAdded, AreNewFiles, GivesCommitted, GivesObjects, HasActors, IsMade, IsNotAdded, IsUnplanned, MakesCommit, Plans, Says, is_long_tree, object_parts, tree_parts};
 ghost use Rattle.history_repository.specs.Stands.{Stands};
 ghost use Rattle.history_model.specs.Repository as plain;
-ghost use Rattle.history_model.specs.Commands as orders;
+ghost use Rattle.history_model.specs.Commands as commands;
 ghost use Rattle.history_repository.specs.declared.stopped.Stopped.TheVariants as why;
 
 use crate::actors::actor_at;
 use crate::base::{Base, read_base};
 use crate::causes::{have_long_content, read_times, test_paths};
 use crate::editing::{edited, graft_nothing, read_edits};
+use crate::needed::needed;
 use gix_hash::ObjectId;
 use gix_ref_file::Files;
-use history_files::{EditedFiles, EditedTree};
+use history_files::{EditedFiles, EditedTree, ReadTrees};
 use history_model::limits::MAX_CONTENT;
 use history_model::{Cause, Fault};
 use history_repository::{PeeledCommit, Repository, Stopped, into_kept};
@@ -39,7 +40,8 @@ use std::alloc::{AllocError, Global};
 /// What a commit is to store, and how its name is to move.
 #[derive(Drop)]
 pub struct Plan {
-    /// The content of each `put`, the trees, each after those of its folders, the commit.
+    /// The content of each `put`, the trees, each after those of its folders, the commit; but each
+    /// text once, and no tree that was read as it is.
     pub objects: Vec<NewObject>,
     pub moves: MovedName,
 }
@@ -52,13 +54,14 @@ struct Actors {
 }
 
 /// What a commit's edits come to: the object of each content that they put, the trees of what they
-/// make (`None` if what is put or a tree would have the null id), and whether a content is over its
-/// limit.
+/// make (`None` if what is put or a tree would have the null id), whether a content is over its
+/// limit, and the trees that were read for it.
 #[derive(Drop)]
 struct NewFiles {
     blobs: Vec<NewObject>,
     edited: Option<EditedFiles>,
     has_long_content: bool,
+    read: ReadTrees,
 }
 
 /// The objects that are stored before a commit's own, and the id of its root.
@@ -110,16 +113,17 @@ fn add_trees(objects: &mut Vec<NewObject>, trees: Vec<EditedTree>) -> Result<(),
 }
 
 impl NewFiles {
-    /// Returns the objects of the contents and of the trees. It is refused with `TooLarge` if a
-    /// tree is over the limit. It is the fault `IdTaken` if what is put or a tree would have the
-    /// null id, and a fault too if no memory is left.
-    fn into_objects(self) -> Result<Below, Stopped>
+    /// Returns the objects of the contents and of the trees, but for those that need no storing. It
+    /// is refused with `TooLarge` if a tree is over the limit. It is the fault `IdTaken` if what is
+    /// put or a tree would have the null id, and a fault too if no memory is left.
+    fn into_objects(self, alloc: Global) -> Result<Below, Stopped>
         ensures { MatchOption self.edited (result ≡ Err (why.Fault IdTaken))
-            (λ edited. GivesObjects self.blobs.items edited result) }
+            (λ edited. GivesObjects self.read self.blobs.items edited result) }
     {
         let edited = self.edited.ok_or(Fault::IdTaken)?;
-        let mut objects = self.blobs;
-        add_trees(&mut objects, edited.trees)?;
+        let mut made = self.blobs;
+        add_trees(&mut made, edited.trees)?;
+        let objects = needed(alloc, made, &self.read)?;
         Ok(Below {
             root: edited.root,
             objects,
@@ -135,12 +139,12 @@ fn read_actors(
     message: &Field,
     has_long_content: bool,
 ) -> Result<Actors, Cause>
-    ensures { (r : plain.Repository) (order : orders.CommitCommand)
-        → IsActor author order.author → IsActor committer order.committer
-        → Keeps max_content message.now order.message
-        → has_long_content ≡ list_any is_long (contents_in (Commit order))
-        → first_among path_causes r (Commit order) ≡ None
-        → AreActors r order result }
+    ensures { (r : plain.Repository) (sent : commands.CommitCommand)
+        → IsActor author sent.author → IsActor committer sent.committer
+        → Keeps max_content message.now sent.message
+        → has_long_content ≡ list_any is_long (contents_in (Commit sent))
+        → first_among path_causes r (Commit sent) ≡ None
+        → AreActors r sent result }
 {
     let times = read_times(&author, &committer, message, has_long_content)?;
     let author = actor_at(author, times.author).ok_or(Cause::BadActor)?;
@@ -227,11 +231,11 @@ fn make_commit<F: Files>(
     actors: Actors,
     message: Vec<u8>,
 ) -> Result<Committed, Stopped>
-    ensures { (r : plain.Repository) (order : orders.CommitCommand)
-        → Stands F.is_honest F.history repository.now r → IsCommitBase r order base
-        → id_of root ≡ folder_id r.kind (new_commit r order).files
-        → HasActors r order actors → message.items ≡ order.message
-        → GivesCommitted r order result }
+    ensures { (r : plain.Repository) (sent : commands.CommitCommand)
+        → Stands F.is_honest F.history repository.now r → IsCommitBase r sent base
+        → id_of root ≡ folder_id r.kind (new_commit r sent).files
+        → HasActors r sent actors → message.items ≡ sent.message
+        → GivesCommitted r sent result }
 {
     let title = Vec::from_slice(alloc, title(&message))?;
     let log_actor = actors.committer.try_clone()?;
@@ -244,8 +248,8 @@ fn make_commit<F: Files>(
 }
 
 /// Returns what edits put, and what they make of the first parent's files, if no cause lies in
-/// their paths; otherwise it is refused with `BadPath`, `IsFolder` or `NoSuchPath`. It is a fault
-/// if a call of the files failed, or if no memory is left.
+/// their paths; otherwise it is refused with `BadPath`, `IsFolder` or `NoSuchPath`. Each tree is
+/// read once, wherever it is. It is a fault if a call of the files failed, or if no memory is left.
 fn new_files<F: Files>(
     repository: &Repository<F>,
     alloc: Global,
@@ -253,14 +257,15 @@ fn new_files<F: Files>(
     sources: &[Option<PeeledCommit>],
     edits: Vec<Edit>,
 ) -> Result<NewFiles, Stopped>
-    ensures { (r : plain.Repository) (order : orders.CommitCommand)
-        → AskedFiles F.is_honest F.history repository.now tree sources.now edits.items r order
-        → MatchResult result (AreNewFiles r order) (IsUnplanned F.reading_may_fail r order) }
+    ensures { (r : plain.Repository) (sent : commands.CommitCommand)
+        → AskedFiles F.is_honest F.history repository.now tree sources.now edits.items r sent
+        → MatchResult result (AreNewFiles r sent) (IsUnplanned F.reading_may_fail r sent) }
 {
     test_paths(&edits)?;
     let has_long_content = have_long_content(&edits);
-    let changes = read_edits(repository, alloc, edits, sources)?;
-    let edited = edited(repository, alloc, tree, &changes.made)?;
+    let mut read = ReadTrees::new(alloc);
+    let changes = read_edits(repository, alloc, &mut read, edits, sources)?;
+    let edited = edited(repository, alloc, &mut read, tree, &changes.made)?;
     if graft_nothing(&changes.made) {
         return Err(Stopped::Refused(Cause::NoSuchPath));
     }
@@ -268,6 +273,7 @@ fn new_files<F: Files>(
         blobs: changes.blobs,
         edited,
         has_long_content,
+        read,
     })
 }
 
@@ -283,9 +289,9 @@ pub fn plan_commit<F: Files>(
     alloc: Global,
     command: CommitCommand,
 ) -> Result<Plan, Stopped>
-    ensures { (r : plain.Repository) (order : orders.CommitCommand)
-        → AskedCommit F.is_honest F.history repository.now command r order
-        → Plans F.reading_may_fail r order result }
+    ensures { (r : plain.Repository) (sent : commands.CommitCommand)
+        → AskedCommit F.is_honest F.history repository.now command r sent
+        → Plans F.reading_may_fail r sent result }
 {
     let base = read_base(repository, alloc, &command)?;
     let files = new_files(repository, alloc, base.tree, &base.sources, command.edits)?;
@@ -295,7 +301,7 @@ pub fn plan_commit<F: Files>(
         &command.message,
         files.has_long_content,
     )?;
-    let below = files.into_objects()?;
+    let below = files.into_objects(alloc)?;
     let message = into_kept(command.message);
     let committed = make_commit(repository, alloc, base, below.root, actors, message)?;
     let mut objects = below.objects;

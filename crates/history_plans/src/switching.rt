@@ -4,7 +4,7 @@ ghost use Rattle.std.specs.Prelude.{◌≡◌, MatchResult, None, Some};
 ghost use Rattle.history_model.specs.Causes.{first_cause};
 ghost use Rattle.history_model.specs.Forms.{is_branch};
 ghost use Rattle.history_repository.specs.Stands.{Stands};
-ghost use Rattle.history_model.specs.Commands as orders;
+ghost use Rattle.history_model.specs.Commands as commands;
 ghost use Rattle.history_model.specs.Repository as plain;
 
 use gix_ref_file::Files;
@@ -24,8 +24,8 @@ fn is_branch(name: &[u8]) -> bool
 /// HEAD names it already.
 pub fn test_switch<F: Files>(repository: &Repository<F>, name: &[u8]) -> Result<(), Cause>
     ensures { (r : plain.Repository) → Stands F.is_honest F.history repository.now r
-        → MatchResult result (λ _. first_cause r (orders.Switch name.now) ≡ None)
-        (λ cause. first_cause r (orders.Switch name.now) ≡ Some cause) }
+        → MatchResult result (λ _. first_cause r (commands.Switch name.now) ≡ None)
+        (λ cause. first_cause r (commands.Switch name.now) ≡ Some cause) }
 {
     if !is_branch(name) {
         return Err(Cause::BadName);

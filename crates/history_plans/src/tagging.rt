@@ -11,7 +11,7 @@ ghost use Rattle.history_word.specs.Fields.{Keeps};
 ghost use Rattle.history_plans.specs.CommitCauses.{TestsOf};
 ghost use Rattle.history_repository.specs.Stands.{Stands};
 ghost use Rattle.history_plans.specs.Tagging.{IsTagBase, MakesTag, PlansTag, TellsTagger, is_tag_place, target_causes};
-ghost use Rattle.history_model.specs.Commands as orders;
+ghost use Rattle.history_model.specs.Commands as commands;
 ghost use Rattle.history_model.specs.Repository as plain;
 
 use crate::actors::{actor_at, has_good_names, time_of};
@@ -64,9 +64,9 @@ fn own_name(name: &[u8]) -> Option<&[u8]>
 /// Returns the tagger, if neither that nor the message is refused; otherwise `BadActor`, `BadTime`,
 /// `BadMessage` or `TooLarge`.
 fn read_tagger(actor: ActorLine, message: &Field) -> Result<Actor, Cause>
-    ensures { (r : plain.Repository) (order : orders.TagCommand)
-        → IsActor actor order.tagger → Keeps max_content message.now order.message
-        → TellsTagger r order message.now result }
+    ensures { (r : plain.Repository) (sent : commands.TagCommand)
+        → IsActor actor sent.tagger → Keeps max_content message.now sent.message
+        → TellsTagger r sent message.now result }
 {
     if !has_good_names(&actor) {
         return Err(Cause::BadActor);
@@ -91,12 +91,12 @@ fn tag_base<F: Files>(
     expect: &Expect,
     word: &[u8],
 ) -> Result<TagBase, Stopped>
-    ensures { (r : plain.Repository) (order : orders.TagCommand)
-        → Stands F.is_honest F.history repository.now r → name.now ≡ order.name
-        → IsExpect expect.now order.expect → word.now ≡ order.word
-        → IsTrue (is_name order.name)
-        → TestsOf F.reading_may_fail target_causes r (orders.Tag order)
-        (IsTagBase r order) result }
+    ensures { (r : plain.Repository) (sent : commands.TagCommand)
+        → Stands F.is_honest F.history repository.now r → name.now ≡ sent.name
+        → IsExpect expect.now sent.expect → word.now ≡ sent.word
+        → IsTrue (is_name sent.name)
+        → TestsOf F.reading_may_fail target_causes r (commands.Tag sent)
+        (IsTagBase r sent) result }
 {
     let mut read = ReadObjects::new(alloc);
     let expected = read_expected(repository, alloc, &mut read, expect)?;
@@ -142,9 +142,9 @@ pub fn plan_tag<F: Files>(
     alloc: Global,
     command: TagCommand,
 ) -> Result<Tagged, Stopped>
-    ensures { (r : plain.Repository) (order : orders.TagCommand)
-        → Stands F.is_honest F.history repository.now r → IsTag command order
-        → PlansTag F.reading_may_fail r order result }
+    ensures { (r : plain.Repository) (sent : commands.TagCommand)
+        → Stands F.is_honest F.history repository.now r → IsTag command sent
+        → PlansTag F.reading_may_fail r sent result }
 {
     let own = own_name(&command.name).ok_or(Cause::BadName)?;
     let tag_name = Vec::from_slice(alloc, own)?;

@@ -38,25 +38,25 @@ use Rattle.history_files.specs.declared.found.Found.TheVariants as found
 use Rattle.gix_object_commit.specs.declared.commit.owned.Commit as commits
 
 -- a fault of reading is no refusal
-pub reading_fault : (MayFail : Type 0) (r : Repository) (order : Command) (stopped : Stopped) → IsReadingFault MayFail stopped → OnlyAnswers MayFail r order (Err stopped)
-reading_fault MayFail r order (Refused cause) h = absurd h
-reading_fault MayFail r order (Fault fault) h = h
+pub reading_fault : (MayFail : Type 0) (r : Repository) (sent : Command) (stopped : Stopped) → IsReadingFault MayFail stopped → OnlyAnswers MayFail r sent (Err stopped)
+reading_fault MayFail r sent (Refused cause) h = absurd h
+reading_fault MayFail r sent (Fault fault) h = h
 
 -- a word that means no commit is refused for its cause
-pub unread : (MayFail : Type 0) (r : Repository) (order : Command) (word : Bytes) (stopped : Stopped) → ((cause : Cause) → commit_or_cause r word ≡ Err cause → first_cause r order ≡ Some cause)
-    → ReadsMeant MayFail r word (Err stopped) → OnlyAnswers MayFail r order (Err stopped)
-unread MayFail r order word (Refused cause) told h = told cause h
-unread MayFail r order word (Fault fault) told h = h
+pub unread : (MayFail : Type 0) (r : Repository) (sent : Command) (word : Bytes) (stopped : Stopped) → ((cause : Cause) → commit_or_cause r word ≡ Err cause → first_cause r sent ≡ Some cause)
+    → ReadsMeant MayFail r word (Err stopped) → OnlyAnswers MayFail r sent (Err stopped)
+unread MayFail r sent word (Refused cause) told h = told cause h
+unread MayFail r sent word (Fault fault) told h = h
 
 -- what a call stopped for is handed on
-pub handed_on : (MayFail : Type 0) (r : Repository) (order : Command) (result : Result (Vec ℕ Global) Stopped) (stopped : Stopped) → IsErrAnd result (λ other. other ≡ stopped) → OnlyAnswers MayFail r order (Err stopped) → OnlyAnswers MayFail r order result
-handed_on MayFail r order (Ok text) stopped same h = absurd same
-handed_on MayFail r order (Err other) stopped same h = subst (λ (x : Stopped). OnlyAnswers MayFail r order (Err x)) (sym same) h
+pub handed_on : (MayFail : Type 0) (r : Repository) (sent : Command) (result : Result (Vec ℕ Global) Stopped) (stopped : Stopped) → IsErrAnd result (λ other. other ≡ stopped) → OnlyAnswers MayFail r sent (Err stopped) → OnlyAnswers MayFail r sent result
+handed_on MayFail r sent (Ok text) stopped same h = absurd same
+handed_on MayFail r sent (Err other) stopped same h = subst (λ (x : Stopped). OnlyAnswers MayFail r sent (Err x)) (sym same) h
 
 -- what is given is what the command returns
-pub given : (MayFail : Type 0) (P : Vec ℕ Global → Type 0) (r : Repository) (order : Command) (result : Result (Vec ℕ Global) Stopped) → GivesMeant MayFail P result → ((text : Vec ℕ Global) → P text → OnlyAnswers MayFail r order (Ok text)) → OnlyAnswers MayFail r order result
-given MayFail P r order (Ok text) h answers = answers text h
-given MayFail P r order (Err stopped) h answers = reading_fault MayFail r order stopped h
+pub given : (MayFail : Type 0) (P : Vec ℕ Global → Type 0) (r : Repository) (sent : Command) (result : Result (Vec ℕ Global) Stopped) → GivesMeant MayFail P result → ((text : Vec ℕ Global) → P text → OnlyAnswers MayFail r sent (Ok text)) → OnlyAnswers MayFail r sent result
+given MayFail P r sent (Ok text) h answers = answers text h
+given MayFail P r sent (Err stopped) h answers = reading_fault MayFail r sent stopped h
 
 -- by what a good path meets
 abbrev by_path : FileMap → Bytes → Option Cause

@@ -4,7 +4,6 @@ pub mod CommitsWalked
 pub mod DifferingLemmas
 pub mod FoundLemmas
 pub mod Fronts
-pub mod LineTexts
 pub mod LogItems
 pub mod LogLemmas
 pub mod OrderLemmas

@@ -38,14 +38,14 @@ pub record IsFollowed (r : Repository) (request : Request) (walk : Walk) : Type 
   pub read : AreRead r walk.read
 
 -- a walk that a log requests, over stored commits
-pub record IsWalkOf (r : Repository) (order : LogCommand) (ids : List ObjectId) : Type 0 where
-  pub walk : IsWalk order.order (commits_of r) (walk_request r order) (map id_of ids)
+pub record IsWalkOf (r : Repository) (sent : LogCommand) (ids : List ObjectId) : Type 0 where
+  pub walk : IsWalk sent.order (commits_of r) (walk_request r sent) (map id_of ids)
   pub hold : AllHold r ids
 
 -- A log of which no cause holds is walked; or it is refused for the first cause that holds, or met
 -- a fault.
 abbrev pub Walks : Type 0 → Repository → LogCommand → Result Walk Stopped → Type 0
-Walks MayFail r order (Ok walk) =
-    (first_cause r (Log order) ≡ None) × IsWalkOf r order walk.ids.items × AreRead r walk.read
-Walks MayFail r order (Err (Refused cause)) = first_cause r (Log order) ≡ Some cause
-Walks MayFail r order (Err (Fault fault)) = IsReadingFault MayFail (Fault fault)
+Walks MayFail r sent (Ok walk) =
+    (first_cause r (Log sent) ≡ None) × IsWalkOf r sent walk.ids.items × AreRead r walk.read
+Walks MayFail r sent (Err (Refused cause)) = first_cause r (Log sent) ≡ Some cause
+Walks MayFail r sent (Err (Fault fault)) = IsReadingFault MayFail (Fault fault)

@@ -3,7 +3,6 @@
 #![tactic(auto)]
 
 mod differing;
-mod lines;
 mod listed;
 mod listing;
 mod logs;
@@ -12,7 +11,6 @@ mod reading;
 mod rows;
 mod showing;
 
-pub use lines::line;
 pub use listed::list_names;
 pub use listing::list_files;
 pub use logs::log;

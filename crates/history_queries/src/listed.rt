@@ -8,12 +8,12 @@ ghost use Rattle.history_repository.specs.Reads.{OnlyAnswers};
 ghost use Rattle.history_model.specs.Repository as plain;
 ghost use Rattle.history_model.specs.Commands as model;
 
-use crate::lines::line;
 use gix_hash::Kind;
 use gix_ref_file::Files;
 use history_model::Cause;
 use history_repository::{ALL_NAMES, Repository, Shown, Stopped, read_shown, test_name};
 use history_store::hex_digits;
+use history_word::line;
 use std::alloc::{AllocError, Global};
 
 /// Tests that the folder is that of all names, or a name that a repository may hold. Otherwise

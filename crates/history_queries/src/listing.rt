@@ -8,13 +8,13 @@ ghost use Rattle.history_repository.specs.Reads.{OnlyAnswers};
 ghost use Rattle.history_model.specs.Repository as plain;
 ghost use Rattle.history_model.specs.Commands as model;
 
-use crate::lines::{field, kind_word, line};
 use crate::reading::files_below;
 use gix_hash::Kind;
 use gix_ref_file::Files;
 use history_files::File;
 use history_repository::{Repository, Stopped, read_commit_of, root_meant};
 use history_store::hex_digits;
+use history_word::{field, kind_word, line};
 use std::alloc::{AllocError, Global};
 
 /// Returns the text that lists files.

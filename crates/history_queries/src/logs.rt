@@ -17,7 +17,6 @@ ghost use Rattle.history_model.specs.Commands as model;
 ghost use Rattle.history_model.specs.Repository as plain;
 
 use crate::differing::differing;
-use crate::lines::line;
 use crate::reading::{Walk, commits};
 use gix_hash::{Kind, ObjectId};
 use gix_ref_file::Files;
@@ -27,7 +26,7 @@ use history_repository::{
 };
 use history_store::{hex_digits, parse_time};
 use history_walks::{self as walks, Parents, Request};
-use history_word::{Field, LogCommand, LogItem, Order};
+use history_word::{Field, LogCommand, LogItem, Order, line};
 use std::alloc::{AllocError, Global};
 
 /// What the words of a log's items read as.
@@ -191,9 +190,9 @@ fn walked<F: Files>(
     alloc: Global,
     command: &LogCommand,
 ) -> Result<Walk, Stopped>
-    ensures { (r : plain.Repository) (order : model.LogCommand)
-        → Stands F.is_honest F.history repository.now r → IsLog command.now order
-        → Walks F.reading_may_fail r order result }
+    ensures { (r : plain.Repository) (sent : model.LogCommand)
+        → Stands F.is_honest F.history repository.now r → IsLog command.now sent
+        → Walks F.reading_may_fail r sent result }
 {
     let mut read = ReadObjects::keeping(alloc);
     let ends = read_ends(repository, alloc, &mut read, &command.items)?;
@@ -225,9 +224,9 @@ pub fn log<F: Files>(
     alloc: Global,
     command: &LogCommand,
 ) -> Result<Vec<u8>, Stopped>
-    ensures { (r : plain.Repository) (order : model.LogCommand)
-        → Stands F.is_honest F.history repository.now r → IsLog command.now order
-        → OnlyAnswers F.reading_may_fail r (model.Log order) result }
+    ensures { (r : plain.Repository) (sent : model.LogCommand)
+        → Stands F.is_honest F.history repository.now r → IsLog command.now sent
+        → OnlyAnswers F.reading_may_fail r (model.Log sent) result }
 {
     let walked = walked(repository, alloc, command)?;
     if command.paths.is_empty() {

@@ -13,12 +13,12 @@ ghost use Rattle.history_repository.specs.Reads.{OnlyAnswers, GivesMeant};
 ghost use Rattle.history_model.specs.Repository as plain;
 ghost use Rattle.history_model.specs.Commands as model;
 
-use crate::lines::{field, line};
 use gix_ref_file::Files;
 use history_model::Cause;
 use history_model::names::HEAD;
 use history_repository::{Repository, Stopped, first_standing, test_name};
 use history_store::{is_name, log_lines};
+use history_word::{field, line};
 use std::alloc::{AllocError, Global};
 
 /// Returns the text that lists a name's moves, the newest first, given the name's log.

@@ -22,7 +22,6 @@ ghost use Rattle.gix_hash.specs.declared.kind.Kind as hash;
 ghost use Rattle.history_model.specs.Repository as plain;
 ghost use Rattle.history_model.specs.Commands as model;
 
-use crate::lines::{field, kind_word, line};
 use crate::reading::commit_meant;
 use gix_hash::{Kind, ObjectId};
 use gix_object::Commit;
@@ -35,7 +34,7 @@ use history_repository::{
     root_meant,
 };
 use history_store::hex_digits;
-use history_word::{Field, Show};
+use history_word::{Field, Show, field, kind_word, line};
 use std::alloc::{AllocError, Global};
 
 /// Appends a line for each parent.

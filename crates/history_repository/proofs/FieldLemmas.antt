@@ -38,14 +38,12 @@ kept_whole limit (TooLong kept) bytes h small = absurd (omega (arith, h.0))
 -- ---- paths
 
 -- of a path within the limit
-pub bad_within : (path : Bytes) → length path ≤ max_path → is_bad_path path ≡ (has_byte 0 path || list_any is_empty (components path))
-bad_within path small = ap (λ over. not (is_path path) || over) (within max_path (length path) small) ∙ either_so (list_any is_empty (components path)) (has_byte 0 path)
+pub bad_within : (path : Bytes) → length path ≤ max_path → is_bad_path path ≡ not (is_path path)
+bad_within path small = ap (λ over. not (is_path path) || over) (within max_path (length path) small) ∙ or_false (not (is_path path))
   where
-    either_so : (c z : Bool) → (not (not c && not z) || false) ≡ (z || c)
-    either_so true true = refl
-    either_so true false = refl
-    either_so false true = refl
-    either_so false false = refl
+    or_false : (a : Bool) → (a || false) ≡ a
+    or_false true = refl
+    or_false false = refl
 
 pub bad_beyond : (path : Bytes) → max_path < length path → is_bad_path path ≡ true
 bad_beyond path large = ap (λ over. not (is_path path) || over) (beyond max_path (length path) large) ∙ either_true (not (is_path path))

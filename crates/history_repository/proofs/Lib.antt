@@ -17,6 +17,5 @@ pub mod SecondsLemmas
 pub mod ShortIds
 pub mod StoredValues
 pub mod Tables
-mod Unread
 pub mod WordCauses
 pub mod WordReads

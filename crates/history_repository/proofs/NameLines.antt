@@ -20,7 +20,6 @@ use Rattle.history_model.specs.FileMap.{is_below}
 use Rattle.history_model.specs.Forms.{is_name, is_private, is_reference, IsWritten}
 use Rattle.history_model.specs.Repository.{Repository, Reference, HasWholeNames, id_at, peeled}
 use Rattle.history_model.specs.Places.{Pair}
-use Rattle.history_model.specs.NameStates.{name_state}
 use Rattle.history_model.specs.StandsFor.{StandsFor}
 use Rattle.history_model.specs.Commands.{Names}
 use Rattle.history_model.specs.Causes.{first_cause}
@@ -33,9 +32,8 @@ use Rattle.history_model.specs.declared.Cause.TheVariants.{BadName, PrivateName}
 use Rattle.history_model.proofs.WholeLists.{In}
 use Rattle.history_model.proofs.WholeStores.{in_get}
 use Rattle.history_files.proofs.Lines.{map_twice}
-use Rattle.history_store.specs.AllNames.{ListsAll, id_read}
-use Rattle.history_store.specs.NameLists.{NameIds, name_entry}
-use Rattle.history_store.specs.Packing.{told_id}
+use Rattle.history_store.specs.AllNames.{ListsAll, NameIds, id_below, name_entry}
+use Rattle.history_store.specs.Packing.{id_read}
 use Rattle.history_store.specs.declared.listed.NamedId.{NamedId}
 use Rattle.history_repository.specs.Reads.{OnlyAnswers, IsReadingFault}
 use Rattle.history_repository.specs.NameForms.{form_cause}
@@ -76,9 +74,6 @@ names_cause r (Some folder) = by_folder (bytes_eq folder (codes "refs"))
     by_folder : (b : Bool) → by_names (cond b [] (folder ∷ []) ++ []) ≡ cond b None (form_cause folder)
     by_folder true = refl
     by_folder false = by_form (not (is_name folder)) (is_private folder)
-
-pub not_root : (folder : Bytes) → folder_cause folder ≡ None → folder ≡ [] → ⊥
-not_root folder good none = let wrong : Some BadName ≡ None = ap folder_cause (sym none) ∙ good in absurd (cc wrong)
 
 -- ---- the lines
 
@@ -125,10 +120,10 @@ named_peeled r (named ∷ names) all = (all.0, named_peeled r names all.1)
 
 module _ (pair : Pair) (r : Repository) (stand : StandsFor r.kind pair r) (written : IsWritten r) (folder : Option Bytes) where
   -- a name in the folder is listed with what it holds, and no other name is listed
-  asked_holds : (q : Bytes) → id_read r.kind pair.names (asked_folder folder) q ≡ cond (is_in_folder folder q) (id_at r q) None
+  asked_holds : (q : Bytes) → id_below r.kind pair.names (asked_folder folder) q ≡ cond (is_in_folder folder q) (id_at r q) None
   asked_holds q = by_folder folder
     where
-      told : (b : Bool) → cond b (told_id (name_state r.kind pair.names q)) None ≡ cond b (id_at r q) None
+      told : (b : Bool) → cond b (id_read r.kind pair.names q) None ≡ cond b (id_at r q) None
       told b = ap (λ o. cond b o None) (state_told pair r stand q)
 
       no_name : (o : Option Reference) → get r.names q ≡ o → is_below (codes "refs") q ≡ false → None ≡ option_map (λ (ref : Reference). ref.id) o
@@ -142,7 +137,7 @@ module _ (pair : Pair) (r : Repository) (stand : StandsFor r.kind pair r) (writt
       all_named true below = refl
       all_named false apart = no_name (get r.names q) refl apart
 
-      by_folder : (folder : Option Bytes) → id_read r.kind pair.names (asked_folder folder) q ≡ cond (is_in_folder folder q) (id_at r q) None
+      by_folder : (folder : Option Bytes) → id_below r.kind pair.names (asked_folder folder) q ≡ cond (is_in_folder folder q) (id_at r q) None
       by_folder None = told (is_below (codes "refs") q) ∙ all_named (is_below (codes "refs") q) refl
       by_folder (Some f) = told (is_below f q)
 
@@ -159,7 +154,7 @@ module _ (pair : Pair) (r : Repository) (stand : StandsFor r.kind pair r) (writt
       by_test true = ap (option_map (λ (ref : Reference). ref.id)) (sym (get-entries r.names q))
       by_test false = refl
 
-  ids_are : (ids : NameIds) → ((name : Bytes) → get ids name ≡ id_read r.kind pair.names (asked_folder folder) name) → entries ids ≡ map held_entry shown
+  ids_are : (ids : NameIds) → ((name : Bytes) → get ids name ≡ id_below r.kind pair.names (asked_folder folder) name) → entries ids ≡ map held_entry shown
   ids_are ids each =
       same_entries by_bytes nat_list_cmp_total (slice_cmp-IsAntisymmetric nat_cmp-IsAntisymmetric) (entries ids) (map held_entry shown) (entries_sorted ids)
       (subst T (sym (sorted_held shown)) (is_sorted-where_key by_bytes (is_in_folder folder) (entries r.names) (entries_sorted r.names)))

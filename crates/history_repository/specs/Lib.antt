@@ -13,3 +13,18 @@ pub mod Opened
 pub mod Reads
 pub mod Stands
 pub mod TreesBefore
+pub use Rattle.gix_hash.specs.Id
+pub use Rattle.gix_hash.specs.Order
+pub use Rattle.history_files.specs.Reading
+pub use Rattle.history_model.specs.Bytes
+pub use Rattle.history_model.specs.Causes as ModelCauses
+pub use Rattle.history_model.specs.FileMap
+pub use Rattle.history_model.specs.Forms
+pub use Rattle.history_model.specs.Objects
+pub use Rattle.history_model.specs.Repository
+pub use Rattle.history_model.specs.StandsFor
+pub use Rattle.history_model.specs.Words
+pub use Rattle.history_store.specs.Creation
+pub use Rattle.history_store.specs.NamesFace
+pub use Rattle.history_store.specs.ObjectsFace
+pub use Rattle.history_word.specs.Fields as WordFields

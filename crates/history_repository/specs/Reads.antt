@@ -19,7 +19,7 @@ use Rattle.history_repository.specs.declared.stopped.Stopped.{Stopped}
 use Rattle.history_repository.specs.declared.stopped.Stopped.TheVariants.{Refused, Fault}
 use Rattle.gix_hash.specs.Id.{id_of}
 use Rattle.history_model.specs.Repository as plain
-use Rattle.history_model.specs.Commands as orders
+use Rattle.history_model.specs.Commands as commands
 use Rattle.history_model.specs.Replies as replies
 
 -- ---- faults
@@ -69,10 +69,10 @@ ReadsMeant MayFail r word (Err (Fault fault)) = IsReadingFault MayFail (Fault fa
 
 -- A command that changes nothing returns its reply, is refused for the first cause that holds, or
 -- met a fault.
-abbrev pub OnlyAnswers : Type 0 → plain.Repository → orders.Command
+abbrev pub OnlyAnswers : Type 0 → plain.Repository → commands.Command
     → Result (Vec ℕ Global) Stopped → Type 0
-OnlyAnswers MayFail r order (Ok text) =
-    (reply : replies.Reply) × (text.items ≡ reply_text reply) × (first_cause r order ≡ None)
-    × Answers r order reply
-OnlyAnswers MayFail r order (Err (Refused cause)) = first_cause r order ≡ Some cause
-OnlyAnswers MayFail r order (Err (Fault fault)) = IsReadingFault MayFail (Fault fault)
+OnlyAnswers MayFail r sent (Ok text) =
+    (reply : replies.Reply) × (text.items ≡ reply_text reply) × (first_cause r sent ≡ None)
+    × Answers r sent reply
+OnlyAnswers MayFail r sent (Err (Refused cause)) = first_cause r sent ≡ Some cause
+OnlyAnswers MayFail r sent (Err (Fault fault)) = IsReadingFault MayFail (Fault fault)

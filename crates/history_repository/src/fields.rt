@@ -7,6 +7,7 @@ ghost use Rattle.history_model.specs.Forms.{max_path};
 ghost use Rattle.history_word.specs.Fields.{Keeps};
 ghost use Rattle.history_repository.specs.Fields.{kept_bytes};
 
+use history_files::is_file_path;
 use history_word::Field;
 
 /// Returns whether the path is invalid: over the limit, or with a zero byte or an empty name.
@@ -14,8 +15,7 @@ pub fn is_bad_path(path: &Field) -> bool
     ensures { (bytes : Bytes) → Keeps max_path path.now bytes → result ≡ is_bad_path bytes }
 {
     match path {
-        Field::Whole(path) => path.contains(&b'\0')
-            || path.split(|byte| *byte == b'/').any(|name| name.is_empty()),
+        Field::Whole(path) => !is_file_path(path),
         Field::TooLong(_) => true,
     }
 }

@@ -1,15 +1,11 @@
 //! The two parts of a folder, opened.
 
-ghost use Rattle.std.specs.Prelude.{◌≡◌, IfErr, IfOk, OnOk};
-ghost use Rattle.gix_ref_file.specs.Calls.{Finds};
+ghost use Rattle.std.specs.Prelude.{◌≡◌, IfErr, IfOk};
 ghost use Rattle.history_model.specs.Repository.{Repository};
 ghost use Rattle.history_model.specs.StandsFor.{StandsWhole};
 ghost use Rattle.history_store.specs.NamesFace.{files_of_names, kind_of_names};
 ghost use Rattle.history_store.specs.ObjectsFace.{files_of_objects, ids_of_objects, kind_of_objects};
-ghost use Rattle.history_store.specs.Packing.{KeepsRecords};
-ghost use Rattle.history_check_names.specs.Causes.{HasCause};
-ghost use Rattle.history_check_names.specs.Parts.{IsNamesPart, StandsNames};
-ghost use Rattle.history_check_objects.specs.Stored.{AreFactsOf, facts_in};
+ghost use Rattle.history_check_objects.specs.Stored.{facts_in};
 ghost use Rattle.history_store.specs.Opened.{IsOpenedWith};
 ghost use Rattle.history_repository.specs.Causes.{IsOpenCause, IsOpenFault};
 ghost use Rattle.history_repository.specs.Opened.{IsOpenedAs, trees_of};
@@ -17,11 +13,9 @@ ghost use Rattle.history_repository.specs.Opened.{IsOpenedAs, trees_of};
 use crate::open_error::OpenRefusal;
 use gix_hash::Kind;
 use gix_ref_file::Files;
-use gix_ref_format::packed::buffer as packed;
 use history_check_names::survey_names;
 use history_check_objects::Stored;
 use history_store::{Names, Objects, open_objects};
-use history_texts::OpenError;
 use std::alloc::Global;
 
 /// A folder that was opened: its objects, its names, and the branch that HEAD names.
@@ -34,7 +28,7 @@ pub struct OpenedFolder<F: Files> {
 
 /// Opens a folder whose two parts are those of one repository of this kind: whole, in written form
 /// and within the limits, with no file and no folder besides, whoever wrote them. No file is
-/// changed; each object is read once; `packed-refs` is read twice, once to be kept.
+/// changed; each object and `packed-refs` is read once.
 ///
 /// Otherwise the refusal names a cause that holds of the parts, and returns both. The objects are
 /// surveyed before the names, so a cause of the names comes only if the objects are whole.
@@ -107,7 +101,7 @@ fn open_names<F: Files>(
         × (refusal.names ≡ names)) }
 {
     let mut names = Names::new(alloc, names, objects.kind());
-    match read_names(alloc, &mut names, stored) {
+    match survey_names(alloc, &mut names, stored) {
         Ok(branch) => Ok(OpenedFolder {
             objects,
             names,
@@ -118,36 +112,5 @@ fn open_names<F: Files>(
             objects: objects.into_files(),
             names: names.into_files(),
         }),
-    }
-}
-
-// Surveys the names, and keeps the records of those that are packed. Returns HEAD's branch, or why
-// the names aren't a repository's.
-fn read_names<F: Files>(
-    alloc: Global,
-    names: &mut Names<F>,
-    stored: &Stored,
-) -> Result<Vec<u8>, OpenError>
-    ensures files { files_of_names names.new ≡ files_of_names names.old }
-    ensures kind { kind_of_names names.new ≡ kind_of_names names.old }
-    ensures stands { Finds F.is_honest F.history (files_of_names names.old) (λ tree. IfOk result
-        (λ branch. IsNamesPart (kind_of_names names.old) (facts_in stored.now) tree branch.items)) }
-    ensures keeps { Finds F.is_honest F.history (files_of_names names.old)
-        (λ tree. OnOk result (KeepsRecords names.new tree)) }
-    ensures wrong { Finds F.is_honest F.history (files_of_names names.old) (λ tree. IfErr result
-        (HasCause F.reading_may_fail (kind_of_names names.old) (facts_in stored.now) tree)) }
-    ensures accepted { (r : Repository) → r.kind ≡ kind_of_names names.old
-        → AreFactsOf (facts_in stored.now) r.objects
-        → Finds F.is_honest F.history (files_of_names names.old)
-        (λ tree. StandsNames tree r → IfErr result IsOpenFault) }
-{
-    let branch = survey_names(alloc, &*names, stored)?;
-    match names.read_packed(alloc) {
-        Ok(()) => Ok(branch),
-        Err(packed::Error::Memory) => Err(OpenError::Memory),
-        Err(packed::Error::Io) => Err(OpenError::File),
-        // What was surveyed can be parsed: the file changed meanwhile.
-        Err(packed::Error::Iter { .. }) => Err(OpenError::File),
-        Err(packed::Error::HeaderParsing) => Err(OpenError::File),
     }
 }

@@ -95,7 +95,7 @@ pub fn round<R: Source, W: Sink, F: Files>(
 }
 
 /// One more round, after any rounds, each of which was stopped or ended: the same call as
-/// [`round`].
+/// [`round`], with its errors.
 ///
 /// After rounds from a pair that represents a whole repository, of which the last left these parts,
 /// steps and stops of the plain repository explain what all rounds and this one replied, wrote and

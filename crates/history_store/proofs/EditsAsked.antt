@@ -13,7 +13,6 @@ use Rattle.gix_ref_edit.specs.declared.change.PreviousValue.{PreviousValue}
 use Rattle.gix_ref_edit.specs.declared.change.RefEdit.{RefEdit}
 use Rattle.history_model.specs.Bytes.{Bytes}
 use Rattle.history_model.specs.Forms.{is_actor, is_id, is_name}
-use Rattle.history_model.specs.NameStates.{name_state}
 use Rattle.history_model.specs.Objects.{Actor}
 use Rattle.std.specs.Prelude.{is_some}
 use Rattle.std.specs.FinMap.{get}
@@ -23,16 +22,15 @@ use Rattle.std.proofs.lemmas.Bool.{and_parts}
 use Rattle.history_layout.specs.EditFits.{IsNextEntry}
 use Rattle.history_layout.specs.EditSteps as edits
 use Rattle.history_layout.specs.EditSteps.{edited_names}
-use Rattle.history_layout.specs.Passing.{reads_as}
 use Rattle.history_layout.specs.TreeHalves.{HoldsNames}
-use Rattle.history_layout.proofs.PackedReads.{reads_held}
 use Rattle.history_edits.specs.Bridges.{Commits}
 use Rattle.history_edits.specs.EditFaults.{AllTest, Expects, Tests}
 use Rattle.history_edits.specs.EditPlans.{AreEdits, IsLogged}
-use Rattle.history_store.specs.Changing.{AreUnsplit, AsksAs, AsksChange, AsksToDelete, CanChange, ExpectsBefore, ExpectsId, HaveOneActor, IsCommitter, moved_in, moved_text}
-use Rattle.history_store.specs.Packing.{told_id}
+use Rattle.history_store.specs.Changing.{AreUnsplit, AsksAs, AsksChange, AsksToDelete, ExpectsBefore, ExpectsId, HaveOneActor, IsCommitter, MayChange, moved_in, moved_text}
+use Rattle.history_store.specs.Packing.{id_read}
 use Rattle.history_store.specs.declared.changing.MovedName.{MovedName}
 use Rattle.history_store.specs.declared.names.Names.{Names}
+use Rattle.history_store.proofs.NamesRead.{id_held}
 
 abbrev Moved : Type 0
 Moved = edits.MovedName
@@ -95,22 +93,18 @@ module _ (r : Repository) (set : (name : Bytes) → id_at r name ≢ Some (null_
 
 -- ---- what the deleted name holds
 
-told_held : (held : Option Id) → told_id (reads_as held) ≡ held
-told_held None = refl
-told_held (Some id) = refl
+-- a name reads as what it holds
+held_is : (r : Repository) (tree : Tree) (kind : Kind) (name : Bytes) → kind ≡ r.kind → HoldsNames tree r → id_read kind tree name ≡ id_at r name
+held_is r tree kind name same holds = ap (λ k. id_read k tree name) same ∙ id_held r tree holds name
 
-pub held_is : (r : Repository) (tree : Tree) (kind : Kind) (name : Bytes) → kind ≡ r.kind → HoldsNames tree r → told_id (name_state kind tree name) ≡ id_at r name
-held_is r tree kind name same holds = ap (λ k. told_id (name_state k tree name)) same ∙ ap told_id (reads_held r tree holds name) ∙ told_held (id_at r name)
-
--- a name that exists holds an id
-pub held_told : (r : Repository) (tree : Tree) (kind : Kind) (name : Bytes) → kind ≡ r.kind → HoldsNames tree r → stands r name ≡ true → told_id (name_state kind tree name) ≢ None
+pub held_told : (r : Repository) (tree : Tree) (kind : Kind) (name : Bytes) → kind ≡ r.kind → HoldsNames tree r → stands r name ≡ true → id_read kind tree name ≢ None
 held_told r tree kind name same holds stood none = go (get r.names name) stood (sym (held_is r tree kind name same holds) ∙ none)
   where
     go : (found : Option Reference) → is_some found ≡ true → option_map (λ ref. ref.id) found ≡ None → ⊥
     go None exists lacks = cc
     go (Some ref) exists lacks = cc
 
-pub held_tests : (r : Repository) (tree : Tree) (kind : Kind) (name : Bytes) (edit : RefEdit) → kind ≡ r.kind → HoldsNames tree r → edit.name ≡ name → Tests (told_id (name_state kind tree name)) edit.change → Tests (id_at r edit.name) edit.change
+pub held_tests : (r : Repository) (tree : Tree) (kind : Kind) (name : Bytes) (edit : RefEdit) → kind ≡ r.kind → HoldsNames tree r → edit.name ≡ name → Tests (id_read kind tree name) edit.change → Tests (id_at r edit.name) edit.change
 held_tests r tree kind name edit same holds is tests =
     subst (λ n. Tests (id_at r n) edit.change) (sym is) (subst (λ held. Tests held edit.change) (held_is r tree kind name same holds) tests)
 
@@ -164,10 +158,10 @@ named_at (x ∷ moved) (suc i) d m inside is all = named_at moved i d m (omega (
 
 -- ---- what is asked of a transaction
 
-pub asks_change : {F : Type 0} (IsHonest : F → Type 0) (history : F → History) (names : Names F) (r : Repository) (moved : List Moved) (taken : Option Bytes) (committer : Option ActorRef) (asked : List RefEdit) → CanChange IsHonest history names r moved taken → AreEdits moved taken asked → AreUnsplit asked → AllTest r asked
+pub asks_change : {F : Type 0} (IsHonest : F → Type 0) (history : F → History) (names : Names F) (r : Repository) (moved : List Moved) (taken : Option Bytes) (committer : Option ActorRef) (asked : List RefEdit) → MayChange IsHonest history names r moved taken → AreEdits moved taken asked → AreUnsplit asked → AllTest r asked
     → IsCommitter moved committer → AsksChange IsHonest history names r moved taken committer asked
-asks_change IsHonest history names r moved taken committer asked can are plain tests who = record {
-  can = can;
-  edits = record { named = can.may.fit.named; logged = all_logged r committer moved can.may.fit.each can.may.one_actor who; asks = are; plain = plain };
+asks_change IsHonest history names r moved taken committer asked may are plain tests who = record {
+  may = may;
+  edits = record { named = may.fit.named; logged = all_logged r committer moved may.fit.each may.one_actor who; asks = are; plain = plain };
   tests = tests;
 }

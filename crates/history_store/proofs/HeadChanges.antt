@@ -1,5 +1,5 @@
 -- HEAD is changed by a transaction.
-use Rattle.std.proofs.Common.{◌≡◌, ◌⊎◌, inl, inr, ℕ, true, false, List, [], ◌∷◌, sym, ◌∙◌, ap, subst, Option, None, bytes_eq}
+use Rattle.std.proofs.Common.{◌≡◌, ◌⊎◌, ℕ, true, false, List, [], ◌∷◌, sym, ◌∙◌, ap, subst, Option, None, option_map, bytes_eq}
 use Rattle.std.specs.Borrow.{Bor}
 use Rattle.std.specs.Prelude.{option_copied}
 use Rattle.gix_hash.specs.declared.kind.Kind.{Kind}
@@ -11,6 +11,7 @@ use Rattle.gix_ref_file.specs.declared.files.FileError.TheVariants.{Failed}
 use Rattle.gix_ref_file.proofs.Histories.{adds_joined}
 use Rattle.gix_ref_edit.specs.declared.change.RefEdit.{RefEdit}
 use Rattle.gix_ref_format.specs.PackedBuffer.{KeepsFile}
+use Rattle.gix_ref_format.specs.PackedKept.{kept}
 use Rattle.gix_ref_format.specs.declared.packed.buffer.Buffer.{Buffer}
 use Rattle.gix_ref_lock.specs.Committing.{IsCommitted, OnTheWay}
 use Rattle.gix_ref_lock.specs.Moments.{SameButLocks}
@@ -49,10 +50,8 @@ use Rattle.history_edits.proofs.RecordLocks.{records_are_lockable}
 use Rattle.history_edits.proofs.Unsplit.{unsplit_stay}
 use Rattle.history_store.specs.Changing.{MaySwitch}
 use Rattle.history_store.specs.Faults.{of_preparing}
-use Rattle.history_store.specs.Packing.{FileSaysLeft, KeepsAll, KeepsRecords}
 use Rattle.history_store.specs.RootStore.{IsRootStore}
 use Rattle.history_store.specs.declared.names.Names.{Names}
-use Rattle.history_store.proofs.RecordsLeft.{all_left}
 use Rattle.history_store.proofs.Transactions.{file_kept, given_so, lent, lent_keeps, prepare_failed, prepared_so, root_is}
 
 other_place : true ≡ false → ⊥
@@ -122,81 +121,52 @@ module _ (r : Repository) (from to : Bytes) (edits : List RefEdit) (asks : AskHe
 
 -- ---- of names
 
--- `mid` are the names after their records were read anew
-module _ {F : Type 0} (IsHonest : F → Type 0) (history : F → History) (failures : F → ℕ) (may_fail : Type 0) (names mid : Names F) (files : mid.store.files ≡ names.store.files) (kinds : mid.kind ≡ names.kind)
-    (whole : IsHonest mid.store.files → KeepsRecords names (history mid.store.files).tree → KeepsAll mid (history mid.store.files).tree) (from to : Bytes) (edits : List RefEdit) (asks : AskHead from to edits) (packed : Option (Bor Buffer)) (own : option_copied packed ≡ mid.packed.read)
+module _ {F : Type 0} (IsHonest : F → Type 0) (history : F → History) (failures : F → ℕ) (may_fail : Type 0) (names : Names F) (from to : Bytes) (edits : List RefEdit) (asks : AskHead from to edits) (packed : Option (Bor Buffer)) (own : option_copied packed ≡ names.packed)
     (r : Repository) (may : MaySwitch IsHonest history names r from to) where
   abbrev old : History
-  old = history mid.store.files
+  old = history names.store.files
 
   abbrev found : Bytes → RefState
-  found = reads_with mid.store old.tree packed
-
-  honest_still : IsHonest mid.store.files
-  honest_still = subst IsHonest (sym files) may.whole.honest
-
-  holds_still : HoldsNames old.tree r
-  holds_still = subst (λ f. HoldsNames (history f).tree r) (sym files) may.whole.holds
-
-  kind_still : mid.kind ≡ r.kind
-  kind_still = kinds ∙ may.whole.kind
-
-  all_kept : KeepsAll mid old.tree
-  all_kept = whole honest_still (subst (λ f. KeepsRecords names (history f).tree) (sym files) may.whole.records)
+  found = reads_with names.store old.tree packed
 
   -- records that are lent are those of the file
-  pub file_lent : KeepsFile (base_of mid.store).kind (packed_text_in (base_of mid.store) old.tree) (lent packed)
-  file_lent = file_kept mid.kind mid.store mid.root old.tree packed (lent_keeps mid.kind (file_at old.tree packed_place) mid.packed.read packed own all_kept.file)
+  pub file_lent : KeepsFile (base_of names.store).kind (packed_text_in (base_of names.store) old.tree) (lent packed)
+  file_lent = file_kept names.kind names.store names.root old.tree packed (lent_keeps names.kind (file_at old.tree packed_place) names.packed packed own may.whole.records)
 
-  passes_back : (now : History) → Adds (HeadOnTheWay to old.tree) old now → Adds (HeadOnTheWay to (history names.store.files).tree) (history names.store.files) now
-  passes_back now = subst (λ f. Adds (HeadOnTheWay to (history f).tree) (history f) now) files
-
-  module _ (locked : F) (stays : IsHonest mid.store.files → Adds (SameButLocks old.tree) old (history locked)) (folders : IsHonest mid.store.files → Adds (FoldersOfEdits found (base_of mid.store) edits old.tree) old (history locked)) where
+  module _ (locked : F) (stays : Adds (SameButLocks old.tree) old (history locked)) (folders : Adds (FoldersOfEdits found (base_of names.store) edits old.tree) old (history locked)) where
     prepares : Adds (HeadOnTheWay to old.tree) old (history locked) × HasNameFolders (history locked).tree
-    prepares = preparing r from to edits asks old holds_still mid.kind kind_still mid.store mid.root packed (history locked) (stays honest_still) (folders honest_still)
+    prepares = preparing r from to edits asks old may.whole.holds names.kind may.whole.kind names.store names.root packed (history locked) stays folders
 
     -- on the way, if it isn't prepared
-    pub unprepared_passes : Adds (HeadOnTheWay to (history names.store.files).tree) (history names.store.files) (history locked)
-    unprepared_passes = passes_back (history locked) prepares.0
+    pub unprepared_passes : Adds (HeadOnTheWay to old.tree) old (history locked)
+    unprepared_passes = prepares.0
 
-    module _ (t : Transaction) (split : IsHonest mid.store.files → AreSplit found edits t.edits.items) (plans : AllPlanned (base_of mid.store) false t.edits.items t.moves.items) (hold : IsHonest mid.store.files → AllHold (history locked).tree t.edits.items t.moves.items)
-        (lined : IsHonest mid.store.files → AllLined (logging mid.store.options found None) (base_of mid.store) old.tree t.edits.items t.moves.items) (repacked : IsHonest mid.store.files → KeepsFile (base_of mid.store).kind (packed_text_in (base_of mid.store) old.tree) (lent packed) → AreRepacked (base_of mid.store) None old.tree (history locked).tree t.edits.items t.packed)
-        (same : IsHonest mid.store.files → SameFilesBut (all_locks t.packed t.moves.items) old.tree (history locked).tree) (honest_then : IsHonest mid.store.files → IsHonest locked) where
+    module _ (t : Transaction) (split : AreSplit found edits t.edits.items) (plans : AllPlanned (base_of names.store) false t.edits.items t.moves.items) (hold : AllHold (history locked).tree t.edits.items t.moves.items)
+        (lined : AllLined (logging names.store.options found None) (base_of names.store) old.tree t.edits.items t.moves.items) (repacked : AreRepacked (base_of names.store) None old.tree (history locked).tree t.edits.items t.packed)
+        (same : SameFilesBut (all_locks t.packed t.moves.items) old.tree (history locked).tree) where
       can : IsRooted (history locked).tree → CanCommit t.packed t.moves.items (history locked).tree
-      can = can_commit r from to edits asks old holds_still mid.kind kind_still mid.store mid.root packed t (history locked) (split honest_still) plans (hold honest_still) (lined honest_still) (repacked honest_still file_lent) (same honest_still)
+      can = can_commit r from to edits asks old may.whole.holds names.kind may.whole.kind names.store names.root packed t (history locked) split plans hold lined repacked same
 
       -- why it isn't committed
-      pub uncommitted : (new : F) (Short : Type 0) → IsRooted (history locked).tree → (IsHonest locked → CanCommit t.packed t.moves.items (history locked).tree → Short ⊎ HasFault failures may_fail locked new) → (Short → ⊥) → failures locked ≡ failures mid.store.files
+      pub uncommitted : (new : F) → IsRooted (history locked).tree → (CanCommit t.packed t.moves.items (history locked).tree → HasFault failures may_fail locked new) → failures locked ≡ failures names.store.files
           → HasFault failures may_fail names.store.files new
-      uncommitted new Short rooted failed never counted = elim (failed (honest_then honest_still) (can rooted)) [
-        | inl short ↦ absurd (never short)
-        | inr fault ↦ subst (λ (before : ℕ). HasRisen before (failures new) ⊎ may_fail) (counted ∙ ap failures files) fault
-      ]
+      uncommitted new rooted failed counted = subst (λ (before : ℕ). HasRisen before (failures new) ⊎ may_fail) counted (failed (can rooted))
 
-      module _ (new : F) (way : IsHonest locked → Adds (OnTheWay t.packed t.moves.items (history locked).tree) (history locked) (history new)) (only : IsHonest locked → Adds (FoldersOnlyOf (log_paths t.moves.items) (history locked).tree) (history locked) (history new)) where
+      module _ (new : F) (way : Adds (OnTheWay t.packed t.moves.items (history locked).tree) (history locked) (history new)) (only : Adds (FoldersOnlyOf (log_paths t.moves.items) (history locked).tree) (history locked) (history new)) where
         -- on the way
-        pub switch_passes : Adds (HeadOnTheWay to (history names.store.files).tree) (history names.store.files) (history new)
-        switch_passes = passes_back (history new) (switching r from to edits asks old holds_still mid.kind kind_still mid.store mid.root packed t (history locked) (split honest_still) plans (hold honest_still) (lined honest_still) (repacked honest_still file_lent) (same honest_still)
-            prepares (history new) (way (honest_then honest_still)) (only (honest_then honest_still)))
+        pub switch_passes : Adds (HeadOnTheWay to old.tree) old (history new)
+        switch_passes = switching r from to edits asks old may.whole.holds names.kind may.whole.kind names.store names.root packed t (history locked) split plans hold lined repacked same prepares (history new) way only
 
-        module _ (done : IsHonest locked → IsCommitted t.packed t.moves.items (history locked).tree (history new).tree) where
-          named : NamesBranch to old.tree (history new).tree
-          named = switched r from to edits asks old holds_still mid.kind kind_still mid.store mid.root packed t (history locked) (split honest_still) plans (hold honest_still) (lined honest_still) (repacked honest_still file_lent) (same honest_still)
-              prepares (history new) (way (honest_then honest_still)) (only (honest_then honest_still)) (done (honest_then honest_still))
-
+        module _ (done : IsCommitted t.packed t.moves.items (history locked).tree (history new).tree) where
           -- in the end
-          pub switch_names : NamesBranch to (history names.store.files).tree (history new).tree
-          switch_names = subst (λ f. NamesBranch to (history f).tree (history new).tree) files named
+          pub switch_names : NamesBranch to old.tree (history new).tree
+          switch_names = switched r from to edits asks old may.whole.holds names.kind may.whole.kind names.store names.root packed t (history locked) split plans hold lined repacked same prepares (history new) way only done
 
-          pub switch_keeps : FileSaysLeft mid.kind (file_at (history new).tree packed_place) mid.packed.read mid.packed.gone.items
-          switch_keeps = subst (λ o. FileSaysLeft mid.kind o mid.packed.read mid.packed.gone.items) (sym (named.others packed_place (λ same. other_place (ap (bytes_eq packed_place) same))))
-              (subst (FileSaysLeft mid.kind (file_at old.tree packed_place) mid.packed.read) (sym all_kept.none) (all_left mid.kind (file_at old.tree packed_place) mid.packed.read all_kept.file))
+          pub switch_keeps : KeepsFile names.kind (file_at (history new).tree packed_place) (option_map kept names.packed)
+          switch_keeps = subst (λ o. KeepsFile names.kind o (option_map kept names.packed)) (sym (switch_names.others packed_place (λ same. other_place (ap (bytes_eq packed_place) same)))) may.whole.records
 
   -- why it isn't prepared
   pub unprepared_told : (now : ℕ) {O : Type 0} (fails : O → Type 0) (table : O → Table) → IsRooted old.tree → (error : PrepareError) → of_preparing error ≡ Failed
-      → (IsHonest mid.store.files → GivenFault (logging mid.store.options found None) (base_of mid.store) mid.store.options.precompose_unicode old.tree may_fail edits error) → (IsHonest mid.store.files → Counts (failures mid.store.files) now error)
-      → (IsHonest mid.store.files → AreRecordsLockable (base_of mid.store) old.tree → IsOfRecords error → HasRisen (failures mid.store.files) now ⊎ may_fail) → (IsHonest mid.store.files → IfUnresolved found (PackFault may_fail fails table None) edits error) → HasRisen (failures names.store.files) now ⊎ may_fail
-  unprepared_told now fails table rooted error told given counts records sought =
-      subst (λ (before : ℕ). HasRisen before now ⊎ may_fail) (ap failures files)
-      (unprepared r from to edits asks old holds_still mid.kind kind_still mid.store mid.root packed (sym may.branch) may.named (failures mid.store.files) now may_fail fails table rooted error told
-      (given honest_still) (counts honest_still) (records honest_still) (sought honest_still))
+      → GivenFault (logging names.store.options found None) (base_of names.store) names.store.options.precompose_unicode old.tree may_fail edits error → Counts (failures names.store.files) now error
+      → (AreRecordsLockable (base_of names.store) old.tree → IsOfRecords error → HasRisen (failures names.store.files) now ⊎ may_fail) → IfUnresolved found (PackFault may_fail fails table None) edits error → HasRisen (failures names.store.files) now ⊎ may_fail
+  unprepared_told now fails table = unprepared r from to edits asks old may.whole.holds names.kind may.whole.kind names.store names.root packed (sym may.branch) may.named (failures names.store.files) now may_fail fails table

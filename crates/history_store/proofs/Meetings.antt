@@ -1,6 +1,6 @@
 -- Which names are in the way of another, packed or not.
 use Rattle.std.proofs.Common.{◌≡◌, ◌⊎◌, inl, inr, refl, sym, ◌∙◌, ap, subst, ℕ, ◌+◌, ◌<◌, ◌≤◌, Bool, true, false, cond, List, [], ◌∷◌, map, length, take, get_or, ◌==◌, Option, Some, None, is_some, not, arith}
-use Rattle.std.specs.Prelude.{Result, Ok, Err, IfOk, nat_le}
+use Rattle.std.specs.Prelude.{Result, Ok, Err, IfOk, IsSome, nat_le}
 use Rattle.std.specs.FinMap.{get, find, get-entries}
 use Rattle.std.proofs.lemmas.Bool.Decides.{nat_tests}
 use Rattle.std.proofs.lemmas.Bool.{eqb-true}
@@ -13,13 +13,10 @@ use Rattle.gix_hash.specs.declared.kind.Kind.{Kind}
 use Rattle.gix_hash.specs.declared.object_id.ObjectId.{ObjectId}
 use Rattle.history_model.specs.Bytes.{Bytes, by_bytes}
 use Rattle.history_model.specs.FileMap.{is_below}
-use Rattle.history_model.specs.NameStates.{name_state}
 use Rattle.history_model.proofs.WholePaths.{below_front, below_parts}
-use Rattle.history_store.specs.AllNames.{ListsAll, ReadsAsId, ReadsAsNone, TellsHeldAbove, TellsHeldBelow, TellsMeeting, told_if}
-use Rattle.history_store.specs.NameLists.{name_entry}
-use Rattle.history_store.specs.Packing.{NameReads, told_id}
-use Rattle.gix_ref_way.specs.Ways.{HasWay, IsAbove}
-use Rattle.history_store.specs.References.{TellsCollision}
+use Rattle.gix_ref_way.specs.Ways.{IsAbove}
+use Rattle.history_store.specs.AllNames.{ListsAll, TellsHeldAbove, TellsHeldBelow, TellsMeeting, id_below, name_entry}
+use Rattle.history_store.specs.Packing.{NameReads, id_read}
 use Rattle.history_store.specs.declared.listed.NamedId.{NamedId}
 use Rattle.gix_ref_way.proofs.FoldersMade.{above_shorter, front_of}
 
@@ -27,15 +24,15 @@ use Rattle.gix_ref_way.proofs.FoldersMade.{above_shorter, front_of}
 
 -- no folder of the name that ends before this place in it reads as an id
 abbrev pub NoneBefore : ℕ → Kind → Bytes → Tree → Type 0
-NoneBefore end kind name tree = (other : Bytes) → IsAbove other name → length other < end → ReadsAsNone kind tree other
+NoneBefore end kind name tree = (other : Bytes) → IsAbove other name → length other < end → id_read kind tree other ≡ None
 
-pub one_passed : (end : ℕ) (kind : Kind) (name : Bytes) (tree : Tree) → NoneBefore end kind name tree → (get_or name end 0 ≡ 47 → ReadsAsNone kind tree (take end name)) → NoneBefore (end + 1) kind name tree
+pub one_passed : (end : ℕ) (kind : Kind) (name : Bytes) (tree : Tree) → NoneBefore end kind name tree → (get_or name end 0 ≡ 47 → id_read kind tree (take end name) ≡ None) → NoneBefore (end + 1) kind name tree
 one_passed end kind name tree before here other above below = by_test (nat_le end (length other)) refl
   where
-    by_test : (b : Bool) → nat_le end (length other) ≡ b → ReadsAsNone kind tree other
+    by_test : (b : Bool) → nat_le end (length other) ≡ b → id_read kind tree other ≡ None
     by_test true far =
         let at : length other ≡ end = omega (arith, below, leb-true _ _ far) in
-        subst (λ p. ReadsAsNone kind tree p) (sym ((front_of other name above).0 ∙ ap (λ n. take n name) at)) (here (ap (λ n. get_or name n 0) (sym at) ∙ (front_of other name above).1))
+        subst (λ p. id_read kind tree p ≡ None) (sym ((front_of other name above).0 ∙ ap (λ n. take n name) at)) (here (ap (λ n. get_or name n 0) (sym at) ∙ (front_of other name above).1))
     by_test false near =
         let less : length other < end = grind (arith, nat_tests) in
         before other above less
@@ -44,24 +41,24 @@ pub all_passed : (end : ℕ) (kind : Kind) (name : Bytes) (tree : Tree) → leng
 all_passed end kind name tree far before other above = before other above (omega (arith, far, above_shorter other name above))
 
 -- what was found of a name
-pub some_reads : (kind : Kind) (tree : Tree) (name : Bytes) (found : Option ObjectId) → NameReads kind tree name found → is_some found ≡ true → ReadsAsId kind tree name
+pub some_reads : (kind : Kind) (tree : Tree) (name : Bytes) (found : Option ObjectId) → NameReads kind tree name found → is_some found ≡ true → IsSome (id_read kind tree name)
 some_reads kind tree name (Some id) reads some = ap is_some (sym reads)
 some_reads kind tree name None reads some = cc
 
-pub none_reads : (kind : Kind) (tree : Tree) (name : Bytes) (found : Option ObjectId) → NameReads kind tree name found → is_some found ≡ false → ReadsAsNone kind tree name
+pub none_reads : (kind : Kind) (tree : Tree) (name : Bytes) (found : Option ObjectId) → NameReads kind tree name found → is_some found ≡ false → id_read kind tree name ≡ None
 none_reads kind tree name None reads none = sym reads
 none_reads kind tree name (Some id) reads none = cc
 
 -- ---- below
 
 module _ (kind : Kind) (tree : Tree) (name : Bytes) where
-  below_told : (other : Bytes) → IsAbove name other → told_if (is_below name other) kind tree other ≡ told_id (name_state kind tree other)
-  below_told other (rest, is) = ap (λ b. cond b (told_id (name_state kind tree other)) None) (ap (is_below name) is ∙ below_front name rest)
+  below_told : (other : Bytes) → IsAbove name other → id_below kind tree name other ≡ id_read kind tree other
+  below_told other (rest, is) = ap (λ b. cond b (id_read kind tree other) None) (ap (is_below name) is ∙ below_front name rest)
 
-  told_below : (other : Bytes) (id : Id) → told_if (is_below name other) kind tree other ≡ Some id → IsAbove name other × ReadsAsId kind tree other
+  told_below : (other : Bytes) (id : Id) → id_below kind tree name other ≡ Some id → IsAbove name other × IsSome (id_read kind tree other)
   told_below other id holds = by_test (is_below name other) refl holds
     where
-      by_test : (b : Bool) → is_below name other ≡ b → cond b (told_id (name_state kind tree other)) None ≡ Some id → IsAbove name other × ReadsAsId kind tree other
+      by_test : (b : Bool) → is_below name other ≡ b → cond b (id_read kind tree other) None ≡ Some id → IsAbove name other × IsSome (id_read kind tree other)
       by_test true e holds = ((_, below_parts name other e), ap is_some holds)
       by_test false e holds = cc
 
@@ -89,17 +86,14 @@ module _ (kind : Kind) (tree : Tree) (name : Bytes) where
 -- ---- all of it
 
 module _ (kind : Kind) (name : Bytes) (tree : Tree) where
-  pub file_meets : TellsCollision name tree true → TellsMeeting kind name tree true
-  file_meets (other, beside, there) = (other, beside, inl there)
-
   pub above_meets : TellsHeldAbove kind name tree true → TellsMeeting kind name tree true
-  above_meets (other, above, reads) = (other, inl above, inr reads)
+  above_meets (other, above, reads) = (other, inl above, reads)
 
-  pub meeting_told : (result : Result Bool FileError) → HasWay name tree → TellsHeldAbove kind name tree false → IfOk result (λ found. TellsHeldBelow kind name tree found) → IfOk result (λ found. TellsMeeting kind name tree found)
-  meeting_told (Ok true) way above (other, below, reads) = (other, inr below, inr reads)
-  meeting_told (Ok false) way above below = (way, all)
+  pub meeting_told : (result : Result Bool FileError) → TellsHeldAbove kind name tree false → IfOk result (λ found. TellsHeldBelow kind name tree found) → IfOk result (λ found. TellsMeeting kind name tree found)
+  meeting_told (Ok true) above (other, below, reads) = (other, inr below, reads)
+  meeting_told (Ok false) above below = all
     where
-      all : (other : Bytes) → IsAbove other name ⊎ IsAbove name other → ReadsAsNone kind tree other
+      all : (other : Bytes) → IsAbove other name ⊎ IsAbove name other → id_read kind tree other ≡ None
       all other (inl over) = above other over
       all other (inr under) = below other under
-  meeting_told (Err error) way above below = below
+  meeting_told (Err error) above below = below

@@ -55,7 +55,7 @@ use Rattle.history_edits.proofs.RecordsStay.{records_stay}
 use Rattle.history_edits.proofs.Unsplit.{unsplit_stay}
 use Rattle.history_store.specs.Changing.{MakesChange, RecordsStay}
 use Rattle.history_store.specs.Faults.{of_preparing}
-use Rattle.history_store.specs.Packing.{KeepsAll, kept_hit, read_hit}
+use Rattle.history_store.specs.Packing.{KeepsRecords, kept_hit}
 use Rattle.history_store.specs.RootStore.{IsRootStore}
 use Rattle.history_store.specs.declared.names.Names.{Names}
 use Rattle.history_store.proofs.Transactions.{given_so, lent, prepare_failed, prepared_so, root_is}
@@ -130,14 +130,14 @@ pub lent_of : (read : Option Buffer) (packed : Option (Bor Buffer)) → option_c
 lent_of read None is = ap (option_map kept) (sym is)
 lent_of read (Some buffer) is = ap (option_map kept) (sym is)
 
-module _ {F : Type 0} (names : Names F) (packed : Option (Bor Buffer)) (is : option_copied packed ≡ names.packed.read) where
-  pub lent_here : (old : History) → KeepsAll names old.tree → KeepsFile names.kind (file_at old.tree packed_place) (lent packed)
-  lent_here old all = subst (KeepsFile names.kind (file_at old.tree packed_place)) (lent_of names.packed.read packed is) all.file
+module _ {F : Type 0} (names : Names F) (packed : Option (Bor Buffer)) (is : option_copied packed ≡ names.packed) where
+  pub lent_here : (old : History) → KeepsRecords names old.tree → KeepsFile names.kind (file_at old.tree packed_place) (lent packed)
+  lent_here old keeps = subst (KeepsFile names.kind (file_at old.tree packed_place)) (lent_of names.packed packed is) keeps
 
-  pub all_lent : (r : Repository) (old : History) → names.kind ≡ r.kind → KeepsAll names old.tree → KeepsFile r.kind (file_at old.tree packed_place) (lent packed)
-  all_lent r old same all = subst (λ k. KeepsFile k (file_at old.tree packed_place) (lent packed)) same (lent_here old all)
+  pub all_lent : (r : Repository) (old : History) → names.kind ≡ r.kind → KeepsRecords names old.tree → KeepsFile r.kind (file_at old.tree packed_place) (lent packed)
+  all_lent r old same keeps = subst (λ k. KeepsFile k (file_at old.tree packed_place) (lent packed)) same (lent_here old keeps)
 
-  no_hit : (read : Option Buffer) (name : Bytes) → read_hit read [] name ≡ None → packed_hit (unwrap_or (option_map kept read) []) name ≡ None
+  no_hit : (read : Option Buffer) (name : Bytes) → kept_hit read name ≡ None → packed_hit (unwrap_or (option_map kept read) []) name ≡ None
   no_hit None name none = go (packed_key name)
     where
       go : (key : Option Bytes) → option_and_then (hit []) key ≡ None
@@ -145,18 +145,16 @@ module _ {F : Type 0} (names : Names F) (packed : Option (Bor Buffer)) (is : opt
       go (Some key) = refl
   no_hit (Some buffer) name none = none
 
-  pub none_lent : (name : Bytes) → names.packed.gone.items ≡ [] → kept_hit names.packed name ≡ None → packed_hit (unwrap_or (lent packed) []) name ≡ None
-  none_lent name all none =
-      subst (λ ks. packed_hit (unwrap_or ks []) name ≡ None) (lent_of names.packed.read packed is)
-      (no_hit names.packed.read name (subst (λ (gone : List Bytes). read_hit names.packed.read gone name ≡ None) all none))
+  pub none_lent : (name : Bytes) → kept_hit names.packed name ≡ None → packed_hit (unwrap_or (lent packed) []) name ≡ None
+  none_lent name none = subst (λ ks. packed_hit (unwrap_or ks []) name ≡ None) (lent_of names.packed packed is) (no_hit names.packed name none)
 
-  pub makes : (r : Repository) (moved : List MovedName) (taken : Option Bytes) (old new : History) → names.kind ≡ r.kind → names.packed.gone.items ≡ [] → EditsMade r.kind moved taken old.tree new.tree
+  pub makes : (r : Repository) (moved : List MovedName) (taken : Option Bytes) (old new : History) → names.kind ≡ r.kind → EditsMade r.kind moved taken old.tree new.tree
       → ((name : Bytes) → taken ≡ Some name → packed_hit (unwrap_or (lent packed) []) name ≡ None → file_at new.tree packed_place ≡ file_at old.tree packed_place) → MakesChange names moved taken old.tree new.tree
-  makes r moved taken old new same all made stay = record {
+  makes r moved taken old new same made stay = record {
     made = subst (λ k. EditsMade k moved taken old.tree new.tree) (sym same) made;
     stay = by_taken taken stay;
   }
     where
       by_taken : (o : Option Bytes) → ((name : Bytes) → o ≡ Some name → packed_hit (unwrap_or (lent packed) []) name ≡ None → file_at new.tree packed_place ≡ file_at old.tree packed_place) → RecordsStay names o old.tree new.tree
       by_taken None stays = tt
-      by_taken (Some name) stays = λ none. stays name refl (none_lent name all none)
+      by_taken (Some name) stays = λ none. stays name refl (none_lent name none)

@@ -52,7 +52,6 @@ use Rattle.history_model.specs.PackedNames.{packed_file, packed_with}
 use Rattle.history_model.specs.Places.{file_at, packed_place}
 use Rattle.history_model.specs.Repository.{Repository}
 use Rattle.history_layout.specs.PackSteps.{HasAllNames, HasPacked, PacksAll, PacksNames, PacksOnTheWay}
-use Rattle.history_layout.specs.TreeHalves.{HoldsNames}
 use Rattle.history_edits.specs.Bridges.{root_base}
 use Rattle.history_edits.specs.EditCommits.{HasNameFolders}
 use Rattle.history_edits.specs.EditFaults.{IsExcused}
@@ -68,11 +67,10 @@ use Rattle.history_edits.proofs.Unsplit.{unsplit_stay}
 use Rattle.history_store.specs.Changing.{IsReadable}
 use Rattle.history_store.specs.Faults.{of_following, of_peeling, of_preparing}
 use Rattle.history_store.specs.Packed.{AsksPacks, MayPack, record_of_name, records_of}
-use Rattle.history_store.specs.Packing.{KeepsAll, KeepsRecords, read_hit}
+use Rattle.history_store.specs.Packing.{kept_hit}
 use Rattle.history_store.specs.RootStore.{IsRootStore}
 use Rattle.history_store.specs.declared.names.Names.{Names}
 use Rattle.history_store.specs.declared.packs.PackedName.{PackedName}
-use Rattle.history_store.proofs.ChangeSteps.{all_keep}
 use Rattle.history_store.proofs.NamesChanged.{lent_of}
 use Rattle.history_store.proofs.Transactions.{given_so, lent, prepare_told, prepared_so, root_is}
 
@@ -187,51 +185,30 @@ module _ (r : Repository) (wanted : List Record) (edits : List RefEdit) (old : H
 
 module _ {F : Type 0} (IsHonest : F → Type 0) (history : F → History) (Honest : Type 0) (table : Table) where
   -- with the records that are lent
-  pub all_asked : (names : Names F) (r : Repository) (wanted : List Record) (edits : List RefEdit) (packed : Option (Bor Buffer)) → option_copied packed ≡ names.packed.read → AsksPacks IsHonest history names r Honest table wanted edits
+  pub all_asked : (names : Names F) (r : Repository) (wanted : List Record) (edits : List RefEdit) (packed : Option (Bor Buffer)) → option_copied packed ≡ names.packed → AsksPacks IsHonest history names r Honest table wanted edits
       → AsksAll r (history names.store.files).tree (lent packed) wanted edits
-  all_asked names r wanted edits packed is asks = subst (λ ks. AsksAll r (history names.store.files).tree ks wanted edits) (lent_of names.packed.read packed is) asks.asks
+  all_asked names r wanted edits packed is asks = subst (λ ks. AsksAll r (history names.store.files).tree ks wanted edits) (lent_of names.packed packed is) asks.asks
 
   pub peels_so : (names : Names F) (r : Repository) (wanted : List Record) (edits : List RefEdit) → AsksPacks IsHonest history names r Honest table wanted edits → PeelsAlike r table
   peels_so _ r wanted edits asks = peels_whole r table asks.asks.sound asks.stored
 
-  -- once the records are read
-  pub asks_so : (a b : Names F) (r : Repository) (listed : List PackedName) (edits : List RefEdit) → b.store.files ≡ a.store.files → b.kind ≡ a.kind → (IsHonest b.store.files → KeepsRecords a (history b.store.files).tree → KeepsAll b (history b.store.files).tree)
-      → MayPack IsHonest history a r Honest table listed
-      → (IsHonest b.store.files → b.packed.gone.items ≡ [] → AsksToPack (history b.store.files).tree (unwrap_or (option_map kept b.packed.read) []) (records_of listed) edits)
-      → AsksPacks IsHonest history b r Honest table (records_of listed) edits
-  asks_so a b r listed edits files kinds read may asks = record {
-    whole = record {
-      honest = honest;
-      holds = holds;
-      apart = may.whole.apart;
-      set = may.whole.set;
-      kind = kind;
-      records = all_keep b (history b.store.files).tree all;
-    };
-    all = all;
+  -- with the edits that are made of what the names read as
+  pub asks_so : (names : Names F) (r : Repository) (listed : List PackedName) (edits : List RefEdit) → MayPack IsHonest history names r Honest table listed
+      → (IsHonest names.store.files → AsksToPack (history names.store.files).tree (unwrap_or (option_map kept names.packed) []) (records_of listed) edits)
+      → AsksPacks IsHonest history names r Honest table (records_of listed) edits
+  asks_so names r listed edits may asks = record {
+    whole = may.whole;
     objects = may.objects;
     stored = may.stored;
     asks = record {
       sound = may.sound;
-      holds = holds;
-      keeps = subst (λ k. KeepsFile k (file_at (history b.store.files).tree packed_place) (option_map kept b.packed.read)) kind all.file;
+      holds = may.whole.holds;
+      keeps = subst (λ k. KeepsFile k (file_at (history names.store.files).tree packed_place) (option_map kept names.packed)) may.whole.kind may.whole.records;
       each = may.each;
       once = may.once;
-      asks = asks honest all.none;
+      asks = asks may.whole.honest;
     };
   }
-    where
-      honest : IsHonest b.store.files
-      honest = subst IsHonest (sym files) may.whole.honest
-
-      holds : HoldsNames (history b.store.files).tree r
-      holds = subst (λ (f : F). HoldsNames (history f).tree r) (sym files) may.whole.holds
-
-      kind : b.kind ≡ r.kind
-      kind = kinds ∙ may.whole.kind
-
-      all : KeepsAll b (history b.store.files).tree
-      all = read honest (subst (λ (f : F). KeepsRecords a (history f).tree) (sym files) may.whole.records)
 
 -- records of all names are read
 pub packed_readable : (r : Repository) (kind : Kind) (tree : Tree) → kind ≡ r.kind → HasPacked r tree → IsReadable kind tree
@@ -280,9 +257,9 @@ module _ (tree : Tree) (records : List Record) where
   }
 
 -- the record among those that are kept
-pub kept_so : (read : Option Buffer) (gone : List Bytes) (name : Bytes) (e : Record) → gone ≡ [] → read_hit read gone name ≡ Some e → packed_hit (unwrap_or (option_map kept read) []) name ≡ Some e
-kept_so None gone name e none found = cc
-kept_so (Some buffer) gone name e none found = subst (λ (ns : List Bytes). read_hit (Some buffer) ns name ≡ Some e) none found
+pub kept_so : (packed : Option Buffer) (name : Bytes) (e : Record) → kept_hit packed name ≡ Some e → packed_hit (unwrap_or (option_map kept packed) []) name ≡ Some e
+kept_so None name e found = cc
+kept_so (Some buffer) name e found = found
 
 pub no_file : (tree : Tree) (path : Bytes) → is_some (file_at tree path) ≡ false → file_at tree path ≡ None
 no_file tree path none = go (file_at tree path) none

@@ -1,79 +1,71 @@
 -- The names below a folder with the ids that they read as, and whether a name collides with
 -- another, packed or not.
-use Rattle.std.specs.Prelude.{◌≡◌, ◌⊎◌, Bool, true, false, ◌&&◌, is_some, List, map, Option, Some, None, if◌then◌else◌, IsTrue, IsSome}
-use Rattle.std.specs.FinMap.{entries, get}
+use Rattle.std.specs.Prelude.{◌≡◌, ◌⊎◌, Bool, true, false, List, [], ◌∷◌, map, Option, Some, None, if◌then◌else◌, IsSome}
+use Rattle.std.specs.FinMap.{FinMap, entries, get}
 use Rattle.gix_ref_file.specs.Tree.{Tree}
-use Rattle.gix_ref_file.specs.Changes.{is_file_at}
-use Rattle.gix_hash.specs.Id.{Id}
+use Rattle.gix_hash.specs.Id.{Id, id_of}
 use Rattle.gix_hash.specs.declared.kind.Kind.{Kind}
-use Rattle.gix_ref_format.specs.Packed.{Record}
-use Rattle.gix_ref_format.specs.PackedBuffer.{hit}
-use Rattle.gix_ref_format.specs.PackedKept.{kept}
-use Rattle.gix_ref_format.specs.declared.packed.buffer.Buffer.{Buffer}
-use Rattle.history_model.specs.Bytes.{Bytes}
+use Rattle.gix_ref_store.specs.RefStates.{Met}
+use Rattle.gix_ref_way.specs.Ways.{IsAbove}
+use Rattle.history_model.specs.Bytes.{Bytes, by_bytes}
 use Rattle.history_model.specs.FileMap.{is_below}
-use Rattle.history_model.specs.NameStates.{name_state}
-use Rattle.history_store.specs.NameLists.{NameIds, name_entry}
-use Rattle.history_store.specs.Packing.{told_id}
-use Rattle.gix_ref_way.specs.Ways.{HasWay, IsAbove}
+use Rattle.history_model.specs.Forms.{is_name}
+use Rattle.history_store.specs.Packing.{id_read, told_id}
 use Rattle.history_store.specs.declared.listed.NamedId.{NamedId}
 
 -- ---- below a folder
 
--- the id that a name reads as, if it is one of those that are wanted
-abbrev pub told_if : Bool → Kind → Tree → Bytes → Option Id
-told_if asked kind tree name = if asked then told_id (name_state kind tree name) else None
+-- an id for each of some names, which are in the order of their bytes
+abbrev pub NameIds : Type 0
+NameIds = FinMap by_bytes Id
 
--- the same of a name below the folder
-abbrev pub id_read : Kind → Tree → Bytes → Bytes → Option Id
-id_read kind tree folder name = told_if (is_below folder name) kind tree name
+-- a name and its id
+abbrev pub name_entry : NamedId → Bytes × Id
+name_entry named = (named.name.items, id_of named.id)
+
+-- the id that a name below the folder reads as; none of any other name
+abbrev pub id_below : Kind → Tree → Bytes → Bytes → Option Id
+id_below kind tree folder name = if is_below folder name then id_read kind tree name else None
 
 -- The names below the folder that read as an id, with these, each once and in order.
 pub record ListsAll (kind : Kind) (tree : Tree) (folder : Bytes)
     (names : List NamedId) : Type 0 where
   pub ids : NameIds
-  pub each : (name : Bytes) → get ids name ≡ id_read kind tree folder name
+  pub each : (name : Bytes) → get ids name ≡ id_below kind tree folder name
   pub are : map name_entry names ≡ entries ids
 
--- whether one of the records is the name's
-abbrev pub has_record : List Record → Bytes → Bool
-has_record records name = is_some (hit records name)
+-- a name with its id before others, if it has one
+abbrev pub with_entry : Bytes → Option Id → List (Bytes × Id) → List (Bytes × Id)
+with_entry name None later = later
+with_entry name (Some id) later = (name, id) ∷ later
 
--- whether the name is below the folder, and one of the records that are kept is its
-abbrev pub is_packed_below : Option Buffer → Bytes → Bytes → Bool
-is_packed_below None folder name = false
-is_packed_below (Some buffer) folder name = is_below folder name && has_record (kept buffer) name
+-- those of what is listed that a repository may hold and that have an id
+abbrev pub entries_of : List Met → List (Bytes × Id)
+entries_of [] = []
+entries_of (met ∷ mets) =
+    with_entry met.name (if is_name met.name then told_id met.ref_state else None)
+    (entries_of mets)
 
 -- ---- in a name's way
-
--- the name reads as an id
-abbrev pub ReadsAsId : Kind → Tree → Bytes → Type 0
-ReadsAsId kind tree name = IsSome (told_id (name_state kind tree name))
-
--- it reads as none
-abbrev pub ReadsAsNone : Kind → Tree → Bytes → Type 0
-ReadsAsNone kind tree name = told_id (name_state kind tree name) ≡ None
 
 -- whether a folder of the name reads as an id
 abbrev pub TellsHeldAbove : Kind → Bytes → Tree → Bool → Type 0
 TellsHeldAbove kind name tree true =
-    (other : Bytes) × IsAbove other name × ReadsAsId kind tree other
+    (other : Bytes) × IsAbove other name × IsSome (id_read kind tree other)
 TellsHeldAbove kind name tree false =
-    (other : Bytes) → IsAbove other name → ReadsAsNone kind tree other
+    (other : Bytes) → IsAbove other name → id_read kind tree other ≡ None
 
 -- whether a name below this one reads as an id
 abbrev pub TellsHeldBelow : Kind → Bytes → Tree → Bool → Type 0
 TellsHeldBelow kind name tree true =
-    (other : Bytes) × IsAbove name other × ReadsAsId kind tree other
+    (other : Bytes) × IsAbove name other × IsSome (id_read kind tree other)
 TellsHeldBelow kind name tree false =
-    (other : Bytes) → IsAbove name other → ReadsAsNone kind tree other
+    (other : Bytes) → IsAbove name other → id_read kind tree other ≡ None
 
--- Whether the name collides with another: at one of its folders, or below it, there is a file or a
--- name that reads as an id. Folders without files don't matter.
+-- Whether the name collides with another: one of its folders, or a name below it, reads as an id.
 abbrev pub TellsMeeting : Kind → Bytes → Tree → Bool → Type 0
 TellsMeeting kind name tree true =
     (other : Bytes) × (IsAbove other name ⊎ IsAbove name other)
-    × (IsTrue (is_file_at tree other) ⊎ ReadsAsId kind tree other)
+    × IsSome (id_read kind tree other)
 TellsMeeting kind name tree false =
-    HasWay name tree
-    × ((other : Bytes) → IsAbove other name ⊎ IsAbove name other → ReadsAsNone kind tree other)
+    (other : Bytes) → IsAbove other name ⊎ IsAbove name other → id_read kind tree other ≡ None

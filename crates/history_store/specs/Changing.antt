@@ -24,7 +24,7 @@ use Rattle.history_edits.specs.Bridges.{Commits}
 use Rattle.history_edits.specs.EditChanges.{AreAsked}
 use Rattle.history_edits.specs.EditFaults.{AllTest, AreApart, Expects}
 use Rattle.history_edits.specs.EditPlans.{AsksDeletion, AsksMove}
-use Rattle.history_store.specs.Packing.{KeepsAll, KeepsRecords, kept_hit}
+use Rattle.history_store.specs.Packing.{KeepsRecords, kept_hit}
 use Rattle.history_store.specs.declared.changing.MovedName.{MovedName}
 use Rattle.history_store.specs.declared.names.Names.{Names}
 use Rattle.history_layout.specs.EditSteps as edits
@@ -64,13 +64,6 @@ pub record MaySwitch {F : Type 0} (IsHonest : F → Type 0) (history : F → His
   pub branch : r.branch ≡ from
   pub named : IsTrue (is_name from)
   pub names_to : IsTrue (is_name to)
-
--- Names may change, and all records are kept.
-pub record CanChange {F : Type 0} (IsHonest : F → Type 0) (history : F → History)
-    (names : Names F) (r : Repository) (moved : List edits.MovedName) (taken : Option Bytes)
-    : Type 0 where
-  pub may : MayChange IsHonest history names r moved taken
-  pub all : KeepsAll names (history names.store.files).tree
 
 -- ---- the edits
 
@@ -124,7 +117,7 @@ IsCommitter (m ∷ moved) (Some who) = Commits m.entry.actor who
 pub record AsksChange {F : Type 0} (IsHonest : F → Type 0) (history : F → History)
     (names : Names F) (r : Repository) (moved : List edits.MovedName) (taken : Option Bytes)
     (committer : Option ActorRef) (asked : List RefEdit) : Type 0 where
-  pub can : CanChange IsHonest history names r moved taken
+  pub may : MayChange IsHonest history names r moved taken
   pub edits : AreAsked r committer moved taken asked
   pub tests : AllTest r asked
 

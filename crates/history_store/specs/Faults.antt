@@ -1,5 +1,6 @@
 -- The errors of transactions as those of file calls: want of memory is `Memory`, and all else is
 -- `Failed`.
+use Rattle.std.specs.Prelude.{Result, Ok, Err}
 use Rattle.gix_ref_file.specs.declared.files.FileError.{FileError}
 use Rattle.gix_ref_file.specs.declared.files.FileError.TheVariants as file_case
 use Rattle.gix_ref_format.specs.declared.packed.buffer.Error.{Error as OpenError}
@@ -15,6 +16,8 @@ use Rattle.gix_ref_lock.specs.declared.act.CommitError.TheVariants as moving
 use Rattle.gix_ref_store.specs.declared.store.file.find.Error.{Error as FindError}
 use Rattle.gix_ref_store.specs.declared.store.file.find.Error.TheVariants as find
 use Rattle.gix_ref_store.specs.declared.store.file.find.ExistingError.TheVariants as existing
+use Rattle.gix_ref_store.specs.declared.store.file.iter.Error.{Error as ListError}
+use Rattle.gix_ref_store.specs.declared.store.file.iter.Error.TheVariants as listing
 use Rattle.gix_ref_store.specs.declared.store.file.follow.Error.{Error as FollowError}
 use Rattle.gix_ref_store.specs.declared.store.file.follow.Error.TheVariants as follow
 use Rattle.gix_ref_store.specs.declared.store.file.peel.Error.{Error as PeelError}
@@ -36,6 +39,13 @@ of_finding find.Memory = file_case.Memory
 of_finding find.ReadFileContents = file_case.Failed
 of_finding (find.ReferenceCreation error) = file_case.Failed
 of_finding (find.PackedOpen error) = of_opening error
+
+-- names aren't listed; a listing goes on after a file that names no target
+abbrev pub passing_over : ListError → Result (Unit {0}) FileError
+passing_over (listing.ReferenceCreation name reason) = Ok tt
+passing_over listing.Memory = Err file_case.Memory
+passing_over listing.Traversal = Err file_case.Failed
+passing_over (listing.ReadFileContents name) = Err file_case.Failed
 
 -- names aren't followed to an object
 abbrev pub of_following : FollowError → FileError

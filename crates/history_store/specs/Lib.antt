@@ -7,7 +7,6 @@ pub mod KeptIds
 pub mod KnownIds
 pub mod KnownObjects
 pub mod Lookups
-pub mod NameLists
 pub mod NamesFace
 pub mod ObjectsFace
 pub mod Opened
@@ -18,3 +17,26 @@ pub mod Puts
 pub mod References
 pub mod RootStore
 pub mod Stores
+pub use Rattle.gix_hash.specs.Id
+pub use Rattle.gix_hash.specs.Run
+pub use Rattle.gix_object_write.specs.Keeping
+pub use Rattle.gix_ref_file.specs.Calls
+pub use Rattle.gix_ref_file.specs.History
+pub use Rattle.gix_ref_file.specs.Tree
+pub use Rattle.gix_ref_format.specs.Packed as FormatPacked
+pub use Rattle.gix_ref_format.specs.PackedBuffer
+pub use Rattle.gix_ref_format.specs.PackedKept
+pub use Rattle.history_check_objects.specs.Flaws
+pub use Rattle.history_check_objects.specs.Stored
+pub use Rattle.history_edits.specs.PackPlans
+pub use Rattle.history_layout.specs.EditSteps
+pub use Rattle.history_layout.specs.PackSteps
+pub use Rattle.history_layout.specs.SwitchSteps
+pub use Rattle.history_model.specs.Forms
+pub use Rattle.history_model.specs.Objects
+pub use Rattle.history_model.specs.Places
+pub use Rattle.history_model.specs.Repository
+pub use Rattle.history_model.specs.StandsFor
+pub use Rattle.history_texts.specs.IdLists
+pub use Rattle.history_texts.specs.ObjectTexts
+pub use Rattle.history_texts.specs.Parts

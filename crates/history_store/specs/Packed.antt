@@ -13,7 +13,6 @@ use Rattle.history_model.specs.laws.Wholeness.{IsSound}
 use Rattle.history_layout.specs.PackSteps.{record_for}
 use Rattle.history_edits.specs.PackPlans.{AsksAll, IsTableOf, record_name}
 use Rattle.history_store.specs.Changing.{HoldNamesOf}
-use Rattle.history_store.specs.Packing.{KeepsAll}
 use Rattle.history_store.specs.declared.names.Names.{Names}
 use Rattle.history_store.specs.declared.packs.PackedName.{PackedName}
 
@@ -41,8 +40,7 @@ pub record AsksPacks {F : Type 0} (IsHonest : F → Type 0) (history : F → His
     (names : Names F) (r : Repository) (Honest : Type 0) (table : Table) (wanted : List Record)
     (edits : List RefEdit) : Type 0 where
   pub whole : HoldNamesOf IsHonest history names r
-  pub all : KeepsAll names (history names.store.files).tree
   pub objects : Honest
   pub stored : IsTableOf r table
-  pub asks : AsksAll r (history names.store.files).tree (option_map kept names.packed.read) wanted
+  pub asks : AsksAll r (history names.store.files).tree (option_map kept names.packed) wanted
       edits

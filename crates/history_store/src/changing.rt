@@ -11,13 +11,12 @@ ghost use Rattle.history_model.specs.Forms.{is_name};
 ghost use Rattle.history_model.specs.Repository.{Repository};
 ghost use Rattle.history_layout.specs.EditSteps as steps;
 ghost use Rattle.history_layout.specs.EditSteps.{EditsMade, EditsOnTheWay};
-ghost use Rattle.history_store.specs.Changing.{AsksChange, CanChange, IsReadable, MakesChange, MayChange, moved_in};
+ghost use Rattle.history_store.specs.Changing.{AsksChange, IsReadable, MakesChange, MayChange, moved_in};
 ghost use Rattle.history_store.specs.Packing.{KeepsRecords, kept_hit};
 
 use crate::edits::{committer_of, time_of};
 use crate::faults::{of_committing, of_opening, of_preparing};
 use crate::names::Names;
-use crate::packed::packed_id;
 use gix_object_lines::lines::ActorRef;
 use gix_object_lookup::find::Never;
 use gix_ref_edit::RefEdit;
@@ -74,7 +73,6 @@ impl<F: Files> Names<F> {
             MayChange F.is_honest F.history self.old r names gone → IsErrOf result Failed
             → HasFault F.failures F.reading_may_fail self.old.store.files self.new.store.files }
     {
-        self.refresh(alloc)?;
         self.make(alloc, moved, taken)?;
         match taken {
             Some(name) => self.reread(alloc, name),
@@ -82,7 +80,7 @@ impl<F: Files> Names<F> {
         }
     }
 
-    // Makes the moves and the deletion, with records that are all kept. These stay as they were read.
+    // Makes the moves and the deletion. The records that are kept stay as they were read.
     fn make(
         &mut self,
         alloc: Global,
@@ -94,12 +92,12 @@ impl<F: Files> Names<F> {
         ensures packed { self.new.packed ≡ self.old.packed }
         ensures moments { (r : Repository) → let names = map moved_in moved.now in
             let gone = option_map (λ name. name.now) taken.entry in
-            CanChange F.is_honest F.history self.old r names gone
+            MayChange F.is_honest F.history self.old r names gone
             → Adds (EditsOnTheWay r.kind names gone (F.history self.old.store.files).tree)
             (F.history self.old.store.files) (F.history self.new.store.files) }
         ensures changed { (r : Repository) → let names = map moved_in moved.now in
             let gone = option_map (λ name. name.now) taken.entry in
-            CanChange F.is_honest F.history self.old r names gone
+            MayChange F.is_honest F.history self.old r names gone
             → OnOk result (MakesChange self.old names gone (F.history self.old.store.files).tree
             (F.history self.new.store.files).tree) }
         ensures later { F.failures self.old.store.files ≤ F.failures self.new.store.files }
@@ -109,7 +107,7 @@ impl<F: Files> Names<F> {
             → F.failures self.new.store.files ≡ F.failures self.old.store.files }
         ensures failed { (r : Repository) → let names = map moved_in moved.now in
             let gone = option_map (λ name. name.now) taken.entry in
-            CanChange F.is_honest F.history self.old r names gone → IsErrOf result Failed
+            MayChange F.is_honest F.history self.old r names gone → IsErrOf result Failed
             → HasFault F.failures F.reading_may_fail self.old.store.files self.new.store.files }
     {
         let edits = self.edits_of(alloc, moved, taken)?;
@@ -145,7 +143,7 @@ impl<F: Files> Names<F> {
             → IsErrOf result Failed
             → HasFault F.failures F.reading_may_fail self.old.store.files self.new.store.files }
     {
-        let records = self.packed.read.as_ref();
+        let records = self.packed.as_ref();
         let mode = PackedRefs::<Never>::DeletionsOnly;
         match prepare_with(alloc, &mut self.store, records, edits, committer, mode) {
             Ok(made) => self.finish(alloc, made),
@@ -190,7 +188,7 @@ impl<F: Files> Names<F> {
         ensures failed { Finds F.is_honest F.history self.new.store.files (λ tree.
             IsReadable self.new.kind tree → IsErrOf result Failed → F.reading_may_fail) }
     {
-        if packed_id(&self.packed, name).is_none() {
+        if !self.has_record(name) {
             return Ok(());
         }
         self.read_anew(alloc, Some(name))

@@ -5,12 +5,11 @@ ghost use Rattle.gix_ref_file.specs.Calls.{Finds};
 ghost use Rattle.gix_ref_file.specs.declared.files.FileError.TheVariants.{Failed};
 ghost use Rattle.history_model.specs.Forms.{is_name};
 ghost use Rattle.history_model.specs.Repository.{Repository};
-ghost use Rattle.history_model.specs.NameStates.{name_state};
 ghost use Rattle.gix_hash.specs.Id.{id_of};
 ghost use Rattle.history_edits.specs.EditFaults.{AllTest, Tests};
 ghost use Rattle.history_edits.specs.EditPlans.{AreEdits};
-ghost use Rattle.history_store.specs.Packing.{KeepsRecords, told_id};
-ghost use Rattle.history_store.specs.Changing.{AreUnsplit, AsksAs, AsksToDelete, CanChange, ExpectsId, IsCommitter, SpellsTimeOf, moved_in, moved_text};
+ghost use Rattle.history_store.specs.Packing.{KeepsRecords, id_read};
+ghost use Rattle.history_store.specs.Changing.{AreUnsplit, AsksAs, AsksToDelete, ExpectsId, IsCommitter, MayChange, SpellsTimeOf, moved_in, moved_text};
 
 use crate::changing::MovedName;
 use crate::faults::full_name;
@@ -37,11 +36,11 @@ impl<F: Files> Names<F> {
         ensures plain { IfOk result (λ edits. AreUnsplit edits.items) }
         ensures tests { (r : Repository) → let names = map moved_in moved.now in
             let gone = option_map (λ name. name.now) taken.entry in
-            CanChange F.is_honest F.history self.now r names gone
+            MayChange F.is_honest F.history self.now r names gone
             → IfOk result (λ edits. AllTest r edits.items) }
         ensures failed { (r : Repository) → let names = map moved_in moved.now in
             let gone = option_map (λ name. name.now) taken.entry in
-            CanChange F.is_honest F.history self.now r names gone → IsErrOf result Failed
+            MayChange F.is_honest F.history self.now r names gone → IsErrOf result Failed
             → F.reading_may_fail }
     {
         let mut edits = updates_of(alloc, moved)?;
@@ -60,11 +59,10 @@ impl<F: Files> Names<F> {
         ensures asks { IfOk result (AsksToDelete name.now) }
         ensures tests { Finds F.is_honest F.history self.now.store.files
             (λ tree. KeepsRecords self.now tree → IfOk result (λ edit.
-            Tests (told_id (name_state self.now.kind tree name.now)) edit.change)) }
+            Tests (id_read self.now.kind tree name.now) edit.change)) }
         ensures failed { Finds F.is_honest F.history self.now.store.files
             (λ tree. KeepsRecords self.now tree → IsTrue (is_name name.now)
-            → told_id (name_state self.now.kind tree name.now) ≢ None
-            → IsErrOf result Failed → F.reading_may_fail) }
+            → id_read self.now.kind tree name.now ≢ None → IsErrOf result Failed → F.reading_may_fail) }
     {
         let Some(held) = self.find(alloc, name)? else {
             return Err(FileError::Failed);

@@ -77,8 +77,7 @@ impl<F: Files> Names<F> {
             → HasFault F.failures F.reading_may_fail self.old.store.files self.new.store.files }
     {
         let edits = head_edit(alloc, from, to)?;
-        self.refresh(alloc)?;
-        let records = self.packed.read.as_ref();
+        let records = self.packed.as_ref();
         let mode = PackedRefs::<Never>::DeletionsOnly;
         match prepare_with(alloc, &mut self.store, records, edits, None, mode) {
             Ok(made) => self.finish(alloc, made),

@@ -1,8 +1,7 @@
 //! Whether a name collides with another, packed or not, that is one of its folders or below it.
-ghost use Rattle.std.specs.Prelude.{◌≢◌, [], IfOk, IsErrOf, IsTrue};
+ghost use Rattle.std.specs.Prelude.{IfOk, IsErrOf};
 ghost use Rattle.gix_ref_file.specs.Calls.{Finds};
 ghost use Rattle.gix_ref_file.specs.declared.files.FileError.TheVariants.{Failed};
-ghost use Rattle.history_model.specs.Forms.{is_name};
 ghost use Rattle.history_store.specs.AllNames.{TellsHeldAbove, TellsHeldBelow, TellsMeeting};
 ghost use Rattle.history_store.specs.Packing.{KeepsRecords};
 
@@ -11,21 +10,17 @@ use gix_ref_file::{FileError, Files};
 use std::alloc::Global;
 
 impl<F: Files> Names<F> {
-    /// Returns whether the name collides with another, packed or not: whether there is a file, or a
-    /// name that reads as an id, at a path where the name needs a folder, or below the name.
-    /// Folders without files don't matter. The name's own folders are read, those below it are
-    /// listed, and only the records below it are gone through.
+    /// Returns whether the name collides with another, packed or not: whether one of its folders,
+    /// or a name below it, reads as an id. What is no name that a repository may hold doesn't
+    /// matter. The name's own folders are read, and the names below it listed.
     ///
     /// Returns `Failed` if a file call failed, and `Memory` if memory ran out.
     pub fn collides_any(&self, alloc: Global, name: &[u8]) -> Result<bool, FileError>
-        ensures found { IsTrue (is_name name.now) → Finds F.is_honest F.history self.now.store.files
+        ensures found { Finds F.is_honest F.history self.now.store.files
             (λ tree. KeepsRecords self.now tree
             → IfOk result (λ found. TellsMeeting self.now.kind name.now tree found)) }
         ensures failed { IsErrOf result Failed → F.reading_may_fail }
     {
-        if self.collides(alloc, name)? {
-            return Ok(true);
-        }
         if self.is_held_above(alloc, name)? {
             return Ok(true);
         }
@@ -49,9 +44,9 @@ impl<F: Files> Names<F> {
         Ok(false)
     }
 
-    // Returns whether a name that reads as an id is below this one, which isn't the root.
+    // Returns whether a name that reads as an id is below this one.
     fn is_held_below(&self, alloc: Global, name: &[u8]) -> Result<bool, FileError>
-        ensures found { name.now ≢ [] → Finds F.is_honest F.history self.now.store.files
+        ensures found { Finds F.is_honest F.history self.now.store.files
             (λ tree. KeepsRecords self.now tree
             → IfOk result (λ found. TellsHeldBelow self.now.kind name.now tree found)) }
         ensures failed { IsErrOf result Failed → F.reading_may_fail }

@@ -76,7 +76,6 @@ impl<F: Files> Names<F> {
             → HasFault F.failures (F.reading_may_fail ⊎ O.may_fail objects.now)
             self.old.store.files self.new.store.files }
     {
-        self.refresh(alloc)?;
         let edits = self.edits_to_pack(alloc, names)?;
         self.pack(alloc, objects, edits)?;
         self.read_anew(alloc, None)
@@ -85,8 +84,7 @@ impl<F: Files> Names<F> {
     // Returns the edits that pack those of these names that aren't packed.
     fn edits_to_pack(&self, alloc: Global, names: &[PackedName]) -> Result<Vec<RefEdit>, FileError>
         ensures asks { Finds F.is_honest F.history self.now.store.files
-            (λ tree. self.now.packed.gone.items ≡ []
-            → let records = unwrap_or (option_map kept self.now.packed.read) [] in
+            (λ tree. let records = unwrap_or (option_map kept self.now.packed) [] in
             IfOk result (λ edits. AsksToPack tree records (records_of names.now) edits.items)) }
         ensures failed { IsErrOf result Failed → F.reading_may_fail }
     {
@@ -105,8 +103,7 @@ impl<F: Files> Names<F> {
         edits: &mut Vec<RefEdit>,
     ) -> Result<(), FileError>
         ensures asks { Finds F.is_honest F.history self.now.store.files
-            (λ tree. self.now.packed.gone.items ≡ []
-            → let records = unwrap_or (option_map kept self.now.packed.read) [] in
+            (λ tree. let records = unwrap_or (option_map kept self.now.packed) [] in
             let last = record_of_name named.now in OnOk result ((wanted : List Record)
             → AsksToPack tree records wanted edits.old.items
             → AsksToPack tree records (wanted ++ last ∷ []) edits.new.items)) }
@@ -123,8 +120,7 @@ impl<F: Files> Names<F> {
     // Returns whether the name has no file of its own, and this record.
     fn is_packed(&self, named: &PackedName) -> Result<bool, FileError>
         ensures packed { Finds F.is_honest F.history self.now.store.files
-            (λ tree. self.now.packed.gone.items ≡ []
-            → let records = unwrap_or (option_map kept self.now.packed.read) [] in
+            (λ tree. let records = unwrap_or (option_map kept self.now.packed) [] in
             IfOk result (λ packed. IsTrue packed
             → IsPackedSo tree records (record_of_name named.now))) }
         ensures failed { IsErrOf result Failed → F.reading_may_fail }
@@ -132,7 +128,7 @@ impl<F: Files> Names<F> {
         if is_file(&self.store.files, named.name.to_path())? {
             return Ok(false);
         }
-        Ok(is_record(self.packed.record(named.name.as_ref()), named))
+        Ok(is_record(self.record(named.name.as_ref()), named))
     }
 
     // Prepares these edits, by which names are packed, and commits them. The records that are kept stay as they were read.
@@ -166,7 +162,7 @@ impl<F: Files> Names<F> {
             → HasFault F.failures (F.reading_may_fail ⊎ O.may_fail objects.now)
             self.old.store.files self.new.store.files }
     {
-        let records = self.packed.read.as_ref();
+        let records = self.packed.as_ref();
         let mode = PackedRefs::DeletionsAndNonSymbolicUpdatesRemoveLooseSourceReference(objects);
         match prepare_with(alloc, &mut self.store, records, edits, None, mode) {
             Ok(made) => self.finish(alloc, made),

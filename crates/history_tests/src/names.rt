@@ -14,7 +14,8 @@ fn a_name_holds_its_commit(rt: HostRuntime) -> Result<(), Fail> {
     for kind in KINDS {
         let (_, files) = parts_after(&rt, alloc, kind, &[INPUT]);
         let mut names = Names::new(alloc, files, kind);
-        names.read_packed(alloc)?;
+        let text = names.read_packed(alloc)?;
+        names.keep_packed(alloc, text)?;
         let found = names.find(alloc, b"refs/heads/main")?;
         assert!(rt; found == made_id(REPLIES.of(kind)));
     }
@@ -27,11 +28,11 @@ fn names_are_surveyed_over_objects(rt: HostRuntime) -> Result<(), Fail> {
     for kind in KINDS {
         let (objects, files) = parts_after(&rt, alloc, kind, &[INPUT]);
         let stored = whole_objects(alloc, &objects, kind)?;
-        let names = Names::new(alloc, files, kind);
-        let branch = survey_names(alloc, &names, &stored)?;
+        let mut names = Names::new(alloc, files, kind);
+        let branch = survey_names(alloc, &mut names, &stored)?;
         assert!(rt; branch.as_slice() == b"refs/heads/main".as_slice());
         let none = whole_objects(alloc, &MemoryFiles::new(alloc), kind)?;
-        let refused = survey_names(alloc, &names, &none);
+        let refused = survey_names(alloc, &mut names, &none);
         assert!(rt; matches!(refused, Err(OpenError::Missing(..))));
     }
     Ok(())

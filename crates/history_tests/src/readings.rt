@@ -78,6 +78,37 @@ const MERGED: (&[u8], u64) = (
     3,
 );
 
+/// A content at three paths, in two equal folders and beside them, and another at two. Read are the
+/// commit and the root, and then compared each content once, the folder once, the root and the
+/// commit.
+const PUT_THRICE: (&[u8], u64, u64) = (
+    b"commit refs/heads/main any\nput file 3 4\nx/c\nsame\nput file 3 4\ny/c\nsame\nput file 1 4\nz\nsame\nput file 1 3\nt\nbye\nput file 1 3\nu\nbye\nauthor 1 3 3 +0000\nA\na@b\ncommitter 1 3 3 +0000\nA\na@b\nmessage 5\nthree\nend\n",
+    2,
+    5,
+);
+
+/// The commit and the root, which stays; and the commit that is made.
+const PUT_NOTHING: (&[u8], u64, u64) = (
+    b"commit refs/heads/main any\nauthor 1 3 3 +0000\nA\na@b\ncommitter 1 3 3 +0000\nA\na@b\nmessage 5\nthree\nend\n",
+    2,
+    1,
+);
+
+/// The commit, the root, and the folders `a` and `a/b`, which stay; and the content and the commit
+/// that is made.
+const PUT_AGAIN: (&[u8], u64, u64) = (
+    b"commit refs/heads/main any\nput file 5 5\na/b/c\nhello\nauthor 1 3 3 +0000\nA\na@b\ncommitter 1 3 3 +0000\nA\na@b\nmessage 5\nthree\nend\n",
+    4,
+    2,
+);
+
+/// The same of a file that is put, and then removed: its content is stored too.
+const PUT_AND_REMOVED: (&[u8], u64, u64) = (
+    b"commit refs/heads/main any\nput file 5 3\na/b/d\nbye\nremove 5\na/b/d\nauthor 1 3 3 +0000\nA\na@b\ncommitter 1 3 3 +0000\nA\na@b\nmessage 5\nthree\nend\n",
+    4,
+    2,
+);
+
 /// The commit.
 const TAGGED: (&[u8], u64) = (
     b"tag refs/tags/v2 new main\ntagger 1 3 6 +0000\nA\na@b\nmessage 3\ntag\nend\n",
@@ -149,6 +180,48 @@ const LOGGED_AT_BOTH: (&[u8], u64) = (
     6,
 );
 
+/// The commit, the root, and the folders `a` and `a/x`, which are also `b` and `b/x`.
+const CHANGED_AT_BOTH: (&[u8], u64) = (
+    b"commit refs/heads/main any\nput file 5 3\na/x/c\nbye\nput file 5 3\nb/x/c\nhey\nauthor 1 3 3 +0000\nA\na@b\ncommitter 1 3 3 +0000\nA\na@b\nmessage 5\nthree\nend\n",
+    4,
+);
+
+/// The same: what is grafted and measured is the base's.
+const GRAFTED_FROM_BASE: (&[u8], u64) = (
+    b"commit refs/heads/main any\ngraft 1 main 1\nz\na\nput file 5 3\nb/x/c\nhey\nauthor 1 3 3 +0000\nA\na@b\ncommitter 1 3 3 +0000\nA\na@b\nmessage 5\nthree\nend\n",
+    4,
+);
+
+/// The same, by two grafts of one source, one by a path and one of all files.
+const GRAFTED_TWICE: (&[u8], u64) = (
+    b"commit refs/heads/main any\ngraft 1 main 3\ny\na/x\ngraft 1 main 0\nz\n\nauthor 1 3 3 +0000\nA\na@b\ncommitter 1 3 3 +0000\nA\na@b\nmessage 5\nthree\nend\n",
+    4,
+);
+
+/// The same, the last of them put into what was grafted.
+const CHANGED_BELOW_A_GRAFT: (&[u8], u64) = (
+    b"commit refs/heads/main any\ngraft 1 main 1\nz\na\nput file 5 3\nz/x/c\nhey\nauthor 1 3 3 +0000\nA\na@b\ncommitter 1 3 3 +0000\nA\na@b\nmessage 5\nthree\nend\n",
+    4,
+);
+
+/// The commit, the root, and the folder `a`: nothing is at `a/x` when a file is put below it.
+const REPLACED: (&[u8], u64) = (
+    b"commit refs/heads/main any\nremove 3\na/x\nput file 5 3\na/x/c\nhey\nauthor 1 3 3 +0000\nA\na@b\ncommitter 1 3 3 +0000\nA\na@b\nmessage 5\nthree\nend\n",
+    3,
+);
+
+/// The commit, the root, and the folder `a`: it is refused since that is one.
+const REFUSED: (&[u8], u64) = (
+    b"commit refs/heads/main any\nremove-file 1\na\nput file 5 3\nb/x/c\nhey\nauthor 1 3 3 +0000\nA\na@b\ncommitter 1 3 3 +0000\nA\na@b\nmessage 5\nthree\nend\n",
+    3,
+);
+
+/// The commit and the root: it is refused since a file is put below `n` before.
+const REFUSED_LATER: (&[u8], u64) = (
+    b"commit refs/heads/main any\nput file 3 3\nn/f\nbye\nremove-file 1\nn\nput file 5 3\nb/x/c\nhey\nauthor 1 3 3 +0000\nA\na@b\ncommitter 1 3 3 +0000\nA\na@b\nmessage 5\nthree\nend\n",
+    2,
+);
+
 /// Whether a command succeeds, planned or answered.
 fn is_done<F: Files>(repository: &Repository<F>, alloc: Global, command: Command) -> bool {
     match command {
@@ -173,11 +246,23 @@ fn readings(
     alloc: Global,
     input: &[u8],
 ) -> u64 {
+    let (done, met) = readings_of_any(rt, repository, alloc, input);
+    assert!(rt; done);
+    met
+}
+
+/// Returns whether a command succeeds, and the number of objects that it reads.
+fn readings_of_any(
+    rt: &impl Abort,
+    repository: &Repository<Fuse<MemoryFiles>>,
+    alloc: Global,
+    input: &[u8],
+) -> (bool, u64) {
     let command = first_command(rt, alloc, input);
     let before = repository.objects.files().calls();
     let done = is_done(repository, alloc, command);
-    assert!(rt; done);
-    repository.objects.files().calls().saturating_sub(before)
+    let met = repository.objects.files().calls().saturating_sub(before);
+    (done, met)
 }
 
 /// Returns the repository after these inputs, whose calls are counted.
@@ -204,6 +289,43 @@ fn a_command_reads_each_object_once(rt: HostRuntime) {
         for (input, wanted) in [CHANGED, BRANCHED, GRAFTED, SHOWN, SHOWN_COMMIT, LISTED] {
             let met = readings(&rt, &repository, alloc, input);
             assert!(rt; met == wanted, "{met} for {wanted}");
+        }
+    }
+}
+
+/// Returns the number of calls of planning a commit and putting its objects; `None` if it fails.
+fn calls_of_storing(
+    repository: &mut Repository<Fuse<MemoryFiles>>,
+    alloc: Global,
+    command: Command,
+) -> Option<u64> {
+    let Command::Commit(command) = command else {
+        return None;
+    };
+    let before = repository.objects.files().calls();
+    let plan = plan_commit(repository, alloc, command).ok()?;
+    for object in &plan.objects {
+        repository.objects.put_made(alloc, object).ok()?;
+    }
+    Some(repository.objects.files().calls().saturating_sub(before))
+}
+
+// Once all is stored, storing it again compares each object with its file: the folder and the file
+// are looked up, and it is read.
+#[test]
+fn a_commit_compares_each_object_once(rt: HostRuntime) {
+    let alloc = rt.alloc();
+    for kind in KINDS {
+        for (input, read, compared) in [PUT_THRICE, PUT_NOTHING, PUT_AGAIN, PUT_AND_REMOVED] {
+            let mut repository = counted(&rt, alloc, kind, &[BEFORE]);
+            let planned = readings(&rt, &repository, alloc, input);
+            assert!(rt; planned == read, "{planned} for {read}");
+            let first = first_command(&rt, alloc, input);
+            assert!(rt; calls_of_storing(&mut repository, alloc, first).is_some());
+            let again = first_command(&rt, alloc, input);
+            let met = calls_of_storing(&mut repository, alloc, again);
+            let wanted = read.saturating_add(compared.saturating_mul(3));
+            assert!(rt; met == Some(wanted), "{met:?} for {wanted}");
         }
     }
 }
@@ -260,6 +382,37 @@ fn trees_at_several_paths_are_read_once(rt: HostRuntime) {
         let repository = counted(&rt, alloc, kind, &[ALIKE]);
         for (input, wanted) in [LISTED_ALIKE, LOGGED_ALIKE, LOGGED_AT_BOTH] {
             let met = readings(&rt, &repository, alloc, input);
+            assert!(rt; met == wanted, "{met} for {wanted}");
+        }
+    }
+}
+
+#[test]
+fn trees_of_a_commit_are_read_once(rt: HostRuntime) {
+    let alloc = rt.alloc();
+    for kind in KINDS {
+        let repository = counted(&rt, alloc, kind, &[ALIKE]);
+        for (input, wanted) in [
+            CHANGED_AT_BOTH,
+            GRAFTED_FROM_BASE,
+            GRAFTED_TWICE,
+            CHANGED_BELOW_A_GRAFT,
+            REPLACED,
+        ] {
+            let met = readings(&rt, &repository, alloc, input);
+            assert!(rt; met == wanted, "{met} for {wanted}");
+        }
+    }
+}
+
+#[test]
+fn a_refused_commit_reads_no_further(rt: HostRuntime) {
+    let alloc = rt.alloc();
+    for kind in KINDS {
+        let repository = counted(&rt, alloc, kind, &[ALIKE]);
+        for (input, wanted) in [REFUSED, REFUSED_LATER] {
+            let (done, met) = readings_of_any(&rt, &repository, alloc, input);
+            assert!(rt; !done);
             assert!(rt; met == wanted, "{met} for {wanted}");
         }
     }

@@ -20,10 +20,10 @@ pub live : (p : Place) → p ≢ place.Done → place_of p ≢ table.Done
 live place.Done h e = h refl
 live p h e = cc
 
-spoken : (d : Draft) (order : model.Command) → IsDraft d order → is_spoken order ≡ true
-spoken (draft.Commit c) (model.Commit order) h = refl
-spoken (draft.Tag c) (model.Tag order) h = refl
-spoken (draft.Move c) (model.Move order) h = refl
+spoken : (d : Draft) (sent : model.Command) → IsDraft d sent → is_spoken sent ≡ true
+spoken (draft.Commit c) (model.Commit sent) h = refl
+spoken (draft.Tag c) (model.Tag sent) h = refl
+spoken (draft.Move c) (model.Move sent) h = refl
 spoken (draft.Rename x) (model.Rename from to) h = refl
 spoken (draft.Delete d) (model.Delete name at) h = refl
 spoken (draft.Files w) (model.Files word) h = refl
@@ -35,13 +35,13 @@ spoken (draft.Switch n) (model.Switch name) h = refl
 spoken draft.Pack model.Pack h = refl
 spoken draft.Index model.Index h = refl
 spoken (draft.Log l) (model.Log log) h = refl
-spoken d order h = absurd h
+spoken d sent h = absurd h
 
 -- at the end, the parts are those of the command that the draft has
-pub spells : (parts : List Part) (p : table.Place) (d : Draft) (order : model.Command) → reached parts ≡ Some (at [] p) → parts ≡ parts_of order → HasEnough d order → Spells (parts_text parts) order
-spells parts p d order e is h =
+pub spells : (parts : List Part) (p : table.Place) (d : Draft) (sent : model.Command) → reached parts ≡ Some (at [] p) → parts ≡ parts_of sent → HasEnough d sent → Spells (parts_text parts) sent
+spells parts p d sent e is h =
     let fit = parts_fit opens parts [] table.Start (at [] p) refl e in (
-      and_from (list_all is_part (parts_of order) && has_enough order) (is_spoken order)
-          (and_from (list_all is_part (parts_of order)) (has_enough order) (subst (λ ps. list_all is_part ps ≡ true) is fit.0) h.enough) (spoken d order h.has),
+      and_from (list_all is_part (parts_of sent) && has_enough sent) (is_spoken sent)
+          (and_from (list_all is_part (parts_of sent)) (has_enough sent) (subst (λ ps. list_all is_part ps ≡ true) is fit.0) h.enough) (spoken d sent h.has),
       ap parts_text is,
     )

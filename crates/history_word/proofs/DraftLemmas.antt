@@ -69,43 +69,43 @@ nobody : model.ActorLine
 nobody = record { name = []; email = []; seconds = []; offset = [] }
 
 commit_goes : (name : Word) (expect : Option Expect) (new : Draft)
-    → ((order : model.CommitCommand) → IfSome name (λ w. w.items ≡ order.name) → IfSome expect (λ x. IsExpect x order.expect) → order.parents ≡ [] → order.edits ≡ [] → IsDraft new (model.Commit order))
+    → ((sent : model.CommitCommand) → IfSome name (λ w. w.items ≡ sent.name) → IfSome expect (λ x. IsExpect x sent.expect) → sent.parents ≡ [] → sent.edits ≡ [] → IsDraft new (model.Commit sent))
     → (h : lines.Heading) → IsOpening (opening.Commit name expect) h → (q : Place) → next_offered table.Start h ≡ Some (place_of q) → HasCome q new (parts_with h [])
 commit_goes name expect new f (lines.CommitHeading n x) i place.Parents e =
-    let order : model.CommitCommand = record { name = n; expect = x; parents = []; edits = []; author = nobody; committer = nobody; message = [] } in
-    (order, refl, f order i.0 i.1 refl refl, refl)
+    let sent : model.CommitCommand = record { name = n; expect = x; parents = []; edits = []; author = nobody; committer = nobody; message = [] } in
+    (sent, refl, f sent i.0 i.1 refl refl, refl)
 commit_goes name expect new f (lines.CommitHeading n x) i q e = cc
 commit_goes name expect new f h i q e = absurd i
 
 pub commit_opens : (name : Word) (expect : Option Expect) (new : Draft)
-    → ((order : model.CommitCommand) → IfSome name (λ w. w.items ≡ order.name) → IfSome expect (λ x. IsExpect x order.expect) → order.parents ≡ [] → order.edits ≡ [] → IsDraft new (model.Commit order))
+    → ((sent : model.CommitCommand) → IfSome name (λ w. w.items ≡ sent.name) → IfSome expect (λ x. IsExpect x sent.expect) → sent.parents ≡ [] → sent.edits ≡ [] → IsDraft new (model.Commit sent))
     → TakesOpening (opening.Commit name expect) new []
 commit_opens name expect new f = record { fields = []; heads = refl; spelled = refl; begins = commit_goes name expect new f }
 
-tag_goes : (target : Option To) (new : Draft) → ((order : model.TagCommand) → IfSome target (λ x. IsTo x (target_of order)) → IsDraft new (model.Tag order))
+tag_goes : (target : Option To) (new : Draft) → ((sent : model.TagCommand) → IfSome target (λ x. IsTo x (target_of sent)) → IsDraft new (model.Tag sent))
     → (h : lines.Heading) → IsOpening (opening.Tag target) h → (q : Place) → next_offered table.Start h ≡ Some (place_of q) → HasCome q new (parts_with h [])
 tag_goes target new f (lines.TagHeading n x w) i place.Tagger e =
-    let order : model.TagCommand = record { name = n; expect = x; word = w; tagger = nobody; message = [] } in
-    (order, refl, f order i)
+    let sent : model.TagCommand = record { name = n; expect = x; word = w; tagger = nobody; message = [] } in
+    (sent, refl, f sent i)
 tag_goes target new f (lines.TagHeading n x w) i q e = cc
 tag_goes target new f h i q e = absurd i
 
-pub tag_opens : (target : Option To) (new : Draft) → ((order : model.TagCommand) → IfSome target (λ x. IsTo x (target_of order)) → IsDraft new (model.Tag order)) → TakesOpening (opening.Tag target) new []
+pub tag_opens : (target : Option To) (new : Draft) → ((sent : model.TagCommand) → IfSome target (λ x. IsTo x (target_of sent)) → IsDraft new (model.Tag sent)) → TakesOpening (opening.Tag target) new []
 tag_opens target new f = record { fields = []; heads = refl; spelled = refl; begins = tag_goes target new f }
 
-move_goes : (new : Draft) → ((order : model.MoveCommand) → order.to ≡ [] → IsDraft new (model.Move order))
+move_goes : (new : Draft) → ((sent : model.MoveCommand) → sent.to ≡ [] → IsDraft new (model.Move sent))
     → (h : lines.Heading) → IsOpening opening.Move h → (q : Place) → next_offered table.Start h ≡ Some (place_of q) → HasCome q new (parts_with h [])
-move_goes new f lines.MoveHeading i place.ToFirst e = let order : model.MoveCommand = record { to = []; actor = nobody; message = [] } in (order, refl, f order refl)
+move_goes new f lines.MoveHeading i place.ToFirst e = let sent : model.MoveCommand = record { to = []; actor = nobody; message = [] } in (sent, refl, f sent refl)
 move_goes new f lines.MoveHeading i q e = cc
 move_goes new f h i q e = absurd i
 
-pub move_opens : (new : Draft) → ((order : model.MoveCommand) → order.to ≡ [] → IsDraft new (model.Move order)) → TakesOpening opening.Move new []
+pub move_opens : (new : Draft) → ((sent : model.MoveCommand) → sent.to ≡ [] → IsDraft new (model.Move sent)) → TakesOpening opening.Move new []
 move_opens new f = record { fields = []; heads = refl; spelled = refl; begins = move_goes new f }
 
 -- after its line, a command of one line is done
-done_come : (d : Draft) (order : model.Command) (parts : List spelling.Part) (q : Place) → Some table.Done ≡ Some (place_of q) → parts ≡ spelling.parts_of order → spelling.has_enough order ≡ true → IsDraft d order → HasCome q d parts
-done_come d order parts place.Done e spelled enough has = (order, spelled, record { enough = enough; has = has })
-done_come d order parts q e spelled enough has = cc
+done_come : (d : Draft) (sent : model.Command) (parts : List spelling.Part) (q : Place) → Some table.Done ≡ Some (place_of q) → parts ≡ spelling.parts_of sent → spelling.has_enough sent ≡ true → IsDraft d sent → HasCome q d parts
+done_come d sent parts place.Done e spelled enough has = (sent, spelled, record { enough = enough; has = has })
+done_come d sent parts q e spelled enough has = cc
 
 rename_goes : (from to : Word) (new : Draft) → ((f t : Bytes) → IfSome from (λ x. x.items ≡ f) → IfSome to (λ x. x.items ≡ t) → IsDraft new (model.Rename f t))
     → (h : lines.Heading) → IsOpening (opening.Rename from to) h → (q : Place) → next_offered table.Start h ≡ Some (place_of q) → HasCome q new (parts_with h [])
@@ -206,8 +206,8 @@ log_spelled log paths =
 
 log_goes : (said : LogLine) (log : Option LogCommand) (ys : Bytes) (took : TakesLog said log ys) (h : lines.Heading) → IsOpening (opening.Log said) h → (q : Place) → next_offered table.Start h ≡ Some (place_of q)
     → HasCome q (draft.Log log) (parts_with h took.paths)
-log_goes said log ys took (lines.LogHeading order first_parents items sizes) i q e =
-    let line = log_of order first_parents items in
+log_goes said log ys took (lines.LogHeading sent first_parents items sizes) i q e =
+    let line = log_of sent first_parents items in
     done_come (draft.Log log) (model.Log (with_paths line took.paths)) _ q
     (sym (ap (λ b. if b then Some table.Done else None) i.0.begins) ∙ e)
     (ap (λ ns. parts_with (log_heading line ns) took.paths) (sym i.1 ∙ took.heads) ∙ log_spelled line took.paths)
@@ -249,8 +249,8 @@ at_start opening.Pack lines.PackHeading i place.Start q e = refl
 at_start opening.Pack lines.PackHeading i p q e = cc
 at_start opening.Index lines.IndexHeading i place.Start q e = refl
 at_start opening.Index lines.IndexHeading i p q e = cc
-at_start (opening.Log said) (lines.LogHeading order first_parents items n) i place.Start q e = refl
-at_start (opening.Log said) (lines.LogHeading order first_parents items n) i p q e = cc
+at_start (opening.Log said) (lines.LogHeading sent first_parents items n) i place.Start q e = refl
+at_start (opening.Log said) (lines.LogHeading sent first_parents items n) i p q e = cc
 at_start said h i p q e = absurd i
 
 pub opening_fields : (said : Opening) (old new : Draft) (ys : Bytes) → TakesOpening said new ys → TakesFields (heading.Opening said) old new ys
@@ -266,7 +266,7 @@ opening_fields said old new ys took = record {
 
 -- ---- the lines of a commit
 
-parent_goes : (word : Word) (old new : Draft) → ((order : model.CommitCommand) (w : Bytes) → IsDraft old (model.Commit order) → IfSome word (λ x. x.items ≡ w) → IsDraft new (model.Commit (with_parent order w)))
+parent_goes : (word : Word) (old new : Draft) → ((sent : model.CommitCommand) (w : Bytes) → IsDraft old (model.Commit sent) → IfSome word (λ x. x.items ≡ w) → IsDraft new (model.Commit (with_parent sent w)))
     → (h : lines.Heading) → IsHeading (heading.Parent word) h → (p q : Place) → next_offered (place_of p) h ≡ Some (place_of q) → (before : List spelling.Part) → HasCome p old before → HasCome q new (before ++ parts_with h [])
 parent_goes word old new f (lines.ParentHeading w) i place.Parents place.Parents e before come =
     let head = spelling.Line (codes "commit" ∷ come.0.name ∷ spelling.expect_words come.0.expect) in (
@@ -278,7 +278,7 @@ parent_goes word old new f (lines.ParentHeading w) i place.Parents place.Parents
 parent_goes word old new f (lines.ParentHeading w) i p q e before come = cc
 parent_goes word old new f h i p q e before come = absurd i
 
-pub parent_fields : (word : Word) (old new : Draft) → ((order : model.CommitCommand) (w : Bytes) → IsDraft old (model.Commit order) → IfSome word (λ x. x.items ≡ w) → IsDraft new (model.Commit (with_parent order w))) → TakesFields (heading.Parent word) old new []
+pub parent_fields : (word : Word) (old new : Draft) → ((sent : model.CommitCommand) (w : Bytes) → IsDraft old (model.Commit sent) → IfSome word (λ x. x.items ≡ w) → IsDraft new (model.Commit (with_parent sent w))) → TakesFields (heading.Parent word) old new []
 parent_fields word old new f = record { fields = []; heads = refl; spelled = refl; come = parent_goes word old new f }
 
 -- a place for an edit or the author
@@ -339,7 +339,7 @@ of_edit (edit.Graft m word n) (lines.GraftHeading a w b) fields e s =
     of_two a b (λ x y. model.GraftLine x w y) (λ x y. refl) (λ m n. lines.GraftHeading m w n) (λ x y. refl) fields ((λ i. sym e.0 i ∷ sym e.2 i ∷ []) ∙ s)
 of_edit said h fields e s = absurd e
 
-edit_at : (l : model.EditLine) (old new : Draft) → ((order : model.CommitCommand) → IsDraft old (model.Commit order) → IsDraft new (model.Commit (with_edit order l)))
+edit_at : (l : model.EditLine) (old new : Draft) → ((sent : model.CommitCommand) → IsDraft old (model.Commit sent) → IsDraft new (model.Commit (with_edit sent l)))
     → (p q : Place) → next_offered (place_of p) (edit_heading l) ≡ Some (place_of q) → (before : List spelling.Part) → HasCome p old before → HasCome q new (before ++ parts_with (edit_heading l) (edit_fields l))
 edit_at l old new f p q e before here =
     let places = edit_place l p q e in
@@ -359,7 +359,7 @@ abbrev Goes : Draft → Draft → Place → Place → lines.Heading → List Byt
 Goes old new p q h fields = next_offered (place_of p) h ≡ Some (place_of q) → (before : List spelling.Part) → HasCome p old before → HasCome q new (before ++ parts_with h fields)
 
 pub edit_takes : (said : EditHeading) (edit : Option Edit) (ys : Bytes) (old new : Draft) → TakesEdit said edit ys
-    → ((order : model.CommitCommand) (l : model.EditLine) → IsDraft old (model.Commit order) → IfSome edit (λ x. IsEdit x l) → IsDraft new (model.Commit (with_edit order l)))
+    → ((sent : model.CommitCommand) (l : model.EditLine) → IsDraft old (model.Commit sent) → IfSome edit (λ x. IsEdit x l) → IsDraft new (model.Commit (with_edit sent l)))
     → TakesFields (heading.Edit said) old new ys
 edit_takes said edit ys old new t f = record {
   fields = t.fields;
@@ -371,7 +371,7 @@ edit_takes said edit ys old new t f = record {
     goes : (h : lines.Heading) → IsEditHeading said h → (p q : Place) → OfEdit h t.fields → Goes old new p q h t.fields
     goes h i p q of =
         let is = t.is of.line_is (subst (IsEditHeading said) (sym of.heads) i) of.holds in
-        subst (λ fs. Goes old new p q h fs) of.holds (subst (λ h. Goes old new p q h (edit_fields of.line_is)) of.heads (edit_at of.line_is old new (λ order d. f order of.line_is d is) p q))
+        subst (λ fs. Goes old new p q h fs) of.holds (subst (λ h. Goes old new p q h (edit_fields of.line_is)) of.heads (edit_at of.line_is old new (λ sent d. f sent of.line_is d is) p q))
 
 -- ---- the lines of a move
 
@@ -382,7 +382,7 @@ some_more (y ∷ xs) x = refl
 targets_then : (c : model.MoveCommand) (l : model.To) (before : List spelling.Part) → before ≡ to_targets c → before ++ spelling.to_part l ∷ [] ≡ to_targets (with_to c l)
 targets_then c l before e = ap (λ x. x ++ spelling.to_part l ∷ []) e ∙ ap (λ ps. spelling.Line (codes "move" ∷ []) ∷ ps) (sym (map-append spelling.to_part c.to (l ∷ [])))
 
-to_goes : (to : Option To) (old new : Draft) → ((order : model.MoveCommand) (l : model.To) → IsDraft old (model.Move order) → IfSome to (λ x. IsTo x l) → IsDraft new (model.Move (with_to order l)))
+to_goes : (to : Option To) (old new : Draft) → ((sent : model.MoveCommand) (l : model.To) → IsDraft old (model.Move sent) → IfSome to (λ x. IsTo x l) → IsDraft new (model.Move (with_to sent l)))
     → (h : lines.Heading) → IsHeading (heading.To to) h → (p q : Place) → next_offered (place_of p) h ≡ Some (place_of q) → (before : List spelling.Part) → HasCome p old before → HasCome q new (before ++ parts_with h [])
 to_goes to old new f (lines.ToHeading n x w) i place.ToFirst place.ToMore e before come =
     let l = to_of n x w in
@@ -393,7 +393,7 @@ to_goes to old new f (lines.ToHeading n x w) i place.ToMore place.ToMore e befor
 to_goes to old new f (lines.ToHeading n x w) i p q e before come = cc
 to_goes to old new f h i p q e before come = absurd i
 
-pub to_fields : (to : Option To) (old new : Draft) → ((order : model.MoveCommand) (l : model.To) → IsDraft old (model.Move order) → IfSome to (λ x. IsTo x l) → IsDraft new (model.Move (with_to order l))) → TakesFields (heading.To to) old new []
+pub to_fields : (to : Option To) (old new : Draft) → ((sent : model.MoveCommand) (l : model.To) → IsDraft old (model.Move sent) → IfSome to (λ x. IsTo x l) → IsDraft new (model.Move (with_to sent l))) → TakesFields (heading.To to) old new []
 to_fields to old new f = record { fields = []; heads = refl; spelled = refl; come = to_goes to old new f }
 
 -- ---- an actor
@@ -404,9 +404,9 @@ author_place m n s o place.Edits place.Committer e = (inr refl, refl)
 author_place m n s o p q e = cc
 
 actor_at : (role : Role) (l : model.ActorLine) (old new : Draft)
-    → ((order : model.CommitCommand) → IsDraft old (model.Commit order) → IsDraft new (with_actor role (model.Commit order) l))
-    → ((order : model.TagCommand) → IsDraft old (model.Tag order) → IsDraft new (with_actor role (model.Tag order) l))
-    → ((order : model.MoveCommand) → IsDraft old (model.Move order) → IsDraft new (with_actor role (model.Move order) l))
+    → ((sent : model.CommitCommand) → IsDraft old (model.Commit sent) → IsDraft new (with_actor role (model.Commit sent) l))
+    → ((sent : model.TagCommand) → IsDraft old (model.Tag sent) → IsDraft new (with_actor role (model.Tag sent) l))
+    → ((sent : model.MoveCommand) → IsDraft old (model.Move sent) → IsDraft new (with_actor role (model.Move sent) l))
     → (p q : Place) → next_offered (place_of p) (lines.ActorHeading (role_of role) (length l.name) (length l.email) l.seconds l.offset) ≡ Some (place_of q) → (before : List spelling.Part) → HasCome p old before
     → HasCome q new (before ++ parts_with (lines.ActorHeading (role_of role) (length l.name) (length l.email) l.seconds l.offset) (l.name ∷ l.email ∷ []))
 actor_at Author l old new commits tags moves p q e before here =
@@ -429,9 +429,9 @@ actor_at Mover l old new commits tags moves place.ToMore place.Message e before 
 actor_at Mover l old new commits tags moves p q e before come = cc
 
 pub actor_takes : (said : ActorHeading) (actor : Option ActorLine) (ys : Bytes) (old new : Draft) (t : TakesActor said actor ys) → (A : model.ActorLine → Type 0)
-    → ((order : model.CommitCommand) (l : model.ActorLine) → IsDraft old (model.Commit order) → A l → IsDraft new (with_actor said.role (model.Commit order) l))
-    → ((order : model.TagCommand) (l : model.ActorLine) → IsDraft old (model.Tag order) → A l → IsDraft new (with_actor said.role (model.Tag order) l))
-    → ((order : model.MoveCommand) (l : model.ActorLine) → IsDraft old (model.Move order) → A l → IsDraft new (with_actor said.role (model.Move order) l))
+    → ((sent : model.CommitCommand) (l : model.ActorLine) → IsDraft old (model.Commit sent) → A l → IsDraft new (with_actor said.role (model.Commit sent) l))
+    → ((sent : model.TagCommand) (l : model.ActorLine) → IsDraft old (model.Tag sent) → A l → IsDraft new (with_actor said.role (model.Tag sent) l))
+    → ((sent : model.MoveCommand) (l : model.ActorLine) → IsDraft old (model.Move sent) → A l → IsDraft new (with_actor said.role (model.Move sent) l))
     → ((s o : Bytes) → IfSome said.seconds (λ w. w.items ≡ s) → IfSome said.offset (λ w. w.items ≡ o) → A (record { name = t.name; email = t.email; seconds = s; offset = o }))
     → TakesFields (heading.Actor said) old new ys
 actor_takes said actor ys old new t A commits tags moves is = record {
@@ -448,25 +448,25 @@ actor_takes said actor ys old new t A commits tags moves is = record {
         let a = is s o e.3 e.4 in
         let same : lines.ActorHeading (role_of said.role) (length t.name) (length t.email) s o ≡ lines.ActorHeading r m n s o = λ i. lines.ActorHeading (e.0 i) ((sym t.sized.0 ∙ e.1) i) ((sym t.sized.1 ∙ e.2) i) s o in
         subst (λ h. next_offered (place_of p) h ≡ Some (place_of q) → (before : List spelling.Part) → HasCome p old before → HasCome q new (before ++ parts_with h (t.name ∷ t.email ∷ []))) same
-        (actor_at said.role l old new (λ order d. commits order l d a) (λ order d. tags order l d a) (λ order d. moves order l d a) p q)
+        (actor_at said.role l old new (λ sent d. commits sent l d a) (λ sent d. tags sent l d a) (λ sent d. moves sent l d a) p q)
     goes h e p q = absurd e
 
 -- ---- the message, and the end
 
 message_then : (a : Bytes) (old new : Draft)
-    → ((order : model.CommitCommand) → IsDraft old (model.Commit order) → IsDraft new (with_message (model.Commit order) a))
-    → ((order : model.TagCommand) → IsDraft old (model.Tag order) → IsDraft new (with_message (model.Tag order) a))
-    → ((order : model.MoveCommand) → IsDraft old (model.Move order) → IsDraft new (with_message (model.Move order) a))
-    → (order : model.Command) (before : List spelling.Part) → before_message order ≡ Some before → HasEnough old order → (to_message (with_message order a) ≡ Some (before ++ spelling.message_parts a)) × HasEnough new (with_message order a)
+    → ((sent : model.CommitCommand) → IsDraft old (model.Commit sent) → IsDraft new (with_message (model.Commit sent) a))
+    → ((sent : model.TagCommand) → IsDraft old (model.Tag sent) → IsDraft new (with_message (model.Tag sent) a))
+    → ((sent : model.MoveCommand) → IsDraft old (model.Move sent) → IsDraft new (with_message (model.Move sent) a))
+    → (sent : model.Command) (before : List spelling.Part) → before_message sent ≡ Some before → HasEnough old sent → (to_message (with_message sent a) ≡ Some (before ++ spelling.message_parts a)) × HasEnough new (with_message sent a)
 message_then a old new commits tags moves (model.Commit c) before e h = (ap (λ x. Some (x ++ spelling.message_parts a)) (same_Some (to_committer c) before e), record { enough = refl; has = commits c h.has })
 message_then a old new commits tags moves (model.Tag c) before e h = (ap (λ x. Some (x ++ spelling.message_parts a)) (same_Some (to_tagger c) before e), record { enough = refl; has = tags c h.has })
 message_then a old new commits tags moves (model.Move c) before e h = (ap (λ x. Some (x ++ spelling.message_parts a)) (same_Some (to_mover c) before e), record { enough = h.enough; has = moves c h.has })
-message_then a old new commits tags moves order before e h = cc
+message_then a old new commits tags moves sent before e h = cc
 
 message_goes : (n : ℕ) (a : Bytes) (old new : Draft) → length a ≡ n
-    → ((order : model.CommitCommand) → IsDraft old (model.Commit order) → IsDraft new (with_message (model.Commit order) a))
-    → ((order : model.TagCommand) → IsDraft old (model.Tag order) → IsDraft new (with_message (model.Tag order) a))
-    → ((order : model.MoveCommand) → IsDraft old (model.Move order) → IsDraft new (with_message (model.Move order) a))
+    → ((sent : model.CommitCommand) → IsDraft old (model.Commit sent) → IsDraft new (with_message (model.Commit sent) a))
+    → ((sent : model.TagCommand) → IsDraft old (model.Tag sent) → IsDraft new (with_message (model.Tag sent) a))
+    → ((sent : model.MoveCommand) → IsDraft old (model.Move sent) → IsDraft new (with_message (model.Move sent) a))
     → (h : lines.Heading) → IsHeading (heading.Message n) h → (p q : Place) → next_offered (place_of p) h ≡ Some (place_of q) → (before : List spelling.Part) → HasCome p old before → HasCome q new (before ++ parts_with h (a ∷ []))
 message_goes n a old new l commits tags moves (lines.MessageHeading m) i place.Message place.End e before come =
     let told = message_then a old new commits tags moves come.0 before come.1 come.2 in
@@ -476,9 +476,9 @@ message_goes n a old new l commits tags moves (lines.MessageHeading m) i p q e b
 message_goes n a old new l commits tags moves h i p q e before come = absurd i
 
 pub message_fields : (n : ℕ) (ys : Bytes) (old new : Draft) (a : Bytes) → length a ≡ n → ys ≡ line a
-    → ((order : model.CommitCommand) → IsDraft old (model.Commit order) → IsDraft new (with_message (model.Commit order) a))
-    → ((order : model.TagCommand) → IsDraft old (model.Tag order) → IsDraft new (with_message (model.Tag order) a))
-    → ((order : model.MoveCommand) → IsDraft old (model.Move order) → IsDraft new (with_message (model.Move order) a)) → TakesFields (heading.Message n) old new ys
+    → ((sent : model.CommitCommand) → IsDraft old (model.Commit sent) → IsDraft new (with_message (model.Commit sent) a))
+    → ((sent : model.TagCommand) → IsDraft old (model.Tag sent) → IsDraft new (with_message (model.Tag sent) a))
+    → ((sent : model.MoveCommand) → IsDraft old (model.Move sent) → IsDraft new (with_message (model.Move sent) a)) → TakesFields (heading.Message n) old new ys
 message_fields n ys old new a l y commits tags moves = record { fields = a ∷ []; heads = ap (λ k. k ∷ []) (sym l); spelled = one_text ys a y; come = message_goes n a old new l commits tags moves }
 
 whole : (head : spelling.Part) (ps e a c m z : List spelling.Part) → (((((head ∷ ps) ++ e) ++ a) ++ c) ++ m) ++ z ≡ head ∷ (ps ++ (e ++ (a ++ (c ++ (m ++ z)))))
@@ -488,7 +488,7 @@ whole head ps e a c m z =
 whole_move : (head : spelling.Part) (ps a m z : List spelling.Part) → (((head ∷ ps) ++ a) ++ m) ++ z ≡ head ∷ (ps ++ (a ++ (m ++ z)))
 whole_move head ps a m z = ap (λ t. head ∷ t) (append_assoc (ps ++ a) m z ∙ append_assoc ps a (m ++ z))
 
-ended : (order : model.Command) (before : List spelling.Part) → to_message order ≡ Some before → before ++ spelling.end_part ≡ spelling.parts_of order
+ended : (sent : model.Command) (before : List spelling.Part) → to_message sent ≡ Some before → before ++ spelling.end_part ≡ spelling.parts_of sent
 ended (model.Commit c) before e =
     ap (λ x. x ++ spelling.end_part) (sym (same_Some (to_committer c ++ spelling.message_parts c.message) before e))
     ∙ whole (spelling.Line (codes "commit" ∷ c.name ∷ spelling.expect_words c.expect)) (map spelling.parent_part c.parents) (flat_map spelling.edit_parts c.edits) (spelling.actor_parts (codes "author") c.author)
@@ -499,7 +499,7 @@ ended (model.Tag c) before e =
 ended (model.Move c) before e =
     ap (λ x. x ++ spelling.end_part) (sym (same_Some (to_mover c ++ spelling.message_parts c.message) before e))
     ∙ whole_move (spelling.Line (codes "move" ∷ [])) (map spelling.to_part c.to) (spelling.actor_parts (codes "actor") c.actor) (spelling.message_parts c.message) spelling.end_part
-ended order before e = cc
+ended sent before e = cc
 
 end_goes : (d : Draft) (h : lines.Heading) → IsHeading heading.End h → (p q : Place) → next_offered (place_of p) h ≡ Some (place_of q) → (before : List spelling.Part) → HasCome p d before → HasCome q d (before ++ parts_with h [])
 end_goes d lines.EndHeading i place.End place.Done e before come = (come.0, ended come.0 before come.1, come.2)

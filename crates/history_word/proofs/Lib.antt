@@ -1,3 +1,4 @@
+pub mod Changing
 mod TableLines
 mod TableRunLemmas
 mod TableReaches
@@ -12,6 +13,7 @@ pub mod StopLemmas
 pub mod SinkLemmas
 pub mod FieldLemmas
 pub mod LineLemmas
+mod LineTexts
 pub mod UnofferedLemmas
 pub mod PushLemmas
 pub mod TargetLemmas

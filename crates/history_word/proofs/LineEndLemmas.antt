@@ -43,7 +43,7 @@ opening_sizes_are (opening.Past word) (lines.PastHeading w) e = refl
 opening_sizes_are (opening.Switch name) (lines.SwitchHeading n) e = refl
 opening_sizes_are opening.Pack lines.PackHeading e = refl
 opening_sizes_are opening.Index lines.IndexHeading e = refl
-opening_sizes_are (opening.Log said) (lines.LogHeading order first_parents items paths) e = sym e.1
+opening_sizes_are (opening.Log said) (lines.LogHeading sent first_parents items paths) e = sym e.1
 opening_sizes_are said h e = absurd e
 
 pub heading_sizes_are : (said : Heading) (h : lines.Heading) → IsHeading said h → lines.sizes h ≡ heading_sizes said

@@ -72,7 +72,7 @@ some_words IndexHeading e = cc
 some_words (NamesHeading folder) e = cc
 some_words (FilesHeading word) e = cc
 some_words (PastHeading name) e = cc
-some_words (LogHeading order first items path) e = cc
+some_words (LogHeading sent first items path) e = cc
 some_words (ShowHeading word path) e = cc
 
 -- ---- cutting

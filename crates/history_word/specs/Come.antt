@@ -70,32 +70,32 @@ to_message (model.Move c) = Some (to_mover c ++ spelling.message_parts c.message
 to_message _ = None
 
 -- the command has enough parts, and the draft has what came of it
-pub record HasEnough (d : Draft) (order : model.Command) : Type 0 where
-  pub enough : IsTrue (spelling.has_enough order)
-  pub has : IsDraft d order
+pub record HasEnough (d : Draft) (sent : model.Command) : Type 0 where
+  pub enough : IsTrue (spelling.has_enough sent)
+  pub has : IsDraft d sent
 
 -- at this place these parts have come, and the draft has them
 abbrev pub HasCome : Place → Draft → List spelling.Part → Type 0
 HasCome place.Start d parts = parts ≡ []
 HasCome place.Parents d parts =
-    (order : model.CommitCommand) × (parts ≡ to_parents order) × IsDraft d (model.Commit order)
-    × (order.edits ≡ [])
+    (sent : model.CommitCommand) × (parts ≡ to_parents sent) × IsDraft d (model.Commit sent)
+    × (sent.edits ≡ [])
 HasCome place.Edits d parts =
-    (order : model.CommitCommand) × (parts ≡ to_edits order) × IsDraft d (model.Commit order)
+    (sent : model.CommitCommand) × (parts ≡ to_edits sent) × IsDraft d (model.Commit sent)
 HasCome place.Committer d parts =
-    (order : model.CommitCommand) × (parts ≡ to_author order) × IsDraft d (model.Commit order)
+    (sent : model.CommitCommand) × (parts ≡ to_author sent) × IsDraft d (model.Commit sent)
 HasCome place.Tagger d parts =
-    (order : model.TagCommand) × (parts ≡ to_tag order) × IsDraft d (model.Tag order)
+    (sent : model.TagCommand) × (parts ≡ to_tag sent) × IsDraft d (model.Tag sent)
 HasCome place.ToFirst d parts =
-    (order : model.MoveCommand) × (parts ≡ to_targets order) × IsDraft d (model.Move order)
+    (sent : model.MoveCommand) × (parts ≡ to_targets sent) × IsDraft d (model.Move sent)
 HasCome place.ToMore d parts =
-    (order : model.MoveCommand) × (parts ≡ to_targets order) × HasEnough d (model.Move order)
+    (sent : model.MoveCommand) × (parts ≡ to_targets sent) × HasEnough d (model.Move sent)
 HasCome place.Message d parts =
-    (order : model.Command) × (before_message order ≡ Some parts) × HasEnough d order
+    (sent : model.Command) × (before_message sent ≡ Some parts) × HasEnough d sent
 HasCome place.End d parts =
-    (order : model.Command) × (to_message order ≡ Some parts) × HasEnough d order
+    (sent : model.Command) × (to_message sent ≡ Some parts) × HasEnough d sent
 HasCome place.Done d parts =
-    (order : model.Command) × (parts ≡ spelling.parts_of order) × HasEnough d order
+    (sent : model.Command) × (parts ≡ spelling.parts_of sent) × HasEnough d sent
 
 -- ---- what the readers of a line and of a line with its fields return
 
@@ -177,8 +177,8 @@ pub record TakesLog (heading : LogLine) (log : Option LogCommand) (taken : Bytes
   pub paths : List Bytes
   pub heads : listed heading.paths ≡ map length paths
   pub spelled : taken ≡ flat_map line paths
-  pub is : (order : model.LogCommand) → IsLogLine heading order
-      → IfSome log (λ x. IsLog x (with_paths order paths))
+  pub is : (sent : model.LogCommand) → IsLogLine heading sent
+      → IfSome log (λ x. IsLog x (with_paths sent paths))
 
 -- the fields of an actor were taken
 pub record TakesActor (heading : ActorHeading) (actor : Option ActorLine)

@@ -1,11 +1,11 @@
 -- What a command that was read means.
-use Rattle.std.specs.Prelude.{◌≡◌, ⊤, List, map, Option, Some, None, option_map}
+use Rattle.std.specs.Prelude.{◌≡◌, ⊤, Bool, true, false, List, map, Option, Some, None, option_map}
 use Rattle.std.specs.List.{AllZip}
 use Rattle.history_model.specs.Bytes.{Bytes}
 use Rattle.history_model.specs.CommandParts.{option_expect}
 use Rattle.history_model.specs.Commands as model
 use Rattle.history_model.specs.Forms.{max_path, max_actor_part, max_content}
-use Rattle.history_model.specs.Stops.{is_changing}
+use Rattle.history_model.specs.Stops as stops
 use Rattle.history_word.specs.Fields.{Keeps}
 use Rattle.history_word.specs.declared.command.Field.{Field}
 use Rattle.history_word.specs.declared.command.Expect.{Expect}
@@ -53,21 +53,21 @@ pub record IsActor (actor : ActorLine) (line : model.ActorLine) : Type 0 where
   pub seconds : actor.seconds.items ≡ line.seconds
   pub offset : actor.offset.items ≡ line.offset
 
-pub record IsCommit (commit : CommitCommand) (order : model.CommitCommand) : Type 0 where
-  pub name : commit.name.items ≡ order.name
-  pub expect : IsExpect commit.expect order.expect
-  pub parents : map (λ word. word.items) commit.parents.items ≡ order.parents
-  pub edits : AreEdits commit.edits.items order.edits
-  pub author : IsActor commit.author order.author
-  pub committer : IsActor commit.committer order.committer
-  pub message : Keeps max_content commit.message order.message
+pub record IsCommit (commit : CommitCommand) (sent : model.CommitCommand) : Type 0 where
+  pub name : commit.name.items ≡ sent.name
+  pub expect : IsExpect commit.expect sent.expect
+  pub parents : map (λ word. word.items) commit.parents.items ≡ sent.parents
+  pub edits : AreEdits commit.edits.items sent.edits
+  pub author : IsActor commit.author sent.author
+  pub committer : IsActor commit.committer sent.committer
+  pub message : Keeps max_content commit.message sent.message
 
-pub record IsTag (tag : TagCommand) (order : model.TagCommand) : Type 0 where
-  pub name : tag.name.items ≡ order.name
-  pub expect : IsExpect tag.expect order.expect
-  pub word : tag.word.items ≡ order.word
-  pub tagger : IsActor tag.tagger order.tagger
-  pub message : Keeps max_content tag.message order.message
+pub record IsTag (tag : TagCommand) (sent : model.TagCommand) : Type 0 where
+  pub name : tag.name.items ≡ sent.name
+  pub expect : IsExpect tag.expect sent.expect
+  pub word : tag.word.items ≡ sent.word
+  pub tagger : IsActor tag.tagger sent.tagger
+  pub message : Keeps max_content tag.message sent.message
 
 pub record IsTo (to : To) (line : model.To) : Type 0 where
   pub name : to.name.items ≡ line.name
@@ -77,10 +77,10 @@ pub record IsTo (to : To) (line : model.To) : Type 0 where
 abbrev pub AreTos : List To → List model.To → Type 0
 AreTos = AllZip IsTo
 
-pub record IsMove (move : MoveCommand) (order : model.MoveCommand) : Type 0 where
-  pub to : AreTos move.to.items order.to
-  pub actor : IsActor move.actor order.actor
-  pub message : Keeps max_content move.message order.message
+pub record IsMove (move : MoveCommand) (sent : model.MoveCommand) : Type 0 where
+  pub to : AreTos move.to.items sent.to
+  pub actor : IsActor move.actor sent.actor
+  pub message : Keeps max_content move.message sent.message
 
 -- the two names are these
 pub record IsRename (rename : Rename) (from to : Bytes) : Type 0 where
@@ -123,9 +123,9 @@ pub record IsLog (log : LogCommand) (line : model.LogCommand) : Type 0 where
 
 -- the command that was read is this one, except for the bytes of fields over their limits
 abbrev pub IsCommandOf : Command → model.Command → Type 0
-IsCommandOf (command.Commit commit) (model.Commit order) = IsCommit commit order
-IsCommandOf (command.Tag tag) (model.Tag order) = IsTag tag order
-IsCommandOf (command.Move move) (model.Move order) = IsMove move order
+IsCommandOf (command.Commit commit) (model.Commit sent) = IsCommit commit sent
+IsCommandOf (command.Tag tag) (model.Tag sent) = IsTag tag sent
+IsCommandOf (command.Move move) (model.Move sent) = IsMove move sent
 IsCommandOf (command.Rename rename) (model.Rename from to) = IsRename rename from to
 IsCommandOf (command.Delete delete) (model.Delete name at) = IsDelete delete name at
 IsCommandOf (command.Files word) (model.Files bytes) = word.items ≡ bytes
@@ -136,10 +136,31 @@ IsCommandOf (command.Past word) (model.Past bytes) = word.items ≡ bytes
 IsCommandOf (command.Switch name) (model.Switch bytes) = name.items ≡ bytes
 IsCommandOf command.Pack model.Pack = ⊤
 IsCommandOf command.Index model.Index = ⊤
-IsCommandOf (command.Log log) (model.Log order) = IsLog log order
+IsCommandOf (command.Log log) (model.Log sent) = IsLog log sent
 IsCommandOf _ _ = ⊥
 
 -- a command was read, or was read to its end though memory ran out
 abbrev pub IsReceived : Received → model.Command → Type 0
-IsReceived (received.Command command) order = IsCommandOf command order
-IsReceived (received.NoMemory changing) order = changing ≡ is_changing order
+IsReceived (received.Command command) sent = IsCommandOf command sent
+IsReceived (received.NoMemory changing) sent = changing ≡ stops.is_changing sent
+
+-- ---- whether it changes files, as the command does that was sent
+
+abbrev pub is_changing : Command → Bool
+is_changing (command.Commit commit) = true
+is_changing (command.Tag tag) = true
+is_changing (command.Move move) = true
+is_changing (command.Rename rename) = true
+is_changing (command.Delete delete) = true
+is_changing (command.Files word) = false
+is_changing (command.Show show) = false
+is_changing (command.Names folder) = false
+is_changing (command.Past word) = false
+is_changing (command.Switch name) = true
+is_changing command.Pack = true
+is_changing command.Index = false
+is_changing (command.Log log) = false
+
+abbrev pub is_received_changing : Received → Bool
+is_received_changing (received.Command command) = is_changing command
+is_received_changing (received.NoMemory changing) = changing

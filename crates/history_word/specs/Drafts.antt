@@ -170,35 +170,35 @@ item_with true word = model.Tip word
 item_with false word = model.Hidden word
 
 -- the draft of a commit has these parts, except those for which memory ran out
-pub record IsCommitDraft (draft : CommitDraft) (order : model.CommitCommand) : Type 0 where
-  pub name : IfSome draft.name (λ word. word.items ≡ order.name)
-  pub expect : IfSome draft.expect (λ x. IsExpect x order.expect)
-  pub parents : IfSome draft.parents (λ words. map (λ word. word.items) words.items ≡ order.parents)
-  pub edits : IfSome draft.edits (λ edits. AreEdits edits.items order.edits)
-  pub author : IfSome draft.author (λ actor. IsActor actor order.author)
-  pub committer : IfSome draft.committer (λ actor. IsActor actor order.committer)
-  pub message : IfSome draft.message (λ field. Keeps max_content field order.message)
+pub record IsCommitDraft (draft : CommitDraft) (sent : model.CommitCommand) : Type 0 where
+  pub name : IfSome draft.name (λ word. word.items ≡ sent.name)
+  pub expect : IfSome draft.expect (λ x. IsExpect x sent.expect)
+  pub parents : IfSome draft.parents (λ words. map (λ word. word.items) words.items ≡ sent.parents)
+  pub edits : IfSome draft.edits (λ edits. AreEdits edits.items sent.edits)
+  pub author : IfSome draft.author (λ actor. IsActor actor sent.author)
+  pub committer : IfSome draft.committer (λ actor. IsActor actor sent.committer)
+  pub message : IfSome draft.message (λ field. Keeps max_content field sent.message)
 
 -- the name of a tag, what is expected of it, and the word of its commit
 abbrev pub target_of : model.TagCommand → model.To
-target_of order = to_of order.name order.expect order.word
+target_of sent = to_of sent.name sent.expect sent.word
 
 -- the draft of a tag has these parts, except those for which memory ran out
-pub record IsTagDraft (draft : TagDraft) (order : model.TagCommand) : Type 0 where
-  pub target : IfSome draft.target (λ x. IsTo x (target_of order))
-  pub tagger : IfSome draft.tagger (λ actor. IsActor actor order.tagger)
-  pub message : IfSome draft.message (λ field. Keeps max_content field order.message)
+pub record IsTagDraft (draft : TagDraft) (sent : model.TagCommand) : Type 0 where
+  pub target : IfSome draft.target (λ x. IsTo x (target_of sent))
+  pub tagger : IfSome draft.tagger (λ actor. IsActor actor sent.tagger)
+  pub message : IfSome draft.message (λ field. Keeps max_content field sent.message)
 
 -- the draft of a move has these parts, except those for which memory ran out
-pub record IsMoveDraft (draft : MoveDraft) (order : model.MoveCommand) : Type 0 where
-  pub to : IfSome draft.to (λ all. AreTos all.items order.to)
-  pub actor : IfSome draft.actor (λ actor. IsActor actor order.actor)
-  pub message : IfSome draft.message (λ field. Keeps max_content field order.message)
+pub record IsMoveDraft (draft : MoveDraft) (sent : model.MoveCommand) : Type 0 where
+  pub to : IfSome draft.to (λ all. AreTos all.items sent.to)
+  pub actor : IfSome draft.actor (λ actor. IsActor actor sent.actor)
+  pub message : IfSome draft.message (λ field. Keeps max_content field sent.message)
 
 abbrev pub IsDraft : Draft → model.Command → Type 0
-IsDraft (draft.Commit commit) (model.Commit order) = IsCommitDraft commit order
-IsDraft (draft.Tag tag) (model.Tag order) = IsTagDraft tag order
-IsDraft (draft.Move move) (model.Move order) = IsMoveDraft move order
+IsDraft (draft.Commit commit) (model.Commit sent) = IsCommitDraft commit sent
+IsDraft (draft.Tag tag) (model.Tag sent) = IsTagDraft tag sent
+IsDraft (draft.Move move) (model.Move sent) = IsMoveDraft move sent
 IsDraft (draft.Rename rename) (model.Rename from to) = IfSome rename (λ x. IsRename x from to)
 IsDraft (draft.Delete delete) (model.Delete name at) = IfSome delete (λ x. IsDelete x name at)
 IsDraft (draft.Files word) (model.Files bytes) = IfSome word (λ x. x.items ≡ bytes)
@@ -210,35 +210,35 @@ IsDraft (draft.Past word) (model.Past bytes) = IfSome word (λ x. x.items ≡ by
 IsDraft (draft.Switch name) (model.Switch bytes) = IfSome name (λ x. x.items ≡ bytes)
 IsDraft draft.Pack model.Pack = ⊤
 IsDraft draft.Index model.Index = ⊤
-IsDraft (draft.Log log) (model.Log order) = IfSome log (λ x. IsLog x order)
+IsDraft (draft.Log log) (model.Log sent) = IfSome log (λ x. IsLog x sent)
 IsDraft _ _ = ⊥
 
 -- ---- commands with one part more
 
 abbrev pub with_parent : model.CommitCommand → Bytes → model.CommitCommand
-with_parent order word = record order { parents = order.parents ++ word ∷ [] }
+with_parent sent word = record sent { parents = sent.parents ++ word ∷ [] }
 
 abbrev pub with_edit : model.CommitCommand → model.EditLine → model.CommitCommand
-with_edit order edit = record order { edits = order.edits ++ edit ∷ [] }
+with_edit sent edit = record sent { edits = sent.edits ++ edit ∷ [] }
 
 abbrev pub with_to : model.MoveCommand → model.To → model.MoveCommand
-with_to order line = record order { to = order.to ++ line ∷ [] }
+with_to sent line = record sent { to = sent.to ++ line ∷ [] }
 
 -- The command with this actor in that role, if it has such a role.
 abbrev pub with_actor : Role → model.Command → model.ActorLine → model.Command
-with_actor Author (model.Commit order) actor = model.Commit (record order { author = actor })
-with_actor Committer (model.Commit order) actor = model.Commit (record order { committer = actor })
-with_actor Tagger (model.Tag order) actor = model.Tag (record order { tagger = actor })
-with_actor Mover (model.Move order) actor = model.Move (record order { actor = actor })
-with_actor role order actor = order
+with_actor Author (model.Commit sent) actor = model.Commit (record sent { author = actor })
+with_actor Committer (model.Commit sent) actor = model.Commit (record sent { committer = actor })
+with_actor Tagger (model.Tag sent) actor = model.Tag (record sent { tagger = actor })
+with_actor Mover (model.Move sent) actor = model.Move (record sent { actor = actor })
+with_actor role sent actor = sent
 
 -- The command with this message, if it has one.
 abbrev pub with_message : model.Command → Bytes → model.Command
-with_message (model.Commit order) message = model.Commit (record order { message = message })
-with_message (model.Tag order) message = model.Tag (record order { message = message })
-with_message (model.Move order) message = model.Move (record order { message = message })
-with_message order message = order
+with_message (model.Commit sent) message = model.Commit (record sent { message = message })
+with_message (model.Tag sent) message = model.Tag (record sent { message = message })
+with_message (model.Move sent) message = model.Move (record sent { message = message })
+with_message sent message = sent
 
 -- the log with these paths
 abbrev pub with_paths : model.LogCommand → List Bytes → model.LogCommand
-with_paths order paths = record order { paths = paths }
+with_paths sent paths = record sent { paths = paths }

@@ -13,3 +13,11 @@ pub mod Come
 pub mod Progress
 pub mod Reading
 pub mod StdStream
+pub use Rattle.gix_hash.specs.Writes
+pub use Rattle.gix_object_lines.specs.Counts
+pub use Rattle.history_model.specs.Commands as ModelCommands
+pub use Rattle.history_model.specs.Grammar
+pub use Rattle.history_model.specs.Spelling
+pub use Rattle.history_model.specs.Stage
+pub use Rattle.history_model.specs.Stops
+pub use Rattle.history_model.specs.laws.Grammars

@@ -218,3 +218,28 @@ impl Field {
         }
     }
 }
+
+impl Command {
+    ghost use Rattle.std.specs.Prelude.{◌≡◌};
+    ghost use Rattle.history_model.specs.Commands as model;
+    ghost use Rattle.history_model.specs.Stops as stops;
+    ghost use Rattle.history_word.specs.Commands.{IsCommandOf, is_changing};
+
+    /// Returns whether the command changes files.
+    pub fn is_changing(&self) -> bool
+        ensures same { result ≡ is_changing self.now }
+        ensures sent { (sent : model.Command) → IsCommandOf self.now sent
+            → result ≡ stops.is_changing sent }
+    {
+        matches!(
+            self,
+            Command::Commit(_)
+                | Command::Tag(_)
+                | Command::Move(_)
+                | Command::Rename(_)
+                | Command::Delete(_)
+                | Command::Switch(_)
+                | Command::Pack
+        )
+    }
+}

@@ -68,10 +68,10 @@ pub(crate) enum Draft {
 
 impl CommitDraft {
     fn new(alloc: Global, name: Option<Vec<u8>>, expect: Option<Expect>) -> Self
-        ensures { (order : model.CommitCommand) → IfSome name (λ word. word.items ≡ order.name)
-            → IfSome expect (λ x. IsExpect x order.expect)
-            → order.parents ≡ [] → order.edits ≡ []
-            → IsCommitDraft result order }
+        ensures { (sent : model.CommitCommand) → IfSome name (λ word. word.items ≡ sent.name)
+            → IfSome expect (λ x. IsExpect x sent.expect)
+            → sent.parents ≡ [] → sent.edits ≡ []
+            → IsCommitDraft result sent }
     {
         CommitDraft {
             name,
@@ -85,24 +85,24 @@ impl CommitDraft {
     }
 
     fn add_parent(&mut self, word: Option<Vec<u8>>)
-        ensures { (order : model.CommitCommand) (w : Bytes)
-            → IsCommitDraft self.old order → IfSome word (λ x. x.items ≡ w)
-            → IsCommitDraft self.new (with_parent order w) }
+        ensures { (sent : model.CommitCommand) (w : Bytes)
+            → IsCommitDraft self.old sent → IfSome word (λ x. x.items ≡ w)
+            → IsCommitDraft self.new (with_parent sent w) }
     {
         self.parents = pushed(self.parents.take(), word);
     }
 
     fn add_edit(&mut self, edit: Option<Edit>)
-        ensures { (order : model.CommitCommand) (line : model.EditLine)
-            → IsCommitDraft self.old order → IfSome edit (λ x. IsEdit x line)
-            → IsCommitDraft self.new (with_edit order line) }
+        ensures { (sent : model.CommitCommand) (line : model.EditLine)
+            → IsCommitDraft self.old sent → IfSome edit (λ x. IsEdit x line)
+            → IsCommitDraft self.new (with_edit sent line) }
     {
         self.edits = pushed(self.edits.take(), edit);
     }
 
     fn finish(self) -> Option<CommitCommand>
-        ensures { (order : model.CommitCommand) → IsCommitDraft self order
-            → IfSome result (λ commit. IsCommit commit order) }
+        ensures { (sent : model.CommitCommand) → IsCommitDraft self sent
+            → IfSome result (λ commit. IsCommit commit sent) }
     {
         Some(CommitCommand {
             name: self.name?,
@@ -118,8 +118,8 @@ impl CommitDraft {
 
 impl TagDraft {
     fn new(target: Option<To>) -> Self
-        ensures { (order : model.TagCommand) → IfSome target (λ x. IsTo x (target_of order))
-            → IsTagDraft result order }
+        ensures { (sent : model.TagCommand) → IfSome target (λ x. IsTo x (target_of sent))
+            → IsTagDraft result sent }
     {
         TagDraft {
             target,
@@ -129,8 +129,8 @@ impl TagDraft {
     }
 
     fn finish(self) -> Option<TagCommand>
-        ensures { (order : model.TagCommand) → IsTagDraft self order
-            → IfSome result (λ tag. IsTag tag order) }
+        ensures { (sent : model.TagCommand) → IsTagDraft self sent
+            → IfSome result (λ tag. IsTag tag sent) }
     {
         let target = self.target?;
         Some(TagCommand {
@@ -145,7 +145,7 @@ impl TagDraft {
 
 impl MoveDraft {
     fn new(alloc: Global) -> Self
-        ensures { (order : model.MoveCommand) → order.to ≡ [] → IsMoveDraft result order }
+        ensures { (sent : model.MoveCommand) → sent.to ≡ [] → IsMoveDraft result sent }
     {
         MoveDraft {
             to: Some(Vec::new(alloc)),
@@ -155,16 +155,16 @@ impl MoveDraft {
     }
 
     fn add_to(&mut self, to: Option<To>)
-        ensures { (order : model.MoveCommand) (line : model.To)
-            → IsMoveDraft self.old order → IfSome to (λ x. IsTo x line)
-            → IsMoveDraft self.new (with_to order line) }
+        ensures { (sent : model.MoveCommand) (line : model.To)
+            → IsMoveDraft self.old sent → IfSome to (λ x. IsTo x line)
+            → IsMoveDraft self.new (with_to sent line) }
     {
         self.to = pushed(self.to.take(), to);
     }
 
     fn finish(self) -> Option<MoveCommand>
-        ensures { (order : model.MoveCommand) → IsMoveDraft self order
-            → IfSome result (λ found. IsMove found order) }
+        ensures { (sent : model.MoveCommand) → IsMoveDraft self sent
+            → IfSome result (λ found. IsMove found sent) }
     {
         Some(MoveCommand {
             to: self.to?,
@@ -176,23 +176,23 @@ impl MoveDraft {
 
 impl Draft {
     pub(crate) fn commit(alloc: Global, name: Option<Vec<u8>>, expect: Option<Expect>) -> Self
-        ensures { (order : model.CommitCommand) → IfSome name (λ word. word.items ≡ order.name)
-            → IfSome expect (λ x. IsExpect x order.expect)
-            → order.parents ≡ [] → order.edits ≡ []
-            → IsDraft result (model.Commit order) }
+        ensures { (sent : model.CommitCommand) → IfSome name (λ word. word.items ≡ sent.name)
+            → IfSome expect (λ x. IsExpect x sent.expect)
+            → sent.parents ≡ [] → sent.edits ≡ []
+            → IsDraft result (model.Commit sent) }
     {
         Draft::Commit(CommitDraft::new(alloc, name, expect))
     }
 
     pub(crate) fn tag(target: Option<To>) -> Self
-        ensures { (order : model.TagCommand) → IfSome target (λ x. IsTo x (target_of order))
-            → IsDraft result (model.Tag order) }
+        ensures { (sent : model.TagCommand) → IfSome target (λ x. IsTo x (target_of sent))
+            → IsDraft result (model.Tag sent) }
     {
         Draft::Tag(TagDraft::new(target))
     }
 
     pub(crate) fn new_move(alloc: Global) -> Self
-        ensures { (order : model.MoveCommand) → order.to ≡ [] → IsDraft result (model.Move order) }
+        ensures { (sent : model.MoveCommand) → sent.to ≡ [] → IsDraft result (model.Move sent) }
     {
         Draft::Move(MoveDraft::new(alloc))
     }
@@ -240,9 +240,9 @@ impl Draft {
     }
 
     pub(crate) fn add_parent(&mut self, word: Option<Vec<u8>>)
-        ensures { (order : model.CommitCommand) (w : Bytes)
-            → IsDraft self.old (model.Commit order) → IfSome word (λ x. x.items ≡ w)
-            → IsDraft self.new (model.Commit (with_parent order w)) }
+        ensures { (sent : model.CommitCommand) (w : Bytes)
+            → IsDraft self.old (model.Commit sent) → IfSome word (λ x. x.items ≡ w)
+            → IsDraft self.new (model.Commit (with_parent sent w)) }
     {
         if let Draft::Commit(commit) = self {
             commit.add_parent(word);
@@ -250,9 +250,9 @@ impl Draft {
     }
 
     pub(crate) fn add_edit(&mut self, edit: Option<Edit>)
-        ensures { (order : model.CommitCommand) (line : model.EditLine)
-            → IsDraft self.old (model.Commit order) → IfSome edit (λ x. IsEdit x line)
-            → IsDraft self.new (model.Commit (with_edit order line)) }
+        ensures { (sent : model.CommitCommand) (line : model.EditLine)
+            → IsDraft self.old (model.Commit sent) → IfSome edit (λ x. IsEdit x line)
+            → IsDraft self.new (model.Commit (with_edit sent line)) }
     {
         if let Draft::Commit(commit) = self {
             commit.add_edit(edit);
@@ -260,57 +260,57 @@ impl Draft {
     }
 
     pub(crate) fn add_to(&mut self, to: Option<To>)
-        ensures { (order : model.MoveCommand) (line : model.To)
-            → IsDraft self.old (model.Move order) → IfSome to (λ x. IsTo x line)
-            → IsDraft self.new (model.Move (with_to order line)) }
+        ensures { (sent : model.MoveCommand) (line : model.To)
+            → IsDraft self.old (model.Move sent) → IfSome to (λ x. IsTo x line)
+            → IsDraft self.new (model.Move (with_to sent line)) }
     {
-        if let Draft::Move(order) = self {
-            order.add_to(to);
+        if let Draft::Move(sent) = self {
+            sent.add_to(to);
         }
     }
 
     pub(crate) fn set_actor(&mut self, role: Role, actor: Option<ActorLine>)
-        ensures commit { (order : model.CommitCommand) (line : model.ActorLine)
-            → IsDraft self.old (model.Commit order) → IfSome actor (λ x. IsActor x line)
-            → IsDraft self.new (with_actor role (model.Commit order) line) }
-        ensures tag { (order : model.TagCommand) (line : model.ActorLine)
-            → IsDraft self.old (model.Tag order) → IfSome actor (λ x. IsActor x line)
-            → IsDraft self.new (with_actor role (model.Tag order) line) }
-        ensures moves { (order : model.MoveCommand) (line : model.ActorLine)
-            → IsDraft self.old (model.Move order) → IfSome actor (λ x. IsActor x line)
-            → IsDraft self.new (with_actor role (model.Move order) line) }
+        ensures commit { (sent : model.CommitCommand) (line : model.ActorLine)
+            → IsDraft self.old (model.Commit sent) → IfSome actor (λ x. IsActor x line)
+            → IsDraft self.new (with_actor role (model.Commit sent) line) }
+        ensures tag { (sent : model.TagCommand) (line : model.ActorLine)
+            → IsDraft self.old (model.Tag sent) → IfSome actor (λ x. IsActor x line)
+            → IsDraft self.new (with_actor role (model.Tag sent) line) }
+        ensures moves { (sent : model.MoveCommand) (line : model.ActorLine)
+            → IsDraft self.old (model.Move sent) → IfSome actor (λ x. IsActor x line)
+            → IsDraft self.new (with_actor role (model.Move sent) line) }
     {
         match (self, role) {
             (Draft::Commit(commit), Role::Author) => commit.author = actor,
             (Draft::Commit(commit), Role::Committer) => commit.committer = actor,
             (Draft::Tag(tag), Role::Tagger) => tag.tagger = actor,
-            (Draft::Move(order), Role::Mover) => order.actor = actor,
+            (Draft::Move(sent), Role::Mover) => sent.actor = actor,
             _ => {}
         }
     }
 
     pub(crate) fn set_message(&mut self, message: Option<Field>)
-        ensures commit { (order : model.CommitCommand) (m : Bytes)
-            → IsDraft self.old (model.Commit order) → IfSome message (λ x. Keeps max_content x m)
-            → IsDraft self.new (with_message (model.Commit order) m) }
-        ensures tag { (order : model.TagCommand) (m : Bytes)
-            → IsDraft self.old (model.Tag order) → IfSome message (λ x. Keeps max_content x m)
-            → IsDraft self.new (with_message (model.Tag order) m) }
-        ensures moves { (order : model.MoveCommand) (m : Bytes)
-            → IsDraft self.old (model.Move order) → IfSome message (λ x. Keeps max_content x m)
-            → IsDraft self.new (with_message (model.Move order) m) }
+        ensures commit { (sent : model.CommitCommand) (m : Bytes)
+            → IsDraft self.old (model.Commit sent) → IfSome message (λ x. Keeps max_content x m)
+            → IsDraft self.new (with_message (model.Commit sent) m) }
+        ensures tag { (sent : model.TagCommand) (m : Bytes)
+            → IsDraft self.old (model.Tag sent) → IfSome message (λ x. Keeps max_content x m)
+            → IsDraft self.new (with_message (model.Tag sent) m) }
+        ensures moves { (sent : model.MoveCommand) (m : Bytes)
+            → IsDraft self.old (model.Move sent) → IfSome message (λ x. Keeps max_content x m)
+            → IsDraft self.new (with_message (model.Move sent) m) }
     {
         match self {
             Draft::Commit(commit) => commit.message = message,
             Draft::Tag(tag) => tag.message = message,
-            Draft::Move(order) => order.message = message,
+            Draft::Move(sent) => sent.message = message,
             _ => {}
         }
     }
 
     /// Returns whether the command changes the repository.
     pub(crate) fn is_changing(&self) -> bool
-        ensures { (order : model.Command) → IsDraft self.now order → result ≡ is_changing order }
+        ensures { (sent : model.Command) → IsDraft self.now sent → result ≡ is_changing sent }
     {
         matches!(
             self,
@@ -326,14 +326,14 @@ impl Draft {
 
     /// Returns the command, unless memory ran out for one of its parts.
     pub(crate) fn finish(self) -> Option<Command>
-        ensures { (order : model.Command) → IsDraft self order
-            → IfSome result (λ command. IsCommandOf command order) }
+        ensures { (sent : model.Command) → IsDraft self sent
+            → IfSome result (λ command. IsCommandOf command sent) }
     {
         match self {
             Draft::Empty => None,
             Draft::Commit(commit) => Some(Command::Commit(commit.finish()?)),
             Draft::Tag(tag) => Some(Command::Tag(tag.finish()?)),
-            Draft::Move(order) => Some(Command::Move(order.finish()?)),
+            Draft::Move(sent) => Some(Command::Move(sent.finish()?)),
             Draft::Rename(rename) => Some(Command::Rename(rename?)),
             Draft::Delete(delete) => Some(Command::Delete(delete?)),
             Draft::Files(word) => Some(Command::Files(word?)),

@@ -6,6 +6,7 @@ mod command;
 mod draft;
 mod heading;
 pub mod laws;
+mod lines;
 mod logs;
 mod memory;
 mod place;
@@ -21,6 +22,7 @@ pub use command::{
     ActorLine, Command, CommitCommand, Delete, Edit, Expect, Field, Graft, LogCommand, LogItem,
     MoveCommand, Order, Put, Rename, Show, TagCommand, To,
 };
+pub use lines::{field, kind_word, line};
 pub use memory::{Bytes, Collected};
 pub use reader::{Received, Stop, read_command};
 pub use stream::Stream;

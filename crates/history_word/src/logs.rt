@@ -46,9 +46,9 @@ impl LogLine {
 
     /// Returns the command with these paths, if there was memory for them and for the line's words.
     pub(crate) fn finish(self, paths: Option<Vec<Field>>) -> Option<LogCommand>
-        ensures { (order : model.LogCommand) (told : List Bytes) → IsLogLine self order
+        ensures { (sent : model.LogCommand) (told : List Bytes) → IsLogLine self sent
             → IfSome paths (λ all. ArePaths all.items told)
-            → IfSome result (λ log. IsLog log (with_paths order told)) }
+            → IfSome result (λ log. IsLog log (with_paths sent told)) }
     {
         Some(LogCommand {
             order: self.order?,

@@ -5,12 +5,13 @@ ghost use Rattle.history_model.specs.Bytes.{Bytes, line};
 ghost use Rattle.history_model.specs.Commands as model;
 ghost use Rattle.history_model.specs.Spelling.{spelling};
 ghost use Rattle.history_model.specs.Grammar.{Spells};
+ghost use Rattle.history_model.specs.Stops as stops;
 ghost use Rattle.history_word.specs.LineTable as table;
 ghost use Rattle.history_word.specs.TableRuns.{StopsAt};
 ghost use Rattle.history_word.specs.Held.{IsLineOf};
 ghost use Rattle.history_word.specs.Buffer.{unread};
 ghost use Rattle.history_word.specs.Fields.{KeepsFront, Keeps};
-ghost use Rattle.history_word.specs.Commands.{IsReceived};
+ghost use Rattle.history_word.specs.Commands.{IsReceived, is_received_changing};
 ghost use Rattle.history_word.specs.Drafts.{place_of};
 ghost use Rattle.history_word.specs.Come.{edit_sizes, opening_sizes, heading_sizes, TakesLine, TakesEdit, TakesPaths, TakesLog, TakesActor, TakesOpening, TakesFields, TakesParts};
 ghost use Rattle.history_word.specs.Progress.{IsEndless, IsNoField, StopsFrom, IsCauseOf};
@@ -53,6 +54,20 @@ pub enum Received {
     Command(Command),
     /// Memory ran out for some part of it; it was read to its end all the same.
     NoMemory { is_changing: bool },
+}
+
+impl Received {
+    /// Returns whether the command that was read changes files.
+    pub fn is_changing(&self) -> bool
+        ensures same { result ≡ is_received_changing self.now }
+        ensures sent { (sent : model.Command) → IsReceived self.now sent
+            → result ≡ stops.is_changing sent }
+    {
+        match self {
+            Received::Command(command) => command.is_changing(),
+            Received::NoMemory { is_changing } => *is_changing,
+        }
+    }
 }
 
 /// Reads until the first line is whole, and returns its length without its line feed. Refused as
@@ -341,7 +356,7 @@ pub fn read_command<R: Source>(
     source: &mut R,
 ) -> Result<Received, Stop>
     ensures { Reads R.left R.has_failed R.readings source.old buffer.old source.new buffer.new
-        (λ received taken. (order : model.Command) × Spells taken order × IsReceived received order
+        (λ received taken. (sent : model.Command) × Spells taken sent × IsReceived received sent
         × AsksForMore source.old buffer.old source.new taken) IsCauseOf result }
 {
     let mut draft = Draft::Empty;

@@ -394,5 +394,37 @@ for asked, answer in list(rows):
     if operation == "all":
         rows.append(("force_refresh_packed_buffer " + rest, "packed broken" if answer == "packed broken" else "opened"))
 
+# How many calls a listing makes, by the rule of the crate's README: one for each file below `refs`, two for each folder, of which `refs` itself
+# is only listed, and none for a name that only has a record; none when it is gone through.
+def calls(paths, packed, folder="-", prefix="", made=None):
+    """A listing over these paths of files, each with the same id, and as many records as this; of all names the calls that are made."""
+    id = "1" * 40
+    folders = {path.rsplit("/", k)[0] for path in paths for k in range(1, path.count("/"))}
+    records = "".join(f"{id} refs/heads/r{k:03}\n" for k in range(packed))
+    files = ["HEAD=" + b"ref: refs/heads/main\n".hex(), *(f"{path}={(id + chr(10)).encode().hex()}" for path in paths)]
+    if packed:
+        files.append("packed-refs=" + records.encode().hex())
+    names = {*paths, *(f"refs/heads/r{k:03}" for k in range(packed))}
+    given = len([name for name in names if name.startswith(prefix)])
+    rows.append((f"calls {folder} {prefix or '-'} {';'.join(files)}", f"{1 + 2 * len(folders) + len(paths) if made is None else made} 0 {given}"))
+
+
+def branches(count):
+    return [f"refs/heads/b{k:03}" for k in range(count)]
+
+
+for count in [0, 1, 2, 7, 40]:
+    for packed in [0, 1, 5, 60]:
+        calls(branches(count), packed)
+for count in [1, 7]:
+    # Of the wanted names half have a record too.
+    calls([f"refs/heads/r{k:03}" for k in range(count)], 2 * count)
+    calls(branches(count), 3, "+")
+calls([*branches(3), "refs/heads/x/y/z", "refs/heads/x/y/w", "refs/tags/v1", "refs/remotes/origin/HEAD"], 2)
+# The folder of the wanted names is the first that is called for.
+calls([*branches(4), "refs/tags/v1"], 3, prefix="refs/heads/", made=1 + 4)
+calls([*branches(4), "refs/tags/v1"], 3, prefix="refs/tags/", made=1 + 1)
+calls([*branches(4), "refs/tags/v1"], 3, prefix="refs/notes/", made=1)
+
 write(__file__, rows)
 write(Path(__file__).with_name("transaction.py"), transaction_rows.rows)

@@ -2,7 +2,8 @@
 
 from case_words import word
 from plain import Plain
-from streams import INPUT, KINDS, ONE, PACK, PUT_HELLO, SIGNED, branch, each, log_at, move, refusals, tag, told
+from streams import (
+    INPUT, KINDS, ONE, PACK, PUT_HELLO, SIGNED, branch, each, each_failing, in_turn, listing, log_at, move, refusals, tag, told)
 
 
 def index_faults():
@@ -42,7 +43,8 @@ def faults():
 def reading_faults():
     """One call of either part fails, each in turn, of each command that changes nothing, given twice and once more in a later run, over names of
     their own and packed ones: the one that makes it says so, the run goes on, and the others are right."""
-    fault, x, v = b"fault File\n", b"refs/heads/x", b"refs/tags/v"
+    fault, main, x, v = b"fault File\n", b"refs/heads/main", b"refs/heads/x", b"refs/tags/v"
+    folders = (b"refs/heads", b"refs/tags")
     loose = PUT_HELLO + branch(x + b" new", 2, b"parent main\n") + tag(v + b" new main", 3)
     of_names = [b"past main\n", b"past HEAD\n", b"past v\n", b"names refs/remotes\n"]
     of_both = [b"names\n", b"names refs/heads\n", b"names refs/tags\n", b"show HEAD\n", b"show v\n", b"files tags/v\n", b"show x path 1\na\n", b"log date all +v -x\n",
@@ -55,8 +57,13 @@ def reading_faults():
             runs_ = [(fault, reply, reply), (reply, fault, reply), (reply, reply, fault), (reply, reply, reply)]
             ends = [f"{front} opened Input:{word(one + other)} sound Input:{word(last)}" for one, other, last in runs_]
             for part in ("names", "objects") if line in of_both else ("names",):
+                answers = ends
+                if part == "names" and line.startswith(b"names"):
+                    below = line.split()[1:] or [b"refs"]
+                    calls = listing((main, x, v) if made == loose else (), folders, below[0] + b"/")
+                    answers = in_turn([it for met in ends[:3] for it in each_failing(calls, met, ends[3])] + ends[3:])
                 each(80, "sha1", f"create open run:{word(made)} {part}:fail:#:- open run:{word(line + line)} failed run:{word(line)}",
-                     [f"{front} File closed closed closed", *ends])
+                     [f"{front} File closed closed closed", *answers])
 
 
 def refused_or_failed():

@@ -92,13 +92,13 @@ def grafts():
 
 
 def graft_readings():
-    """Of a graft the trees on the way to its source are read, and those below it, of which the same one may be at several paths, each
-    different one once. The command is refused after what it reads, so that nothing is stored."""
+    """Of grafts the trees on the way to their sources are read, and those below them, of which the same one may be at several paths or below
+    several sources, each different one once. The command is refused after what it reads, so that nothing is stored."""
     made = b"commit refs/heads/main new\n" + b"".join(b"put file 7 1\ns/%s/x/f\n1\n" % it for it in (b"a", b"b")) + b"put file 1 1\nt\n2\n" + ONE
     unsigned = b"author 0 3 1 +0000\n\na@b\ncommitter 1 3 1 +0000\nA\na@b\nmessage 3\none\nend\n"
     for kind in KINDS:
         for sources, count in [((b"s",), 5), ((b"",), 5), ((b"s/a",), 5), ((b"s/a/x",), 5), ((b"s/a/x/f",), 5), ((b"t",), 2), ((b"nope",), 2),
-                               ((b"s", b"s/b"), 9)]:
+                               ((b"s", b"s/b"), 5)]:
             edits = b"".join(graft(b"d/%d" % number, b"main", it) for number, it in enumerate(sources))
             reading(kind, made, b"commit refs/heads/app new\n" + edits + unsigned, count)
 

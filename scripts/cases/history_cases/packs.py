@@ -3,7 +3,8 @@
 from case_words import word
 from git_moves import Moved
 from plain import Plain, Reader
-from streams import KINDS, PACK, PUT_HELLO, answer, branch, each, left, left_with, move, reopen_between, runs, shows_line, tag, told
+from streams import (
+    KINDS, PACK, PUT_HELLO, answer, branch, each, each_failing, left, left_with, listing, move, reopen_between, runs, shows_line, tag, told)
 
 
 def as_git_packs(kind, made, *commands):
@@ -96,7 +97,7 @@ def pack_stops():
     the names' own files go, one after another, and the locks at the end; each name reads as before all the while."""
     main, x = b"refs/heads/main", b"refs/heads/x"
     second = branch(x + b" new", 2, b"parent main\n")
-    fault = b"fault File\n"
+    fault, calls = b"fault File\n", listing((main, x), (b"refs/heads",))
     for kind in KINDS:
         plain, first, both = (Plain(kind) for _ in range(3))
         _, replies = plain.run(PUT_HELLO + second + PACK)
@@ -108,6 +109,7 @@ def pack_stops():
             made = kept != "-"
             states = [ends[0] + left(first, 0, False), ends[0] + left(first, 3, False), *([ends[0] + left(first)] if made else [])]
             states += [ends[1] + left_with(both, first, 3), ends[1] + left_with(both, first, 4), *([ends[1] + left(both)] if made else [])]
+            states += each_failing(calls, ends[2] + left(both), whole) if how == "fail" else []
             states += [ends[2] + left(both), *(ends[2] + left(as_on_the_way(plain, alone)) for alone in ((), (main,)))]
             states.append(ends[2] + left(plain))
             each(120, kind, f"create names:{how}:#:{kept} open run:{word(PUT_HELLO + second + PACK)} left", [closed, *states, whole])
@@ -117,7 +119,7 @@ def packed_delete_stops():
     """The same of the deletion of a packed name, and of one with a file of its own besides: its log goes, then its record, then its file."""
     main, x = b"refs/heads/main", b"refs/heads/x"
     second, deleting = branch(x + b" new", 2, b"parent main\n"), b"delete refs/heads/x any\n"
-    fault = b"fault File\n"
+    fault, calls = b"fault File\n", listing((main, x), (b"refs/heads",))
     for more in (b"", branch(x + b" any", 3)):
         stream = PUT_HELLO + second + PACK + more + deleting
         for kind in KINDS:
@@ -138,6 +140,7 @@ def packed_delete_stops():
                 made = kept != "-"
                 states = [ends[0] + left(first, 0, False), ends[0] + left(first, 3, False), *([ends[0] + left(first)] if made else [])]
                 states += [ends[1] + left_with(both, first, 3), ends[1] + left_with(both, first, 4), *([ends[1] + left(both)] if made else [])]
+                states += each_failing(calls, ends[2] + left(both), whole) if how == "fail" else []
                 states += [ends[2] + left(both), *(ends[2] + left(as_on_the_way(packed, alone)) for alone in ((), (main,)))]
                 states.append(ends[2] + left(packed))
                 if more:
@@ -153,7 +156,7 @@ def packed_rename_stops():
     """The same of a rename of a packed name: the new name is made in a file of its own, and then the old one goes."""
     main, trunk = b"refs/heads/main", b"refs/heads/trunk"
     stream = PUT_HELLO + PACK + b"rename %s %s\n" % (main, trunk)
-    fault = b"fault File\n"
+    fault, calls = b"fault File\n", listing((main,), (b"refs/heads",))
     for kind in KINDS:
         plain, first, packed = (Plain(kind) for _ in range(3))
         _, replies = plain.run(stream)
@@ -167,6 +170,7 @@ def packed_rename_stops():
         for how, kept in [*(("stop", kept) for kept in ["-", 0, 3, 20, 50, 1000]), ("fail", "-")]:
             made = kept != "-"
             states = [ends[0] + left(first, 0, False), ends[0] + left(first, 3, False), *([ends[0] + left(first)] if made else [])]
+            states += each_failing(calls, ends[1] + left(first), whole) if how == "fail" else []
             states += [ends[1] + left(first), ends[1] + left(as_on_the_way(packed, ())), ends[1] + left(packed)]
             states += [ends[2] + left(packed), ends[2] + left(both), ends[2] + left(unlogged), ends[2] + left(plain)]
             each(120, kind, f"create names:{how}:#:{kept} open run:{word(stream)} left", [closed, *states, whole])

@@ -4,8 +4,8 @@ against this.
 A command looks up once each object that its words mean, that is the object that a name holds, or whose id a word begins, since that may
 be a commit, a tag or neither; and each commit, tree and content that its answer is made of. Of these a log, a `commit` and `index` look
 up no commit that has a row. A log with paths looks up besides, each once, the trees that it compares: of a commit, and of its first
-parent, unless that is the commit that comes next. `files` looks up each different tree once. `index` reads the first bytes of each object, which are all of a commit that is short. A graft looks
-up the trees on the way to its source, and each different tree below it once."""
+parent, unless that is the commit that comes next. `files` looks up each different tree once. `index` reads the first bytes of each object, which are all of a commit that is short. A commit's grafts look
+up, each once, the trees on the way to their sources, and the trees below these."""
 
 from plain import Plain, Reader
 
@@ -50,13 +50,13 @@ def of_log(plain, command):
 
 
 def of_grafts(plain, edits):
-    """Of each graft the trees in which the names of its source are looked up, and each different tree below it once."""
+    """The trees in which the names of the grafts' sources are looked up, and those below the sources, each once."""
     found = []
     for _, _, target, source in edits:
         files, front = plain.commits[plain.peeled(of_word(plain, target)[0])]["files"], source + b"/" if source else b""
         below = {it[len(front):]: file for it, file in files.items() if it.startswith(front)}
-        found += [*(of_folders(plain, files, [source]) if source else []), *(set(of_folders(plain, below)) if below else [])]
-    return found
+        found += [*(of_folders(plain, files, [source]) if source else []), *(of_folders(plain, below) if below else [])]
+    return list(dict.fromkeys(found))
 
 
 def once(rows, found):

@@ -5,7 +5,7 @@ from copy import deepcopy
 
 from case_words import word
 from grafts import graft
-from streams import KINDS, PACK, PUT_HELLO, branch, move, shows_line, tag, told
+from streams import KINDS, PACK, PUT_HELLO, branch, each_failing, in_turn, listing, move, shows_line, tag, told
 from plain import Plain
 
 MAIN, X, Y, V, W = b"refs/heads/main", b"refs/heads/x", b"refs/heads/y", b"refs/tags/v", b"refs/tags/w"
@@ -129,7 +129,11 @@ def row(kind, way, part, how, kept, states):
             (f"opened {told('Input', replies)}", way.after)]
     answers = [f"{front} {end} recovered opened {way.goes_on(state)}" for end, state in ends]
     words = f"create open run:{word(way.made)} {part}:{how}:#:{kept} open run:{word(way.command)} {part}:sound recover open {way.words()}"
-    return f"each:{110 if part == 'objects' or way.command == PACK else 90} {kind} {words}", " | ".join(dict.fromkeys(answers))
+    answers = list(dict.fromkeys(answers))
+    if way.command == PACK and (part, how) == ("names", "fail"):
+        calls = listing((MAIN, X, V), (b"refs/heads", b"refs/tags"))
+        answers = in_turn([answers[0], *each_failing(calls, answers[1], answers[-1]), *answers[1:]])
+    return f"each:{110 if part == 'objects' or way.command == PACK else 90} {kind} {words}", " | ".join(answers)
 
 
 def leftovers():

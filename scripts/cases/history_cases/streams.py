@@ -167,6 +167,30 @@ def each(limit, kind, words, answers):
 PACK = b"pack\n"
 
 
+def listing(own, folders, front=b"refs/"):
+    """The calls of a listing of the names that begin so, over names with files of their own in these folders, in order: whether a call lists a
+    folder, else it reads what may be such a name. The folder that they are in is listed, and those below it."""
+    def below(folder):
+        calls = [True]
+        for it in sorted({*own, *folders}):
+            if it.rpartition(b"/")[0] == folder:
+                calls += [False] + (below(it) if it in folders else [])
+        return calls
+    return below(front.rpartition(b"/")[0])
+
+
+def each_failing(calls, fault, whole):
+    """What comes of a listing of which each call fails in turn, once for calls in a row of which the same comes: a folder that can't be listed is
+    a fault, while a name's file is read once more, so that nothing comes of one failed reading."""
+    ends = [fault if lists else whole for lists in calls]
+    return [it for at, it in enumerate(ends) if ends[at - 1:at] != [it]]
+
+
+def in_turn(answers):
+    """These answers, of equal ones in a row the first."""
+    return [it for at, it in enumerate(answers) if answers[at - 1:at] != [it]]
+
+
 def left_with(plain, first, count):
     """The first so many objects of one repository, under the names of another."""
     return left(plain, count).partition(" names")[0] + " names" + left(first).partition(" names")[2]

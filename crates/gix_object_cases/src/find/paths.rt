@@ -3,7 +3,7 @@
 use crate::find::errors;
 use case_words::Page;
 use gix_hash::{ObjectId, oid};
-use gix_object_find::{Find, FindExt, lookup_entry, lookup_entry_by_path};
+use gix_object_find::{Find, FindExt, TreeRefIterExt};
 use gix_object_lookup::lookup::Error;
 use gix_object_tree::TreeRefIter;
 use gix_object_tree::tree::Entry;
@@ -43,14 +43,14 @@ pub fn entry<T: Find>(
     let mut buffer = Vec::new(alloc);
     if is_text {
         show(
-            lookup_entry_by_path(tree, objects, path, &mut buffer, alloc),
+            tree.lookup_entry_by_path(alloc, objects, &mut buffer, path),
             page,
         );
         return;
     }
     match names(alloc, path) {
         Ok(names) => show(
-            lookup_entry(tree, objects, names.as_slice(), &mut buffer, alloc),
+            tree.lookup_entry(alloc, objects, &mut buffer, names.as_slice()),
             page,
         ),
         Err(error) => page.refused(error),

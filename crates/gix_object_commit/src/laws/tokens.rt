@@ -7,7 +7,7 @@ ghost use Rattle.gix_object_commit.specs.ReadingOn.{Reads};
 ghost use Rattle.gix_object_commit.specs.Tokens.{Part, Place, part_of, start};
 ghost use Rattle.gix_object_commit.specs.Whole.{IsCommit, ReadsToMessage, TellsParts, is_message as is_the_message};
 
-pub mod signed;
+pub mod first_header;
 
 use crate::CommitRefIter;
 use crate::ref_iter::Token;

@@ -35,7 +35,7 @@ pub enum Undo {
 }
 
 impl MemoryFiles {
-    // Puts an entry at a path.
+    /// Puts an entry at a path. If no memory is left, nothing changes.
     pub fn put(&mut self, alloc: Global, path: &[u8], entry: Entry) -> Result<(), AllocError>
         ensures ok { OnOk result (Steps (history_of self.old) (history_of self.new)
             (map.insert self.old.nodes path.now (node_of entry))) }
@@ -49,7 +49,8 @@ impl MemoryFiles {
         Ok(())
     }
 
-    // Puts a file at a path unless a folder is there, and returns whether none is.
+    /// Puts a file at a path unless a folder is there, and returns whether none is. If no memory is
+    /// left, nothing changes.
     pub fn put_file(&mut self, alloc: Global, path: &[u8], bytes: &[u8]) -> Result<bool, AllocError>
         ensures free { IfOk result (λ free. free
             ≡ not (is_folder (map.get self.old.nodes path.now))) }
@@ -71,7 +72,7 @@ impl MemoryFiles {
         Ok(true)
     }
 
-    // Removes what is at a path.
+    /// Removes what is at a path. If no memory is left, nothing changes.
     pub fn take(&mut self, path: &[u8]) -> Result<(), AllocError>
         requires { IsSome (map.get self.old.nodes path.now) }
         ensures ok { OnOk result (Steps (history_of self.old) (history_of self.new)
@@ -89,7 +90,8 @@ impl MemoryFiles {
         Ok(())
     }
 
-    // Gives a file another path unless a folder is there, and returns whether none is.
+    /// Gives a file another path unless a folder is there, and returns whether none is. If no memory
+    /// is left, nothing changes.
     pub fn move_file(&mut self, alloc: Global, from: &[u8], to: &[u8]) -> Result<bool, AllocError>
         requires there { IsTrue (is_file_at self.old.nodes from.now) }
         requires apart { IsFalse (same_path from.now to.now) }
@@ -115,7 +117,8 @@ impl MemoryFiles {
         Ok(true)
     }
 
-    // Appends bytes to a file, and returns whether there is one.
+    /// Appends bytes to a file, and returns whether there is one. If no memory is left, nothing
+    /// changes.
     pub fn lengthen(&mut self, alloc: Global, path: &[u8], bytes: &[u8]) -> Result<bool, AllocError>
         ensures found { IsRooted self.old.nodes
             → IfOk result (λ found. found ≡ is_file_at self.old.nodes path.now) }

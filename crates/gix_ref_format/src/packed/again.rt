@@ -21,8 +21,9 @@ use gix_ref_name::FullNameRef;
 use std::alloc::{AllocError, Global};
 
 impl Buffer {
-    /// The buffer of the file at this path, as `open` returns it. If the file still has the bytes
-    /// of `known`, what was read of it before, the records are copied from there.
+    /// The buffer of the file at this path, as `open` returns it, with its errors. If the file
+    /// still has the bytes of `known`, what was read of it before, the records are copied from
+    /// there.
     pub fn open_again<F: Files>(
         alloc: Global,
         files: &F,
@@ -50,8 +51,9 @@ impl Buffer {
         }
     }
 
-    /// The buffer of the file at this path, as `open` returns it. If the file has the text of this
-    /// one's records but for those of the name, as after its deletion, these are taken over.
+    /// The buffer of the file at this path, as `open` returns it, with its errors. If the file has
+    /// the text of this one's records but for those of the name, as after its deletion, these are
+    /// taken over.
     pub fn open_without<F: Files>(
         self,
         alloc: Global,

@@ -15,6 +15,7 @@ mod listing;
 pub mod log;
 mod logged;
 pub mod loose;
+mod own;
 mod packed;
 pub mod peel;
 mod place;

@@ -1,28 +1,29 @@
 //! The packed records of references that are removed, and of those that are packed.
 
-ghost use Rattle.std.specs.Prelude.{◌≡◌, ◌≢◌, ◌≤◌, ◌⊎◌, ◌++◌, [], is_some, map, option_map, IfErr, IfOk, IfSome, IsTrue, None, OnOk, Some};
+ghost use Rattle.std.specs.Prelude.{◌≡◌, ◌≢◌, ◌++◌, [], is_some, map, option_map, IfErr, IfOk, IfSome, IsTrue, None, OnOk, Some};
 ghost use Rattle.std.specs.List.{list_any};
 ghost use Rattle.std.specs.Option.{option_to_list};
 ghost use Rattle.gix_hash.specs.Id.{id_of};
-ghost use Rattle.gix_ref_file.specs.Calls.{HasFault, Passes};
+ghost use Rattle.gix_ref_file.specs.Calls.{Passes};
 ghost use Rattle.gix_ref_file.specs.Changes.{is_file_at};
 ghost use Rattle.gix_ref_format.specs.Lookup.{packed_hit};
 ghost use Rattle.gix_ref_format.specs.PackedBuffer.{KeepsFile};
 ghost use Rattle.gix_ref_format.specs.PackedKept.{kept};
 ghost use Rattle.gix_ref_store.specs.Finds.{records_in};
 ghost use Rattle.gix_ref_store.specs.Places.{packed_place};
-ghost use Rattle.gix_ref_store.specs.RefStates.{packed_text_in};
 ghost use Rattle.gix_ref_store.specs.Stores.{base_of};
 ghost use Rattle.gix_ref_name.specs.Targets.{target_view};
 ghost use Rattle.gix_ref_way.specs.Ways.{SameFolders, file_at};
-ghost use Rattle.gix_ref_lock.specs.Locks.{lock_of, HasLockPlace, OthersStay};
-ghost use Rattle.gix_ref_lock.specs.PackedEdits.{IsReadAt, lock_path_of, place_of};
+ghost use Rattle.gix_ref_lock.specs.Calls.{EndsQuietly, KeepsFolders};
+ghost use Rattle.gix_ref_lock.specs.Locks.{lock_of, OthersStay};
+ghost use Rattle.gix_ref_lock.specs.PackedEdits.{lock_path_of, place_of};
 ghost use Rattle.gix_ref_lock.specs.RecordEdits as record_edits;
-ghost use Rattle.gix_ref_transaction.specs.Modes.{objects_in};
+ghost use Rattle.gix_ref_transaction.specs.Calls.{HoldsLock, IsUnpacked, KeepsStore, LeavesUnpacked, StorePasses};
+ghost use Rattle.gix_ref_transaction.specs.Modes.{objects_in, packs_in};
 ghost use Rattle.gix_ref_transaction.specs.Repacking as spec;
-ghost use Rattle.gix_ref_transaction.specs.Repacking.{AddsSaid, AreRepacked, HoldsRecords, SaysOfRecord, SayOfRecords, TellsPeeled, UpdatesRecord, removal_line};
-ghost use Rattle.gix_ref_transaction.specs.Resolving.{ChangeFault, IfUnresolved, PackFault, ResolveFault, SomeChangeFault, TargetFault};
-ghost use Rattle.gix_ref_transaction.specs.RecordsRollback.{IsEarly, IsRolledBack, WantsMemory};
+ghost use Rattle.gix_ref_transaction.specs.Repacking.{AddsSaid, HoldsRecords, Repacks, SaysOfRecord, SayOfRecords, TellsPeeled, UpdatesRecord, removal_line};
+ghost use Rattle.gix_ref_transaction.specs.Resolving.{ChangeFault, IfUnresolved, PackCause, ResolveFault, SomeChangeFault, TargetFault};
+ghost use Rattle.gix_ref_transaction.specs.RecordsRollback.{IsEarly, WantsMemory};
 
 use crate::{PackedRefs, RepackError};
 use gix_hash::{Kind, ObjectId};
@@ -56,41 +57,24 @@ pub fn repack<F: Files, O: FindInto>(
     edits: &[RefEdit],
     packed_refs: &PackedRefs<'_, O>,
 ) -> Result<Option<Transaction>, RepackError>
-    ensures honest { F.is_honest store.old.files → F.is_honest store.new.files }
-    ensures base { base_of store.new ≡ base_of store.old }
-    ensures options { store.new.options ≡ store.old.options }
-    ensures later { F.failures store.old.files ≤ F.failures store.new.files }
-    ensures unfailed { IfOk result (λ _. F.failures store.new.files ≡ F.failures store.old.files) }
-    ensures memory { IfErr result (λ error. WantsMemory error
-        → F.failures store.new.files ≡ F.failures store.old.files) }
-    ensures held { F.is_honest store.old.files → IfOk result (λ held. IfSome held (λ t.
-        IsTrue (is_file_at (F.history store.new.files).tree (lock_path_of t)))) }
-    ensures moments { Passes F.is_honest F.history store.old.files store.new.files
+    ensures keeps { KeepsStore F.Files (EndsQuietly WantsMemory result) store.old store.new }
+    ensures moments { StorePasses F.Files store.old store.new
         (OthersStay (lock_of (packed_place (base_of store.old)))) }
-    ensures folders { Passes F.is_honest F.history store.old.files store.new.files SameFolders }
+    ensures folders { StorePasses F.Files store.old store.new SameFolders }
     ensures idle { IfOk result (λ held. held ≡ None → store.new ≡ store.old) }
+    ensures early { IfErr result (λ error. IsEarly error → store.new ≡ store.old) }
     ensures at { IfOk result (λ held. IfSome held (λ t.
         place_of t ≡ packed_place (base_of store.old))) }
-    ensures here { F.is_honest store.old.files → IfOk result (λ held. IfSome held (λ t.
-        lock_path_of t ≡ lock_of (packed_place (base_of store.old)))) }
-    ensures early { IfErr result (λ error. IsEarly error → store.new ≡ store.old) }
-    ensures rolled_back { F.is_honest store.old.files → IfErr result
-        (IsRolledBack (lock_of (packed_place (base_of store.old))) (F.failures store.old.files)
-        (F.failures store.new.files) (F.history store.old.files).tree
-        (F.history store.new.files).tree) }
-    ensures repacked { F.is_honest store.old.files → IfSome (objects_in packed_refs.now) O.is_honest
-        → let old = (F.history store.old.files).tree in let b = base_of store.old in
-        KeepsFile b.kind (packed_text_in b old) (option_map (λ buffer. kept buffer.now) packed.entry)
-        → IfOk result (AreRepacked b (option_map O.table (objects_in packed_refs.now)) old
-        (F.history store.new.files).tree edits.now) }
+    ensures held { F.is_honest store.old.files → IfOk result (λ held. IfSome held (HoldsLock
+        (packed_place (base_of store.old)) (F.history store.new.files).tree)) }
+    ensures repacked { IfOk result (Repacks F.Files O.Lookup packed_refs.now
+        store.old packed.entry store.new edits.now) }
     ensures resolves { F.is_honest store.old.files → IfSome (objects_in packed_refs.now) O.is_honest
-        → let why = PackFault F.reading_may_fail O.may_fail O.table (objects_in packed_refs.now) in
-        IfErr result (IfUnresolved (SomeChangeFault why edits.now)) }
+        → IfErr result (IfUnresolved (SomeChangeFault
+        (PackCause F.Files O.Lookup (objects_in packed_refs.now)) edits.now)) }
     // An error that isn't early comes from a fault of the files, or memory ran out.
-    ensures failed { F.is_honest store.old.files → let tree = (F.history store.old.files).tree in
-        let b = base_of store.old in let place = packed_place b in
-        HasLockPlace place tree → IsReadAt b.kind place tree → IfErr result (λ error. IsEarly error
-        ⊎ (WantsMemory error ⊎ HasFault F.failures F.reading_may_fail store.old.files store.new.files)) }
+    ensures failed { F.is_honest store.old.files
+        → IfErr result (LeavesUnpacked F.Files store.old store.new) }
 {
     let lines = record_edits(alloc, &*store, edits, packed_refs)?;
     if !change_records(packed, &lines) {
@@ -111,30 +95,21 @@ fn written<F: Files>(
     packed: Option<&Buffer>,
     lines: Vec<RecordEdit>,
 ) -> Result<Transaction, RepackError>
-    ensures honest { F.is_honest files.old → F.is_honest files.new }
-    ensures later { F.failures files.old ≤ F.failures files.new }
-    ensures unfailed { IfOk result (λ _. F.failures files.new ≡ F.failures files.old) }
-    ensures memory { IfErr result (λ error. WantsMemory error
-        → F.failures files.new ≡ F.failures files.old) }
+    ensures keeps { KeepsFolders F.Files (EndsQuietly WantsMemory result) files.old files.new }
     ensures at { IfOk result (λ t. place_of t ≡ place.now) }
     ensures locked { F.is_honest files.old → IfOk result (λ t.
         IsTrue (is_file_at (F.history files.new).tree (lock_path_of t))) }
     ensures moments { Passes F.is_honest F.history files.old files.new
         (OthersStay (lock_of place.now)) }
-    ensures folders { Passes F.is_honest F.history files.old files.new SameFolders }
-    ensures resolved { IfErr result (IfUnresolved (λ _. ⊥)) }
     ensures begun { IfErr result (λ error. ¬ IsEarly error) }
-    ensures rolled_back { F.is_honest files.old → IfErr result (IsRolledBack (lock_of place.now)
-        (F.failures files.old) (F.failures files.new) (F.history files.old).tree
-        (F.history files.new).tree) }
     ensures held { F.is_honest files.old → lines.items ≢ []
         → KeepsFile kind (file_at (F.history files.old).tree place.now)
         (option_map (λ buffer. kept buffer.now) packed.entry)
         → IfOk result (HoldsRecords kind place.now (F.history files.old).tree
         (F.history files.new).tree (map record_edits.line_in lines.items)) }
-    ensures failed { F.is_honest files.old → let tree = (F.history files.old).tree in
-        HasLockPlace place.now tree → IsReadAt kind place.now tree → IfErr result (λ error.
-        WantsMemory error ⊎ HasFault F.failures F.reading_may_fail files.old files.new) }
+    ensures failed { F.is_honest files.old → IfErr result (IsUnpacked kind place.now
+        (F.failures files.old) (F.failures files.new) F.reading_may_fail
+        (F.history files.old).tree (F.history files.new).tree) }
 {
     let begun = Transaction::new(alloc, files, place, kind, packed)?;
     let prepared = begun.prepare(alloc, files, lines)?;
@@ -178,10 +153,10 @@ fn record_edits<F: Files, O: FindInto>(
 ) -> Result<Vec<RecordEdit>, RepackError>
     ensures early { IfErr result IsEarly }
     ensures resolves { F.is_honest store.now.files → IfSome (objects_in packed_refs.now) O.is_honest
-        → let why = PackFault F.reading_may_fail O.may_fail O.table (objects_in packed_refs.now) in
+        → let why = PackCause F.Files O.Lookup (objects_in packed_refs.now) in
         IfErr result (IfUnresolved (SomeChangeFault why edits.now)) }
     ensures said { F.is_honest store.now.files → IfSome (objects_in packed_refs.now) O.is_honest
-        → let packs = option_map O.table (objects_in packed_refs.now) in
+        → let packs = packs_in O.Lookup packed_refs.now in
         IfOk result (λ lines. SayOfRecords packs edits.now (map record_edits.line_in lines.items)) }
 {
     let mut lines = Vec::new(alloc);
@@ -203,10 +178,10 @@ fn add_record_edit<F: Files, O: FindInto>(
 ) -> Result<(), RepackError>
     ensures early { IfErr result IsEarly }
     ensures resolves { F.is_honest store.now.files → IfSome (objects_in packed_refs.now) O.is_honest
-        → let why = PackFault F.reading_may_fail O.may_fail O.table (objects_in packed_refs.now) in
+        → let why = PackCause F.Files O.Lookup (objects_in packed_refs.now) in
         IfErr result (IfUnresolved (ChangeFault why edit.now.change)) }
     ensures said { F.is_honest store.now.files → IfSome (objects_in packed_refs.now) O.is_honest
-        → let packs = option_map O.table (objects_in packed_refs.now) in
+        → let packs = packs_in O.Lookup packed_refs.now in
         OnOk result (AddsSaid packs edit.now (map record_edits.line_in lines.old.items)
         (map record_edits.line_in lines.new.items)) }
 {
@@ -238,10 +213,10 @@ fn record_edit<F: Files, O: FindInto>(
 ) -> Result<Option<RecordEdit>, RepackError>
     ensures early { IfErr result IsEarly }
     ensures resolves { F.is_honest store.now.files → IfSome (objects_in packed_refs.now) O.is_honest
-        → let why = PackFault F.reading_may_fail O.may_fail O.table (objects_in packed_refs.now) in
+        → let why = PackCause F.Files O.Lookup (objects_in packed_refs.now) in
         IfErr result (IfUnresolved (ChangeFault why edit.now.change)) }
     ensures said { F.is_honest store.now.files → IfSome (objects_in packed_refs.now) O.is_honest
-        → let packs = option_map O.table (objects_in packed_refs.now) in
+        → let packs = packs_in O.Lookup packed_refs.now in
         IfOk result (λ own. SaysOfRecord packs edit.now (option_map record_edits.line_in own)) }
 {
     let Some(key) = key_of(edit.name.to_path()) else {
@@ -280,10 +255,10 @@ fn update_of<F: Files, O: FindInto>(
 ) -> Result<Option<RecordEdit>, RepackError>
     ensures early { IfErr result IsEarly }
     ensures resolves { F.is_honest store.now.files → IfSome (objects_in packed_refs.now) O.is_honest
-        → let why = PackFault F.reading_may_fail O.may_fail O.table (objects_in packed_refs.now) in
+        → let why = PackCause F.Files O.Lookup (objects_in packed_refs.now) in
         IfErr result (IfUnresolved (TargetFault why (target_view new.now))) }
     ensures said { F.is_honest store.now.files → IfSome (objects_in packed_refs.now) O.is_honest
-        → let packs = option_map O.table (objects_in packed_refs.now) in
+        → let packs = packs_in O.Lookup packed_refs.now in
         IfOk result (λ own. UpdatesRecord packs log.now.mode (target_view new.now) key.now
         (option_map record_edits.line_in own)) }
 {

@@ -3,11 +3,12 @@
 ghost use Rattle.std.specs.Prelude.{◌≡◌, List, [], ◌∷◌, ◌++◌, IfOk, IfErr, IfSome, IfNone, IsNone, IsOk, OnOk, true};
 ghost use Rattle.gix_hash.specs.Id.{Id};
 ghost use Rattle.gix_hash.specs.declared.object_id.ObjectId.{ObjectId};
-ghost use Rattle.gix_traverse_graph.specs.Commits.{Commits, asked_parents};
+ghost use Rattle.gix_traverse_graph.specs.Commits.{asked_parents};
 ghost use Rattle.gix_traverse_commit_known.specs.Known.{turns_of};
 ghost use Rattle.gix_traverse_commit_known.specs.Meeting.{IsFresh};
 ghost use Rattle.gix_traverse_commit_known.specs.Asked.{Asked, IsKnown, IsSure};
-ghost use Rattle.gix_traverse_commit.specs.Awaited.{LooksUp, times_of};
+ghost use Rattle.gix_traverse_commit_known.specs.Fetching.{LooksUpAtMost, ReadsSame};
+ghost use Rattle.gix_traverse_commit.specs.Awaited.{times_of};
 ghost use Rattle.gix_traverse_commit.specs.Simply.{HasAhead, IsGathered, IsMade, IsPaintedFor, IsUnderWay, IsAtTurn, IsOver, KeepsStore, Stands, GainsNone, content_of};
 ghost use Rattle.gix_traverse_commit.specs.Giving.{Begins, Comes, FailsToCome, FailsUnbegun, HasEnded, InRows, IsInfo, IsUnmet, KeepsOn, LetsMetWait, LinesUp, MeetsAll, ReadsTips, Takes};
 ghost use Rattle.gix_traverse_commit_known.specs.Faults.{TipFault};
@@ -50,7 +51,7 @@ impl<F: FindInto + Drop, P: Accept + Drop> Simple<F, P> {
     // Reads the times of the tips, except those that the predicate refused, if the order goes by
     // time.
     pub(crate) fn read_tips(&mut self, sorting: Sorting) -> Result<(), Error>
-        ensures reads { LooksUp (times_of (timing_of AllParents sorting) self.old.tips.items)
+        ensures reads { LooksUpAtMost (times_of (timing_of AllParents sorting) self.old.tips.items)
             self.old.source self.new.source }
         ensures stays { self.new ≡ record self.old { source = self.new.source } }
         ensures times { OnOk result (ReadsTips (F.is_honest self.old.source.objects)
@@ -96,7 +97,7 @@ impl<F: FindInto + Drop, P: Accept + Drop> Simple<F, P> {
 
     // Queues the tips of a walk whose hidden commits are painted.
     fn line_up(&mut self) -> Result<(), AllocError>
-        ensures reads { LooksUp (times_of (timing_of self.old.parents self.old.sorting)
+        ensures reads { LooksUpAtMost (times_of (timing_of self.old.parents self.old.sorting)
             self.old.tips.items) self.old.source self.new.source }
         ensures stays { self.new ≡ record self.old {
           source = self.new.source;
@@ -200,7 +201,7 @@ impl<F: FindInto + Drop, P: Accept + Drop> Simple<F, P> {
 
     // Queues the parents of a commit.
     fn meet_all(&mut self, parents: &[ObjectId]) -> Result<(), AllocError>
-        ensures reads { LooksUp (times_of (timing_of self.old.parents self.old.sorting)
+        ensures reads { LooksUpAtMost (times_of (timing_of self.old.parents self.old.sorting)
             parents.now) self.old.source self.new.source }
         ensures stays { self.new ≡ record self.old {
           source = self.new.source;
@@ -235,8 +236,7 @@ impl<F: FindInto + Drop, P: Accept + Drop> Simple<F, P> {
 
     // What the commit is, with its parents queued.
     pub(crate) fn enter(&mut self, id: ObjectId) -> Result<Info, Error>
-        ensures objects { self.new.source.objects ≡ self.old.source.objects }
-        ensures rows { self.new.source.rows ≡ self.old.source.rows }
+        ensures same { ReadsSame self.old.source self.new.source }
         ensures told { OverTold F.is_honest F.table self.old.source
             (λ g. IfOk result (IsInfo g (rows_of self.old.source.rows) self.old.parents
             self.old.sorting)) }

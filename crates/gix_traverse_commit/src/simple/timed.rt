@@ -8,7 +8,8 @@ ghost use Rattle.gix_traverse_commit_known.specs.Meeting.{CountsAll, CountsOne, 
 ghost use Rattle.gix_traverse_commit_known.specs.Nodes.{is_met, is_hidden};
 ghost use Rattle.gix_traverse_graph.specs.Numbered.{same_id};
 ghost use Rattle.gix_traverse_graph.specs.Order.{IsListOf};
-ghost use Rattle.gix_traverse_commit.specs.Awaited.{AsksTimes, AwaitsSome, LooksUp, MeetsToo};
+ghost use Rattle.gix_traverse_commit_known.specs.Fetching.{LooksUpAtMost};
+ghost use Rattle.gix_traverse_commit.specs.Awaited.{AsksTimes, AwaitsSome, MeetsToo};
 ghost use Rattle.gix_traverse_commit.specs.Giving.{IsUnmet};
 ghost use Rattle.gix_traverse_commit_known.specs.Faults.{TipFault};
 ghost use Rattle.gix_traverse_commit_known.specs.Timely.{CountsAs, LetsWait};
@@ -29,7 +30,7 @@ use std::alloc::AllocError;
 
 // The committer's seconds, and 0 if they aren't read, unless no memory is left.
 fn seconds_or_zero<F: FindInto>(source: &mut Source<F>, id: &ObjectId) -> Result<i64, AllocError>
-    ensures reads { LooksUp 1 source.old source.new }
+    ensures reads { LooksUpAtMost 1 source.old source.new }
     ensures one { CountsOne (rows_of source.old.rows) id.now source.old.lookups source.new.lookups }
     ensures counted_as { OverTold F.is_honest F.table source.old
         (λ g. IfOk result (CountsAs (F.may_fail source.old.objects) g id.now)) }
@@ -41,13 +42,14 @@ fn seconds_or_zero<F: FindInto>(source: &mut Source<F>, id: &ObjectId) -> Result
     }
 }
 
-/// Reads the times of these tips, except those that the predicate refused.
+/// Reads the times of these tips, except those that the predicate refused. Fails with the fault of
+/// the first that can't be read.
 pub fn read_times<F: FindInto>(
     source: &mut Source<F>,
     known: &Known,
     tips: &[ObjectId],
 ) -> Result<(), Error>
-    ensures reads { LooksUp (length tips.now) source.old source.new }
+    ensures reads { LooksUpAtMost (length tips.now) source.old source.new }
     ensures each { OnOk result (CountsAll (rows_of source.old.rows) (unmet known.now.nodes tips.now)
         source.old.lookups source.new.lookups) }
     ensures told { F.is_honest source.old.objects → OnOk result ((x : ObjectId)
@@ -75,7 +77,7 @@ fn wait<F: FindInto>(
     id: ObjectId,
     marks: Marks,
 ) -> Result<(), AllocError>
-    ensures reads { LooksUp 1 source.old source.new }
+    ensures reads { LooksUpAtMost 1 source.old source.new }
     ensures one { CountsOne (rows_of source.old.rows) id source.old.lookups source.new.lookups }
     ensures met { OnOk result (MeetsToo known.old.nodes id known.new.nodes) }
     ensures some { is_met known.old.nodes id ≡ false → is_hidden known.old.nodes id ≡ marks.hidden
@@ -100,7 +102,7 @@ fn await_tip<F: FindInto>(
     since: Option<i64>,
     id: ObjectId,
 ) -> Result<(), AllocError>
-    ensures reads { LooksUp 1 source.old source.new }
+    ensures reads { LooksUpAtMost 1 source.old source.new }
     ensures met { OnOk result (MeetsToo known.old.nodes id known.new.nodes) }
     ensures some { OnOk result (AwaitsSome known.old (id ∷ []) known.new) }
     ensures awaits { OnOk result (OverTold F.is_honest F.table source.old
@@ -128,7 +130,7 @@ pub fn await_tips<F: FindInto>(
     since: Option<i64>,
     tips: &[ObjectId],
 ) -> Result<(), AllocError>
-    ensures reads { LooksUp (length tips.now) source.old source.new }
+    ensures reads { LooksUpAtMost (length tips.now) source.old source.new }
     ensures met { OnOk result (MarksAll known.old.nodes tips.now known.new.nodes) }
     ensures some { OnOk result (AwaitsSome known.old tips.now known.new) }
     ensures awaits { OnOk result (OverTold F.is_honest F.table source.old
@@ -152,7 +154,7 @@ fn await_parent<F: FindInto, P: Accept>(
     since: Option<i64>,
     id: ObjectId,
 ) -> Result<(), AllocError>
-    ensures reads { LooksUp 1 source.old source.new }
+    ensures reads { LooksUpAtMost 1 source.old source.new }
     ensures met { OnOk result ((q : ObjectId) → is_met known.new.nodes q
         ≡ (if is_hidden known.old.nodes id
         then is_met known.old.nodes q else
@@ -190,7 +192,7 @@ pub fn await_parents<F: FindInto, P: Accept>(
     since: Option<i64>,
     parents: &[ObjectId],
 ) -> Result<(), AllocError>
-    ensures reads { LooksUp (length parents.now) source.old source.new }
+    ensures reads { LooksUpAtMost (length parents.now) source.old source.new }
     ensures met { OnOk result (MarksMet known.old.nodes parents.now known.new.nodes) }
     ensures some { OnOk result (AwaitsSome known.old parents.now known.new) }
     ensures awaits { OnOk result (OverTold F.is_honest F.table source.old

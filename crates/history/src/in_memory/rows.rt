@@ -42,7 +42,8 @@ show main path 1
 a
 ";
 
-/// Runs the worked stream of a commit without files; its files and the commit are shown.
+/// Runs the worked stream of a commit without files; its files and the commit are shown. Fails as
+/// `answer_stream` does.
 pub fn first_commit(alloc: Global) -> Result<Answer, AnswerError>
     ensures answers { IfOk result (λ answer.
         Answers Sha1 first_stream (⟦<Collected as Sink>⟧.contents answer.written) answer.end) }
@@ -54,7 +55,7 @@ pub fn first_commit(alloc: Global) -> Result<Answer, AnswerError>
 }
 
 /// Runs the worked stream of a commit of the file `a` with the content `hello`; its files and the
-/// content are shown.
+/// content are shown. Fails as `answer_stream` does.
 pub fn hello_file(alloc: Global) -> Result<Answer, AnswerError>
     ensures answers { IfOk result (λ answer.
         Answers Sha1 hello_stream (⟦<Collected as Sink>⟧.contents answer.written) answer.end) }

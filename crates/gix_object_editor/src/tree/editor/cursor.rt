@@ -84,6 +84,7 @@ impl<'c, S: FindInto> Cursor<'c, S> {
     }
 
     /// Removes what is at or below the path, which begins at the cursor, as `Editor::remove` does.
+    /// Refused as that is.
     pub fn remove(&mut self, alloc: Global, path: &[&[u8]]) -> Result<(), Error>
         ensures removed { (base : Path) → StandsAt self.old base
             → OnOk result (Removes S.is_honest S.table (base ++ names_of path.now)
@@ -102,6 +103,7 @@ impl<'c, S: FindInto> Cursor<'c, S> {
     }
 
     /// Removes the file at the path, which begins at the cursor, as `Editor::remove_leaf` does.
+    /// Refused as that is.
     pub fn remove_leaf(&mut self, alloc: Global, path: &[&[u8]]) -> Result<(), Error>
         ensures removed { (base : Path) → StandsAt self.old base
             → OnOk result (RemovesLeaf S.is_honest S.table (base ++ names_of path.now)
@@ -123,7 +125,7 @@ impl<'c, S: FindInto> Cursor<'c, S> {
     }
 
     /// Puts an entry of this kind and id at the path, which begins at the cursor, as
-    /// `Editor::upsert` does.
+    /// `Editor::upsert` does. Refused as that is.
     pub fn upsert(
         &mut self,
         alloc: Global,
@@ -148,7 +150,7 @@ impl<'c, S: FindInto> Cursor<'c, S> {
     }
 
     /// Grafts what is stored under this id at the path, which begins at the cursor, as
-    /// `Editor::graft` does.
+    /// `Editor::graft` does. Refused as that is.
     pub fn graft(
         &mut self,
         alloc: Global,
@@ -179,7 +181,7 @@ impl<'c, S: FindInto> Cursor<'c, S> {
     }
 
     /// Hands out the trees from the cursor's folder down as `Editor::write` does from the root,
-    /// that folder's last, and returns its id.
+    /// that folder's last, and returns its id. Fails as that does.
     pub fn write<E, F: FnMut(&Tree) -> Result<ObjectId, E>>(
         &self,
         alloc: Global,

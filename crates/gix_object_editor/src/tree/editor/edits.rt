@@ -54,7 +54,7 @@ impl<S: FindInto> Editor<S> {
             path,
         )?;
         if depth + 1 == path.len() {
-            cut(&mut self.nodes, at, path[depth]);
+            cut(self.nodes.as_mut_slice(), at, path[depth]);
         }
         Ok(())
     }
@@ -98,7 +98,7 @@ impl<S: FindInto> Editor<S> {
                 at,
                 path[depth],
             )?;
-            cut(&mut self.nodes, at, path[depth]);
+            cut(self.nodes.as_mut_slice(), at, path[depth]);
         }
         Ok(())
     }
@@ -137,7 +137,7 @@ impl<S: FindInto> Editor<S> {
             path,
         )?;
         if id.is_null() {
-            cut(&mut self.nodes, at, path[depth]);
+            cut(self.nodes.as_mut_slice(), at, path[depth]);
             return Ok(());
         }
         let slot = Slot {
@@ -149,7 +149,7 @@ impl<S: FindInto> Editor<S> {
             return Ok(());
         }
         lay_entry(&mut self.nodes, alloc, at, &path[depth..], slot, true)?;
-        mark_if(&mut self.nodes, at, true);
+        mark_if(self.nodes.as_mut_slice(), at, true);
         Ok(())
     }
 
@@ -196,7 +196,7 @@ impl<S: FindInto> Editor<S> {
                 let stands = slot_at(self.nodes.as_slice(), at, path[depth]).is_some();
                 let left = &path[depth..];
                 let made = make_folders(&mut self.nodes, alloc, at, left, hash, stands)?;
-                mark_if(&mut self.nodes, at, stands);
+                mark_if(self.nodes.as_mut_slice(), at, stands);
                 Ok(made)
             }
         }

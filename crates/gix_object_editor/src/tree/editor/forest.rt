@@ -38,7 +38,7 @@ pub(crate) fn attach(
         oid: slot.oid,
         child: Some(child),
     };
-    match put_at(nodes, alloc, at, name, linked) {
+    match put_at(nodes.as_mut_slice(), alloc, at, name, linked) {
         Ok(()) => Ok(child),
         Err(error) => {
             nodes.pop();

@@ -37,7 +37,7 @@ pub(crate) fn lay_entry(
     ensures same { OnErr result (IsSame nodes.old.items nodes.new.items) }
 {
     if names.len() == 1 {
-        put_at(nodes, alloc, at, names[0], slot)?;
+        put_at(nodes.as_mut_slice(), alloc, at, names[0], slot)?;
         return Ok(at);
     }
     let before = nodes.len();
@@ -80,7 +80,7 @@ pub(crate) fn make_folders(
         child: None,
     };
     let end = lay_entry(nodes, alloc, at, path.as_slice(), slot, changed)?;
-    take_at(nodes, end, no_name);
+    take_at(nodes.as_mut_slice(), end, no_name);
     Ok(end)
 }
 
@@ -105,7 +105,13 @@ fn hang(
     let first = NodeId(nodes.len());
     push_ladder(nodes, alloc, at, &names[1..], slot, changed)?;
     let end = NodeId(nodes.len() - 1);
-    put_at(nodes, alloc, at, names[0], folder(slot.oid, first))?;
+    put_at(
+        nodes.as_mut_slice(),
+        alloc,
+        at,
+        names[0],
+        folder(slot.oid, first),
+    )?;
     Ok(end)
 }
 

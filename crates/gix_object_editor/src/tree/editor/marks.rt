@@ -10,12 +10,12 @@ use gix_object_nodes::node::{Node, NodeId, Slot, slot_at, take_at};
 
 /// Removes the entry of a name from an opened tree, which is marked as changed, if more than a made
 /// folder is there.
-pub(crate) fn cut(nodes: &mut Vec<Node>, at: NodeId, name: &[u8])
-    requires tree { HasTree nodes.old.items at.0 }
-    requires marked { IsMarkedOf nodes.old.items }
-    ensures { IsCut nodes.old.items at.0 name.now nodes.new.items }
+pub(crate) fn cut(nodes: &mut [Node], at: NodeId, name: &[u8])
+    requires tree { HasTree nodes.old at.0 }
+    requires marked { IsMarkedOf nodes.old }
+    ensures { IsCut nodes.old at.0 name.now nodes.new }
 {
-    let more = is_more(nodes.as_slice(), slot_at(nodes.as_slice(), at, name));
+    let more = is_more(nodes, slot_at(nodes, at, name));
     take_at(nodes, at, name);
     mark_if(nodes, at, more);
 }
@@ -37,11 +37,11 @@ fn is_more(nodes: &[Node], slot: Option<Slot>) -> bool
 
 /// Marks an opened tree as changed, and those that it lies in, if `changed`; otherwise nothing
 /// changes.
-pub(crate) fn mark_if(nodes: &mut Vec<Node>, at: NodeId, changed: bool)
-    requires tree { HasTree nodes.old.items at.0 }
-    requires marked { IsTrue changed → IsMarkedBut at.0 nodes.old.items }
-    ensures marked { IsTrue changed → IsMarkedUp nodes.old.items at.0 nodes.new.items }
-    ensures same { IsFalse changed → nodes.new.items ≡ nodes.old.items }
+pub(crate) fn mark_if(nodes: &mut [Node], at: NodeId, changed: bool)
+    requires tree { HasTree nodes.old at.0 }
+    requires marked { IsTrue changed → IsMarkedBut at.0 nodes.old }
+    ensures marked { IsTrue changed → IsMarkedUp nodes.old at.0 nodes.new }
+    ensures same { IsFalse changed → nodes.new ≡ nodes.old }
 {
     if !changed {
         return;
@@ -49,20 +49,20 @@ pub(crate) fn mark_if(nodes: &mut Vec<Node>, at: NodeId, changed: bool)
     let mut above = at;
     'trees: while above.0 > 0 {
         mark_at(nodes, above);
-        above = parent_at(nodes.as_slice(), above);
+        above = parent_at(nodes, above);
     }
     mark_at(nodes, above);
 }
 
 // Marks one opened tree as changed.
-fn mark_at(nodes: &mut Vec<Node>, at: NodeId)
-    requires { at.0 < length nodes.old.items }
-    ensures len { length nodes.new.items ≡ length nodes.old.items }
-    ensures slots { HasSlotsOf nodes.old.items nodes.new.items }
-    ensures here { marks_of nodes.new.items at.0
-        ≡ mark_below (marks_of nodes.old.items at.0).parent true }
+fn mark_at(nodes: &mut [Node], at: NodeId)
+    requires { at.0 < length nodes.old }
+    ensures len { length nodes.new ≡ length nodes.old }
+    ensures slots { HasSlotsOf nodes.old nodes.new }
+    ensures here { marks_of nodes.new at.0
+        ≡ mark_below (marks_of nodes.old at.0).parent true }
     ensures others { (i : ℕ) → i ≢ at.0
-        → marks_of nodes.new.items i ≡ marks_of nodes.old.items i }
+        → marks_of nodes.new i ≡ marks_of nodes.old i }
 {
     let node = &mut nodes[at.0];
     node.place(node.parent, true);

@@ -1,5 +1,5 @@
-use Rattle.std.proofs.Common.{◌≡◌, ◌⊎◌, inl, inr, ⊎_elim, sym, subst, Option}
-use Rattle.std.specs.Prelude.{Result, Ok, Err, OnOk, IfErr}
+use Rattle.std.proofs.Common.{◌≡◌, ◌⊎◌, inl, inr, sym, subst, Option}
+use Rattle.std.specs.Prelude.{Result, Ok, Err, IfErr}
 use Rattle.gix_ref_file.specs.History.{Adds, HasRisen}
 use Rattle.gix_ref_file.proofs.Histories.{adds_weaker}
 use Rattle.gix_ref_lock.specs.PackedErrors.{IsUncommitted}
@@ -18,10 +18,6 @@ returns-in-Some-clause-moments g c = λ honest.
     subst (λ (p : Option Transaction). Adds (KeepsPacked p old.tree) old new) (sym c.in-Some.is)
     (adds_weaker old new (c.rollback.ensures.moments honest) (dropping c.in-Some.packed old.tree))
 
-on_ok : {P : Type 0} (r : Result (Unit {0}) CommitError) → OnOk r P → r ≡ Ok tt → P
-on_ok (Ok u) p is = p
-on_ok (Err e) p is = absurd (cc is)
-
 -- an error of the files was counted
 counted : (P : Type 0) (r : Result (Unit {0}) CommitError) → r ≡ Err Commit → IfErr r (λ error. P ⊎ IsUncommitted error) → P
 counted P (Ok u) is told = cc
@@ -29,8 +25,13 @@ counted P (Err Commit) is (inl p) = p
 counted P (Err Commit) is (inr short) = absurd short
 counted P (Err Memory) is told = cc
 
-pub returns-in-Some-clause-unfailed : goal.returns-in-Some-clause-unfailed
-returns-in-Some-clause-unfailed g c = λ none. ⊎_elim (on_ok c.rollback.result c.rollback.ensures.unfailed) c.rollback.ensures.memory (c.dropped.ensures.others none)
+pub returns-in-Some-clause-keeps : goal.returns-in-Some-clause-keeps
+returns-in-Some-clause-keeps g c = record {
+  honest = c.rollback.ensures.keeps.honest;
+  later = c.rollback.ensures.keeps.later;
+  quiet = λ none. c.rollback.ensures.keeps.quiet (c.dropped.ensures.others none);
+  folders = c.rollback.ensures.keeps.folders;
+}
 
 pub returns-in-Some-clause-failed : goal.returns-in-Some-clause-failed
 returns-in-Some-clause-failed g c = λ honest locked failed.

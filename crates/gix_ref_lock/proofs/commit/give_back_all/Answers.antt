@@ -3,7 +3,7 @@ use Rattle.gix_ref_file.proofs.Histories.{adds_weaker, adds_joined, adds_nothing
 use Rattle.gix_ref_lock.specs.Locks.{OthersStay}
 use Rattle.gix_ref_lock.specs.GivenBacks.{worse}
 use Rattle.gix_ref_lock.proofs.GivenUp.{first_half, second_half}
-use Rattle.gix_ref_lock.proofs.LockLemmas.{folders_joined}
+use Rattle.gix_ref_lock.proofs.Kept.{kept_joined}
 use Rattle.gix_ref_lock.proofs.Worse.{both_done, one_failed, none_failed}
 use Rattle.gix_ref_lock.specs.Contents.{lock_path_of}
 use Rattle.gix_ref_lock.specs.Moves.{LocksHeld, Once, lock_paths}
@@ -17,10 +17,7 @@ use Rattle.gix_ref_lock.proofs.commit.give_back_all.Goals as goal
 
 pub moves-init : goal.moves-init
 moves-init g c = record {
-  honest = λ honest. honest;
-  later = omega arith;
-  unfailed = λ none. refl;
-  folders = λ honest. adds_nothing (g.F.Files.history c.args.files.now);
+  kept = record { honest = λ honest. honest; later = omega arith; quiet = λ none. refl; folders = λ honest. adds_nothing (g.F.Files.history c.args.files.now) };
   locks = λ honest. adds_nothing (g.F.Files.history c.args.files.now);
   moments = λ once honest. adds_nothing (g.F.Files.history c.args.files.now);
   given = λ once honest. giving_begun c.args.moves.now (g.F.Files.history c.args.files.now).tree;
@@ -42,40 +39,35 @@ moves-preserved g c =
     let own = c.withdraw.result in
     let is : c.or_worse-outcome.result ≡ worse before own = c.or_worse-outcome.ensures in
     record {
-      honest = λ honest. c.withdraw.ensures.honest (c.moves.invariant.honest honest);
-      later = omega (arith, c.moves.invariant.later, c.withdraw.ensures.later);
-      unfailed = λ none.
-          let each = none_failed before own (λ failed. none (is ∙ failed)) in
-          c.withdraw.ensures.unfailed each.1 ∙ c.moves.invariant.unfailed each.0;
-      folders = λ honest. folders_joined old mid new (c.moves.invariant.folders honest) (c.withdraw.ensures.folders (c.moves.invariant.honest honest));
+      kept = kept_joined g.F.Files c.args.files.now c.moves.files c.withdraw.new.files c.moves.invariant.kept c.withdraw.ensures.keeps (λ none. none_failed before own (λ failed. none (is ∙ failed)));
       locks = λ honest. locks_joined old mid new (c.moves.invariant.locks honest)
-          (adds_weaker mid new (c.withdraw.ensures.moments (c.moves.invariant.honest honest)) (one_lock first.lock.place.items first.lock.path.items first.lock.beside mid.tree));
+          (adds_weaker mid new (c.withdraw.ensures.moments (c.moves.invariant.kept.honest honest)) (one_lock first.lock.place.items first.lock.path.items first.lock.beside mid.tree));
       moments = λ once honest.
           let so_far = subst (λ (rest : List Move). Giving before moves rest old.tree mid.tree) c.in-Some.ensures.cases.0 (c.moves.invariant.given once honest) in
           adds_joined old mid new (c.moves.invariant.moments once honest)
-          (adds_weaker mid new (c.withdraw.ensures.moments (c.moves.invariant.honest honest)) (giving before moves first others old.tree mid.tree so_far once));
+          (adds_weaker mid new (c.withdraw.ensures.moments (c.moves.invariant.kept.honest honest)) (giving before moves first others old.tree mid.tree so_far once));
       given = λ once honest.
           let so_far = subst (λ (rest : List Move). Giving before moves rest old.tree mid.tree) c.in-Some.ensures.cases.0 (c.moves.invariant.given once honest) in
-          let stay = now_of (OthersStay (lock_path_of first) mid.tree) mid new (λ path apart. refl) (c.withdraw.ensures.moments (c.moves.invariant.honest honest)) in
-          one_given before moves first others old.tree mid.tree so_far once new.tree stay own c.or_worse-outcome.result (λ done. both_done before own (sym is ∙ done)) (c.withdraw.ensures.gone (c.moves.invariant.honest honest));
+          let stay = now_of (OthersStay (lock_path_of first) mid.tree) mid new (λ path apart. refl) (c.withdraw.ensures.moments (c.moves.invariant.kept.honest honest)) in
+          one_given before moves first others old.tree mid.tree so_far once new.tree stay own c.or_worse-outcome.result (λ done. both_done before own (sym is ∙ done)) (c.withdraw.ensures.gone (c.moves.invariant.kept.honest honest));
       failed = λ honest failed.
-          ⊎_elim (λ one. wider (f c.args.files.now) (f c.args.files.now) (f c.moves.files) (f c.withdraw.new.files) (omega arith) c.withdraw.ensures.later (c.moves.invariant.failed honest one))
-          (λ one. wider (f c.args.files.now) (f c.moves.files) (f c.withdraw.new.files) (f c.withdraw.new.files) c.moves.invariant.later (omega arith) (c.withdraw.ensures.failed (c.moves.invariant.honest honest) one))
+          ⊎_elim (λ one. wider (f c.args.files.now) (f c.args.files.now) (f c.moves.files) (f c.withdraw.new.files) (omega arith) c.withdraw.ensures.keeps.later (c.moves.invariant.failed honest one))
+          (λ one. wider (f c.args.files.now) (f c.moves.files) (f c.withdraw.new.files) (f c.withdraw.new.files) c.moves.invariant.kept.later (omega arith) (c.withdraw.ensures.failed (c.moves.invariant.kept.honest honest) one))
           (one_failed before own (sym is ∙ failed));
       held = λ once honest all.
-          let then = c.moves.invariant.honest honest in
+          let then = c.moves.invariant.kept.honest honest in
           let so_far = c.moves.invariant.held once honest all in
           let split : c.moves.rest.now ≡ first ∷ others = c.in-Some.ensures.cases.0 in
           let apart = subst (λ (rest : List Move). Once (lock_paths rest)) split so_far.1.0 in
           let there = subst (λ (rest : List Move). LocksHeld rest mid.tree) split so_far.1.1 in
           let stay = now_of (OthersStay (lock_path_of first) mid.tree) mid new (λ path none. refl) (c.withdraw.ensures.moments then) in (
-            λ failed. ⊎_elim (λ one. first_half (f c.args.files.now) (f c.moves.files) (f c.withdraw.new.files) (so_far.0 one) c.withdraw.ensures.later)
-                (λ one. second_half (f c.args.files.now) (f c.moves.files) (f c.withdraw.new.files) c.moves.invariant.later (c.withdraw.ensures.held then there.0 one))
+            λ failed. ⊎_elim (λ one. first_half (f c.args.files.now) (f c.moves.files) (f c.withdraw.new.files) (so_far.0 one) c.withdraw.ensures.keeps.later)
+                (λ one. second_half (f c.args.files.now) (f c.moves.files) (f c.withdraw.new.files) c.moves.invariant.kept.later (c.withdraw.ensures.held then there.0 one))
                 (one_failed before own (sym is ∙ failed)),
             (apart.1, held_still (lock_path_of first) others mid.tree new.tree stay apart.0 there.1),
           );
       unlocked = λ honest.
-          let then = c.moves.invariant.honest honest in
+          let then = c.moves.invariant.kept.honest honest in
           let so_far = subst (λ (rest : List Move). Unlocking before moves rest old.tree mid.tree) c.in-Some.ensures.cases.0 (c.moves.invariant.unlocked honest) in
           let stay = now_of (OthersStay (lock_path_of first) mid.tree) mid new (λ path apart. refl) (c.withdraw.ensures.moments then) in
           unlocking_on before own c.or_worse-outcome.result moves first others old.tree mid.tree new.tree so_far stay (λ done. both_done before own (sym is ∙ done)) (c.withdraw.ensures.gone then);

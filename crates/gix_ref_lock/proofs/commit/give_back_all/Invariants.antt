@@ -1,7 +1,7 @@
-use Rattle.std.proofs.Common.{length, ◌≡◌, ◌≢◌, ◌≤◌}
-use Rattle.gix_ref_way.specs.Ways.{SameFolders}
+use Rattle.std.proofs.Common.{length, ◌≡◌, ◌≢◌}
 use Rattle.gix_ref_file.specs.Calls.{HasFault}
 use Rattle.gix_ref_file.specs.History.{Adds, HasRisen}
+use Rattle.gix_ref_lock.specs.Calls.{KeepsFolders}
 use Rattle.gix_ref_lock.specs.declared.lock.GivenBack.TheVariants.{Failed}
 use Rattle.gix_ref_lock.specs.Committing.{LocksAlone}
 use Rattle.gix_ref_lock.specs.Moments.{SameButLocks}
@@ -15,10 +15,7 @@ abbrev pub invariant-moves : goal.invariant-moves
 invariant-moves g l =
     let history = g.F.Files.history in
     record {
-      honest : g.F.Files.is_honest l.fn.files → g.F.Files.is_honest l.files;
-      later : g.F.Files.failures l.fn.files ≤ g.F.Files.failures l.files;
-      unfailed : l.outcome ≢ Failed → g.F.Files.failures l.files ≡ g.F.Files.failures l.fn.files;
-      folders : g.F.Files.is_honest l.fn.files → Adds (SameFolders (history l.fn.files).tree) (history l.fn.files) (history l.files);
+      kept : KeepsFolders g.F.Files (l.outcome ≢ Failed) l.fn.files l.files;
       locks : g.F.Files.is_honest l.fn.files → Adds (SameButLocks (history l.fn.files).tree) (history l.fn.files) (history l.files);
       moments : Once (all_paths l.moves) → g.F.Files.is_honest l.fn.files → Adds (AllMay LocksAlone l.moves (history l.fn.files).tree) (history l.fn.files) (history l.files);
       given : Once (all_paths l.moves) → g.F.Files.is_honest l.fn.files → Giving l.outcome l.moves l.rest (history l.fn.files).tree (history l.files).tree;

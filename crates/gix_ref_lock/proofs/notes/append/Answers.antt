@@ -1,4 +1,4 @@
-use Rattle.std.proofs.Common.{◌≡◌, ◌∙◌, subst, inl, inr, ⊎_elim, List, ℕ, [], ◌∷◌}
+use Rattle.std.proofs.Common.{◌≡◌, ◌∙◌, subst, inl, inr, ⊎_elim, List, ℕ, [], ◌∷◌, arith}
 use Rattle.std.proofs.lemmas.Result.{err_from_is_err_and}
 use Rattle.gix_ref_file.specs.Changes.{MayLeave, to_append}
 use Rattle.gix_ref_file.specs.History.{Makes}
@@ -9,8 +9,9 @@ use Rattle.gix_ref_file.specs.Changes.{may_hold_file}
 use Rattle.gix_ref_way.proofs.Clearings.{caused}
 use Rattle.gix_ref_way.proofs.FoldersStay.{while_appended}
 use Rattle.gix_ref_way.proofs.Rooms.{way_only, onlys_joined, onlys_same}
-use Rattle.gix_ref_lock.proofs.Needed.{told_cause, told_short, since}
+use Rattle.gix_ref_lock.proofs.Needed.{told_cause, since}
 use Rattle.gix_ref_lock.proofs.FileMoves.{on_told, same_now, unnoted, noting_joined, is_noted}
+use Rattle.gix_ref_lock.proofs.Kept.{quiet_of}
 use Rattle.gix_ref_lock.proofs.notes.append.Goals as goal
 
 pub returns-in_err-told-clause-moments : goal.returns-in_err-told-clause-moments
@@ -61,13 +62,21 @@ returns-in_err-told-clause-failed g c = λ honest can.
     let p = err_from_is_err_and c.from_residual.result c.from_residual.ensures.1 in
     rw (p.1, p.2) (⊎_elim inl (λ failed. inr (c.make_way.ensures.failed honest can.0 can.1 failed)) c.in_err-told.ensures.failed)
 
-pub returns-in_err-told-clause-memory : goal.returns-in_err-told-clause-memory
-returns-in_err-told-clause-memory g c =
+pub returns-in_err-told-clause-keeps : goal.returns-in_err-told-clause-keeps
+returns-in_err-told-clause-keeps g c =
     let p = err_from_is_err_and c.from_residual.result c.from_residual.ensures.1 in
-    rw (p.1, p.2) (λ short. c.make_way.ensures.memory (c.in_err-told.ensures.memory (λ no. no) short))
+    rw (p.1, p.2) (record {
+      honest = c.make_way.ensures.honest;
+      later = c.make_way.ensures.later;
+      quiet = λ short. quiet_of c.make_way.result c.make_way.ensures.unfailed c.make_way.ensures.memory (c.in_err-told.ensures.quiet (λ no. no) short);
+    })
 
-pub returns-clause-memory : goal.returns-clause-memory
-returns-clause-memory g c =
+pub returns-clause-keeps : goal.returns-clause-keeps
+returns-clause-keeps g c =
     let f = g.F.Files.failures in
     let same = subst (λ o. OnOk o (f c.make_way.new.files ≡ f c.args.files.now)) c.in_ok-told.ensures.done c.make_way.ensures.unfailed in
-    told_short c.append.result c.told-2.result (c.told-2.ensures.memory (λ no. no)) (λ short. c.append.ensures.memory short ∙ same)
+    record {
+      honest = λ honest. c.append.ensures.honest (c.make_way.ensures.honest honest);
+      later = omega (arith, c.make_way.ensures.later, c.append.ensures.later);
+      quiet = λ quiet. quiet_of c.append.result c.append.ensures.unfailed c.append.ensures.memory (c.told-2.ensures.quiet (λ no. no) quiet) ∙ same;
+    }

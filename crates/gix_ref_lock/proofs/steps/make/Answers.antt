@@ -5,11 +5,11 @@ use Rattle.gix_ref_lock.proofs.steps.make.Goals as goal
 
 pub returns-in-Forget-clause-folders : goal.returns-in-Forget-clause-folders
 returns-in-Forget-clause-folders g c = λ honest.
-    onlys_same (logs_of c.args.made.now) (g.F.Files.history c.args.files.now) (g.F.Files.history c.forget.new.files) (c.forget.ensures.folders honest)
+    onlys_same (logs_of c.args.made.now) (g.F.Files.history c.args.files.now) (g.F.Files.history c.forget.new.files) (c.forget.ensures.keeps.folders honest)
 
 pub returns-in-Remove-clause-folders : goal.returns-in-Remove-clause-folders
 returns-in-Remove-clause-folders g c = λ honest.
-    onlys_same (logs_of c.args.made.now) (g.F.Files.history c.args.files.now) (g.F.Files.history c.remove.new.files) (c.remove.ensures.folders honest)
+    onlys_same (logs_of c.args.made.now) (g.F.Files.history c.args.files.now) (g.F.Files.history c.remove.new.files) (c.remove.ensures.keeps.folders honest)
 
 pub returns-in-Update-clause-failed : goal.returns-in-Update-clause-failed
 returns-in-Update-clause-failed g c = λ apart beside honest needs.

@@ -4,7 +4,7 @@ use Rattle.gix_ref_lock.specs.Locks.{OthersStay}
 use Rattle.std.proofs.lemmas.Result.{on_ok_weaker}
 use Rattle.gix_ref_lock.specs.Contents.{contents, lock_path_of}
 use Rattle.gix_ref_lock.specs.Needs.{KeepsLock}
-use Rattle.gix_ref_lock.proofs.Needed.{told_cause, told_short}
+use Rattle.gix_ref_lock.proofs.Needed.{told_cause}
 use Rattle.gix_ref_lock.proofs.ActMoves.{pack_goes, pack_gone, file_goes, file_gone, giving_forgotten, is_given}
 use Rattle.gix_ref_lock.proofs.FileMoves.{on_told, now_of}
 use Rattle.gix_ref_lock.proofs.steps.remove.Goals as goal
@@ -69,5 +69,7 @@ returns-in-Forget-clause-failed g c = λ apart honest kept.
     let old = (g.F.Files.history c.args.files.now).tree in
     told_cause c.give_back.result c.told.result c.told.ensures.failed (λ failed. inl (c.give_back.ensures.held honest (subst (λ act. KeepsLock act (contents m old)) c.in-Forget.is kept) failed))
 
-pub returns-in-Forget-clause-memory : goal.returns-in-Forget-clause-memory
-returns-in-Forget-clause-memory g c = told_short c.give_back.result c.told.result (c.told.ensures.memory (λ no. no)) (λ short. c.give_back.ensures.memory short)
+pub returns-in-Forget-clause-keeps : goal.returns-in-Forget-clause-keeps
+returns-in-Forget-clause-keeps g c =
+    let kept = c.give_back.ensures.keeps in
+    record { honest = kept.honest; later = kept.later; quiet = λ quiet. kept.quiet (c.told.ensures.quiet (λ no. no) quiet); folders = kept.folders }

@@ -1,21 +1,19 @@
 //! Which names a listing wants.
 
-ghost use Rattle.std.specs.Prelude.{◌≡◌, IsTrue, IfOk, IfErr, OnOk};
-ghost use Rattle.gix_object_lines.specs.NameTest.{is_full_name};
+ghost use Rattle.std.specs.Prelude.{◌≡◌, ◌<◌, ◌++◌, ◌∷◌, [], ℕ, List, Some, IsTrue, IsFalse, IfOk, IfSome, MatchOption, length};
+ghost use Rattle.gix_object_lines.specs.NameTest.{begins, is_full_name};
 ghost use Rattle.gix_ref_store.specs.Asks.{is_asked};
 ghost use Rattle.gix_ref_store.specs.Asks as spec;
 ghost use Rattle.gix_ref_store.specs.Listings as listings;
-ghost use Rattle.gix_ref_store.specs.Walks.{Keeps, BringsAsked, MayStop, has};
 
 use crate::store::file::init::is_below;
-use crate::store::file::iter::Error;
 use crate::store::file::known::as_known;
-use crate::store::file::walk::put_name;
 use gix_object_lines::ByteString;
+use gix_object_lines::lines::is_full_name;
+use gix_ref_file::paths::parent;
 use gix_ref_name::FullName;
 use gix_ref_name::compose::precompose_unicode;
 use std::alloc::{AllocError, Global};
-use std::collections::BTreeSet;
 
 // The names below `refs/` that a listing wants.
 #[derive(Clone, Copy)]
@@ -29,6 +27,19 @@ pub(crate) struct Asked<'a> {
 }
 
 impl Asked<'_> {
+    // A folder in which all wanted names are. It is `refs` if another could have more than one path.
+    pub(crate) fn folder(&self) -> &[u8]
+        ensures some { 0 < length result.now }
+        ensures all { (name : List ℕ) → IsTrue (is_asked self.now name)
+            → IsTrue (begins (result.now ++ 47 ∷ []) name) }
+    {
+        let folder = parent(self.front);
+        if self.composes || folder.is_empty() || !is_full_name(folder) {
+            return b"refs";
+        }
+        folder
+    }
+
     // Returns whether a name below `refs/` is wanted.
     fn fits(self, name: &[u8]) -> bool
         ensures { result ≡ spec.fits self.entry name.now }
@@ -61,24 +72,30 @@ impl Asked<'_> {
         self.fits(path) || is_below(path, self.front)
     }
 
-    // Puts the name of a file or of a record in, as the store knows it, if it is wanted.
-    pub(crate) fn put(
-        self,
-        alloc: Global,
-        path: Vec<u8>,
-        names: &mut BTreeSet<FullName>,
-    ) -> Result<(), Error>
-        ensures kept { Keeps names.old.keys names.new.keys }
-        ensures asked { BringsAsked (is_asked self.entry) names.old.keys names.new.keys }
-        ensures there { IsTrue (is_full_name path.items) → IsTrue (is_asked self.entry path.items)
-            → OnOk result (IsTrue (has names.new.keys path.items)) }
-        ensures failed { IfErr result (MayStop ⊥) }
+    // The name of a file's path or of a record, as the store knows it; `None` if it isn't wanted.
+    pub(crate) fn name_of(self, alloc: Global, path: &[u8]) -> Result<Option<FullName>, AllocError>
+        ensures full { IfOk result (λ found. IfSome found (λ name. IsTrue (is_full_name name))) }
+        ensures asked { IfOk result (λ found.
+            IfSome found (λ name. IsTrue (is_asked self.entry name))) }
+        ensures found { IsTrue (is_full_name path.now) → IsTrue (is_asked self.entry path.now)
+            → IfOk result (λ found. found ≡ Some path.now) }
     {
-        let name = as_known(alloc, self.composes, ByteString::new(path))?;
+        let name = as_known(alloc, self.composes, ByteString::from_slice(alloc, path)?)?;
         if name.as_bytes().starts_with(b"refs/") && self.fits(name.as_bytes()) {
-            return put_name(name, names);
+            return Ok(full_name(name));
         }
-        Ok(())
+        Ok(None)
+    }
+}
+
+// The name of these bytes, if they are a full one.
+fn full_name(bytes: ByteString) -> Option<FullName>
+    ensures { MatchOption result (IsFalse (is_full_name bytes))
+        (λ name. (name ≡ bytes) × IsTrue (is_full_name bytes)) }
+{
+    match FullName::new(bytes) {
+        Ok(name) => Some(name),
+        Err(_) => None,
     }
 }
 

@@ -134,7 +134,7 @@ impl<F: Files> Store<F> {
     }
 
     /// The reference that a name means, as `try_find` returns it, with these packed references;
-    /// with `None`, only those with files of their own are found.
+    /// with `None`, only those with files of their own are found. Fails as that does.
     pub fn try_find_packed(
         &self,
         alloc: Global,
@@ -173,7 +173,7 @@ impl<F: Files> Store<F> {
     }
 
     /// The reference with a file of its own that a name means, as `try_find_packed` returns it
-    /// without packed references.
+    /// without packed references. Fails as that does.
     pub fn try_find_loose(
         &self,
         alloc: Global,

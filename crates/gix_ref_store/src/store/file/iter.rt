@@ -6,12 +6,13 @@ ghost use Rattle.gix_ref_store.specs.declared.store.file.iter.Error.TheVariants.
 
 use crate::reference::Reference;
 use crate::store::file::find;
+use crate::store::file::own::OwnFile;
 use crate::store::file::search::Search;
 use gix_ref_file::{FileError, Files};
 use gix_ref_format::loose;
 use gix_ref_name::FullName;
 use std::alloc::{AllocError, AllocFailed, Global};
-use std::collections::btree_set;
+use std::collections::btree_map;
 use thiserror::Error;
 
 /// Why a listing gives no reference.
@@ -68,22 +69,61 @@ impl From<FileError> for Error {
     }
 }
 
-/// References ascending by name, each once, whether it has a file of its own or a packed record.
+/// References ascending by name, each once, whether it has a file of its own or a packed record. The
+/// files were read when the listing was made.
 #[derive(Drop)]
 pub struct LooseThenPacked<'s, 'p, F: Files> {
     pub(crate) search: Search<'s, 'p, F>,
-    pub(crate) names: btree_set::IntoIter<FullName>,
+    pub(crate) names: btree_map::IntoIter<FullName, OwnFile>,
 }
 
 impl<F: Files> LooseThenPacked<'_, '_, F> {
+    ghost use Rattle.gix_ref_format.specs.Lookup.{packed_hit};
+    ghost use Rattle.gix_ref_store.specs.Finds.{records_in};
     ghost use Rattle.gix_ref_store.specs.Items.{TellsName, ItemMayTell};
+    ghost use Rattle.gix_ref_store.specs.OwnFiles.{state_by};
+    ghost use Rattle.gix_ref_store.specs.RefStates.{RefState, packed_state};
     ghost use Rattle.gix_ref_store.specs.Searches.{reads_in};
 
-    // The result for a name; `None` if there is no reference of this name.
-    fn item(&self, name: FullName) -> Option<Result<Reference, Error>>
+    // The result for a name, by what is known of its own file; `None` if there is no reference of
+    // this name.
+    fn item(&self, name: FullName, own: OwnFile) -> Option<Result<Reference, Error>>
         ensures told { F.is_honest self.now.search.store.now.files
             → let tree = (F.history self.now.search.store.now.files).tree in
-            TellsName name (reads_in tree self.now.search name) result }
+            let read = reads_in tree self.now.search name in
+            let packed = packed_state (packed_hit (records_in self.now.search.packed) name) in
+            TellsName name read (state_by own read packed) result }
+        ensures failed { ItemMayTell F.reading_may_fail result }
+    {
+        match own {
+            OwnFile::Holds(target) => Some(Ok(Reference {
+                name,
+                target,
+                peeled: None,
+            })),
+            OwnFile::Faulty(reason) => Some(Err(Error::ReferenceCreation { name, reason })),
+            OwnFile::Missing => self.recorded(name),
+            OwnFile::Unread => self.read(name),
+        }
+    }
+
+    // The reference that a record holds for this name.
+    fn recorded(&self, name: FullName) -> Option<Result<Reference, Error>>
+        ensures told { (read : RefState) → TellsName name read
+            (packed_state (packed_hit (records_in self.now.search.packed) name)) result }
+        ensures failed { ItemMayTell F.reading_may_fail result }
+    {
+        match self.search.packed_reference(name) {
+            Some(found) => Some(Ok(found)),
+            None => None,
+        }
+    }
+
+    // The result for a name, whose own file is read.
+    fn read(&self, name: FullName) -> Option<Result<Reference, Error>>
+        ensures told { F.is_honest self.now.search.store.now.files
+            → let tree = (F.history self.now.search.store.now.files).tree in
+            let read = reads_in tree self.now.search name in TellsName name read read result }
         ensures failed { ItemMayTell F.reading_may_fail result }
     {
         match self
@@ -96,10 +136,7 @@ impl<F: Files> LooseThenPacked<'_, '_, F> {
                 target,
                 peeled: None,
             })),
-            Ok(None) => match self.search.packed_reference(name) {
-                Some(found) => Some(Ok(found)),
-                None => None,
-            },
+            Ok(None) => self.recorded(name),
             Err(find::Error::ReferenceCreation(reason)) => Some(Err(Error::ReferenceCreation {
                 name,
                 reason,
@@ -125,8 +162,8 @@ impl<F: Files> Iterator for LooseThenPacked<'_, '_, F> {
     ghost remaining = { λ items. at_most (length items.names) };
 
     fn next(&mut self) -> Option<Result<Reference, Error>> {
-        while let Some(name) = self.names.next() {
-            if let Some(item) = self.item(name) {
+        while let Some((name, own)) = self.names.next() {
+            if let Some(item) = self.item(name, own) {
                 return Some(item);
             }
         }

@@ -1,7 +1,7 @@
 //! Listings of a store: what they are made of.
 
+ghost use Rattle.std.specs.BTreeMap.{IsOrdered};
 ghost use Rattle.std.specs.Prelude.{◌≡◌, None, IfOk, IfErr, IsErrOf, MatchResult};
-ghost use Rattle.std.specs.List.Sorted.{IsStrictlySortedBy};
 ghost use Rattle.gix_ref_file.specs.Tree.{path_cmp};
 ghost use Rattle.gix_ref_format.specs.declared.packed.buffer.Error.TheVariants.{Io};
 ghost use Rattle.gix_ref_store.specs.Asks.{is_asked};
@@ -15,12 +15,12 @@ use crate::store::file::Store;
 use crate::store::file::asked::Asked;
 use crate::store::file::gather::put_packed;
 use crate::store::file::iter::{Error, LooseThenPacked};
+use crate::store::file::own::Names;
 use crate::store::file::search::Search;
 use gix_ref_file::Files;
 use gix_ref_format::packed::{Buffer, buffer};
-use gix_ref_name::FullName;
 use std::alloc::Global;
-use std::collections::BTreeSet;
+use std::collections::BTreeMap;
 
 /// A store and its packed references, for several listings.
 #[derive(Drop)]
@@ -30,7 +30,7 @@ pub struct Platform<'s, F: Files> {
 }
 
 impl<F: Files> Platform<'_, F> {
-    /// All references below `refs/`, as `Store::iter_packed` returns them.
+    /// All references below `refs/`, as `Store::iter_packed` returns them. Fails as that does.
     pub fn all(&self, alloc: Global) -> Result<LooseThenPacked<'_, '_, F>, Error>
         ensures store { IfOk result (λ items. items.search.store.now ≡ self.now.store.now) }
         ensures listed { F.is_honest self.now.store.now.files
@@ -43,7 +43,7 @@ impl<F: Files> Platform<'_, F> {
     }
 
     /// The references below `refs/` whose names begin so, as `Store::iter_prefixed_packed` returns
-    /// them.
+    /// them. Fails as that does.
     pub fn prefixed(
         &self,
         alloc: Global,
@@ -61,6 +61,7 @@ impl<F: Files> Platform<'_, F> {
     }
 
     /// The reference of this name and those below it, as `Store::iter_within_packed` returns them.
+    /// Fails as that does.
     pub fn within(&self, alloc: Global, folder: &[u8]) -> Result<LooseThenPacked<'_, '_, F>, Error>
         ensures store { IfOk result (λ items. items.search.store.now ≡ self.now.store.now) }
         ensures listed { F.is_honest self.now.store.now.files
@@ -73,7 +74,7 @@ impl<F: Files> Platform<'_, F> {
             .iter_within_packed(alloc, folder, self.packed.as_ref())
     }
 
-    /// The pseudo references, as `Store::iter_pseudo` returns them.
+    /// The pseudo references, as `Store::iter_pseudo` returns them. Fails as that does.
     pub fn pseudo(&self, alloc: Global) -> Result<LooseThenPacked<'_, '_, F>, Error>
         ensures store { IfOk result (λ items. items.search.store.now ≡ self.now.store.now) }
         ensures listed { F.is_honest self.now.store.now.files
@@ -106,6 +107,9 @@ impl<F: Files> Store<F> {
     /// All references below `refs/` with files of their own or records of this buffer, ascending by
     /// name, each name once: a file hides a record. A file that names no target is an error in its
     /// place, after which the listing goes on. Returns `Traversal` if a folder couldn't be listed.
+    ///
+    /// The files are read now, by one call for each and at most two for each folder. A file is read
+    /// at its turn if a reading of it failed now.
     pub fn iter_packed<'s, 'p>(
         &'s self,
         alloc: Global,
@@ -122,7 +126,7 @@ impl<F: Files> Store<F> {
 
     /// The same of those whose names begin so, by their bytes: `refs/heads/fe` lists
     /// `refs/heads/feature`, and `refs/heads/a/` only what is below `refs/heads/a`. Below `refs` no
-    /// folder is listed in which none of them can be.
+    /// folder is listed in which none of them can be. Fails as `iter_packed` does.
     pub fn iter_prefixed_packed<'s, 'p>(
         &'s self,
         alloc: Global,
@@ -144,10 +148,10 @@ impl<F: Files> Store<F> {
         self.listed(alloc, asked, packed)
     }
 
-    /// The reference of this name, and those whose names are below it, by components as
-    /// `git for-each-ref` takes them: `refs/heads/a` lists itself and `refs/heads/a/b`, and not
+    /// The reference of this name, and those whose names are below it, by components as `git
+    /// for-each-ref` takes them: `refs/heads/a` lists itself and `refs/heads/a/b`, and not
     /// `refs/heads/ab`; with a slash at its end it lists what begins so. Below `refs` no folder is
-    /// listed in which none of them can be.
+    /// listed in which none of them can be. Fails as `iter_packed` does.
     pub fn iter_within_packed<'s, 'p>(
         &'s self,
         alloc: Global,
@@ -170,7 +174,7 @@ impl<F: Files> Store<F> {
     }
 
     /// The references below `refs/` with files of their own, ascending by name, as `iter_packed`
-    /// returns them.
+    /// returns them. Fails as that does.
     pub fn loose_iter(&self, alloc: Global) -> Result<LooseThenPacked<'_, '_, F>, Error>
         ensures store { IfOk result (λ items. items.search.store.now ≡ self.now) }
         ensures listed { F.is_honest self.now.files → let tree = (F.history self.now.files).tree in
@@ -181,7 +185,7 @@ impl<F: Files> Store<F> {
         self.listed(alloc, self.every_name(), None)
     }
 
-    /// The same of those whose names begin so.
+    /// The same of those whose names begin so. Fails as `iter_packed` does.
     pub fn loose_iter_prefixed(
         &self,
         alloc: Global,
@@ -197,8 +201,8 @@ impl<F: Files> Store<F> {
     }
 
     /// The pseudo references of the worktree, ascending by name: `HEAD`, and names of capital
-    /// letters and `_` that end so. Returns `Traversal` if the worktree's folder couldn't be
-    /// listed.
+    /// letters and `_` that end so, read as `iter_packed` reads. Returns `Traversal` if the
+    /// worktree's folder couldn't be listed.
     pub fn iter_pseudo(&self, alloc: Global) -> Result<LooseThenPacked<'_, '_, F>, Error>
         ensures store { IfOk result (λ items. items.search.store.now ≡ self.now) }
         ensures listed { F.is_honest self.now.files → let tree = (F.history self.now.files).tree in
@@ -206,7 +210,7 @@ impl<F: Files> Store<F> {
             (left_in tree items)) }
         ensures failed { IfErr result (MayStop F.reading_may_fail) }
     {
-        let mut names = BTreeSet::new(alloc);
+        let mut names = BTreeMap::new(alloc);
         self.put_pseudo(alloc, &mut names)?;
         Ok(self.items(alloc, None, names))
     }
@@ -235,7 +239,7 @@ impl<F: Files> Store<F> {
             (is_asked asked.entry) (left_in tree items)) }
         ensures failed { IfErr result (MayStop F.reading_may_fail) }
     {
-        let mut names = BTreeSet::new(alloc);
+        let mut names = BTreeMap::new(alloc);
         self.put_loose(alloc, asked, &mut names)?;
         match packed {
             Some(buffer) => {
@@ -251,12 +255,12 @@ impl<F: Files> Store<F> {
         &'s self,
         alloc: Global,
         packed: Option<&'p Buffer>,
-        names: BTreeSet<FullName>,
+        names: Names,
     ) -> LooseThenPacked<'s, 'p, F>
         ensures store { result.search.store.now ≡ self.now }
         ensures packed { result.search.packed ≡ packed.entry }
-        ensures names { result.names ≡ names.keys }
-        ensures order { IsStrictlySortedBy path_cmp names.keys }
+        ensures names { result.names ≡ names.entries }
+        ensures order { IsOrdered path_cmp names }
     {
         LooseThenPacked {
             search: Search {

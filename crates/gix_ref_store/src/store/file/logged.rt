@@ -26,8 +26,8 @@ pub struct Platform<'s, 'n, F: Files> {
 }
 
 impl<'s, F: Files> Platform<'s, '_, F> {
-    /// The lines from the beginning, as `Store::reflog_iter` returns them. The log may be read
-    /// again afterwards.
+    /// The lines from the beginning, as `Store::reflog_iter` returns them, with its errors. The log
+    /// may be read again afterwards.
     pub fn all(&mut self, alloc: Global) -> Result<Option<Forward<'_>>, Error>
         ensures lines { F.is_honest self.old.store.now.files
             → let tree = (F.history self.old.store.now.files).tree in
@@ -39,7 +39,7 @@ impl<'s, F: Files> Platform<'s, '_, F> {
     }
 
     /// The lines from the end, as `Store::reflog_iter_rev` returns them with a buffer of 4,096
-    /// bytes.
+    /// bytes. Fails as that does.
     pub fn rev(&mut self, alloc: Global) -> Result<Option<Reverse<'_, LogFile<'s, F>>>, Error>
         ensures lines { F.is_honest self.old.store.now.files
             → let tree = (F.history self.old.store.now.files).tree in

@@ -97,7 +97,7 @@ pub trait ReferenceExt: Sealed {
         ensures failed { IfErr result
             (peels.MayTell F.reading_may_fail (T.may_fail objects.now)) };
 
-    /// What `peel_to_id_in_place` does, with these packed references.
+    /// What `peel_to_id_in_place` does, with these packed references. Fails as that does.
     fn peel_to_id_in_place_packed<F: Files, T: FindInto>(
         &mut self,
         alloc: Global,
@@ -118,7 +118,7 @@ pub trait ReferenceExt: Sealed {
         ensures failed { IfErr result
             (peels.MayTell F.reading_may_fail (T.may_fail objects.now)) };
 
-    /// The id that `peel_to_id` returns, with these packed references.
+    /// The id that `peel_to_id` returns, with these packed references. Fails as that does.
     fn peel_to_id_packed<F: Files, T: FindInto>(
         &self,
         alloc: Global,

@@ -2,10 +2,8 @@ use Rattle.std.proofs.Common.{ap}
 use Rattle.std.specs.Prelude.{Err}
 use Rattle.std.proofs.lemmas.Result.{err_from_is_err_and}
 use Rattle.gix_ref_way.proofs.Rooms.{way_only}
-use Rattle.gix_ref_transaction.specs.Errors.{of_file}
-use Rattle.gix_ref_transaction.specs.declared.error.PrepareError.TheVariants.{LockAcquire}
 use Rattle.gix_ref_transaction.proofs.Counting.{counts_file, file_memory}
-use Rattle.gix_ref_transaction.proofs.Takings.{err_same, file_no_lock, file_take}
+use Rattle.gix_ref_transaction.proofs.Takings.{file_no_lock, file_take}
 use Rattle.gix_ref_transaction.proofs.plan.clear.Goals as goal
 
 pub returns-in_err-try_make_way-clause-folders : goal.returns-in_err-try_make_way-clause-folders
@@ -30,15 +28,10 @@ returns-in_err-try_make_way-clause-counted g c = λ honest.
     let p = err_from_is_err_and c.from_residual.result c.from_residual.ensures.1 in
     rw (p.1, p.2) (counts_file c.in_err-try_make_way.field-0.0 (f c.args.files.now) (f c.try_make_way.new.files) (λ is. c.in_err-try_make_way.ensures.failed honest c.requires (ap Err is)))
 
-pub returns-in_err-try_make_way-clause-memory : goal.returns-in_err-try_make_way-clause-memory
-returns-in_err-try_make_way-clause-memory g c =
-    let p = err_from_is_err_and c.from_residual.result c.from_residual.ensures.1 in
-    rw (p.1, p.2) (λ other. c.in_err-try_make_way.ensures.memory (ap Err (file_memory c.in_err-try_make_way.field-0.0 other)))
-
 pub returns-in_err-try_make_way-clause-refused : goal.returns-in_err-try_make_way-clause-refused
 returns-in_err-try_make_way-clause-refused g c = λ honest.
     let p = err_from_is_err_and c.from_residual.result c.from_residual.ensures.1 in
-    rw (p.1, p.2) (λ is. absurd (file_no_lock c.in_err-try_make_way.field-0.0 (err_same (of_file c.in_err-try_make_way.field-0.0) LockAcquire is)))
+    rw (p.1, p.2) (λ is. absurd (file_no_lock c.in_err-try_make_way.field-0.0 is))
 
 pub returns-in_err-try_make_way-clause-failed : goal.returns-in_err-try_make_way-clause-failed
 returns-in_err-try_make_way-clause-failed g c =
@@ -53,3 +46,12 @@ returns-in-Blocked-clause-refused g c = λ honest is. c.in_ok-try_make_way.ensur
 
 pub returns-in-Unread-clause-failed : goal.returns-in-Unread-clause-failed
 returns-in-Unread-clause-failed g c = c.in_ok-try_make_way.ensures.unread c.in-Unread.is
+
+pub returns-in_err-try_make_way-clause-keeps : goal.returns-in_err-try_make_way-clause-keeps
+returns-in_err-try_make_way-clause-keeps g c =
+    let p = err_from_is_err_and c.from_residual.result c.from_residual.ensures.1 in
+    rw (p.1, p.2) (record {
+      honest = c.try_make_way.ensures.honest;
+      later = c.try_make_way.ensures.later;
+      quiet = λ other. c.in_err-try_make_way.ensures.memory (ap Err (file_memory c.in_err-try_make_way.field-0.0 other));
+    })

@@ -11,12 +11,13 @@ returns-in_err-fill-clause-counted g c = λ honest held.
     let p = err_from_is_err_and c.from_residual-in_err-fill.result c.from_residual-in_err-fill.ensures.1 in
     rw (p.1, p.2) (counts_file c.in_err-fill.field-0.0 (f c.args.files.now) (f c.fill.new.files) (λ is. c.in_err-fill.ensures.failed honest held (ap Err is)))
 
-pub returns-in_err-fill-clause-memory : goal.returns-in_err-fill-clause-memory
-returns-in_err-fill-clause-memory g c =
-    let p = err_from_is_err_and c.from_residual-in_err-fill.result c.from_residual-in_err-fill.ensures.1 in
-    rw (p.1, p.2) (λ other. c.in_err-fill.ensures.memory (ap Err (file_memory c.in_err-fill.field-0.0 other)))
-
 pub returns-in_err-fill-clause-failed : goal.returns-in_err-fill-clause-failed
 returns-in_err-fill-clause-failed g c =
     let p = err_from_is_err_and c.from_residual-in_err-fill.result c.from_residual-in_err-fill.ensures.1 in
     rw (p.1, p.2) (file_io c.in_err-fill.field-0.0)
+
+pub returns-in_err-fill-clause-keeps : goal.returns-in_err-fill-clause-keeps
+returns-in_err-fill-clause-keeps g c =
+    let kept = c.in_err-fill.ensures.keeps in
+    let p = err_from_is_err_and c.from_residual-in_err-fill.result c.from_residual-in_err-fill.ensures.1 in
+    rw (p.1, p.2) (record { honest = kept.honest; later = kept.later; quiet = λ other. kept.quiet (file_memory c.in_err-fill.field-0.0 other); folders = kept.folders })

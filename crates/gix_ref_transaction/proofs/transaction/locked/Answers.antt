@@ -1,6 +1,6 @@
 use Rattle.std.proofs.Common.{◌≡◌, ◌∙◌, false, inr, refl, sym, ap, subst, List, option_map, Vec, arith}
 use Rattle.std.proofs.lemmas.Result.{err_from_is_err_and}
-use Rattle.std.specs.Prelude.{◌⊎◌, IsTrue, Err}
+use Rattle.std.specs.Prelude.{◌⊎◌, IsTrue}
 use Rattle.std.specs.List.{AllByRecursion, list_all}
 use Rattle.std.specs.declared.alloc.Global.{Global}
 use Rattle.gix_ref_file.specs.Calls.{HasFault}
@@ -40,6 +40,7 @@ use Rattle.gix_ref_transaction.proofs.LockedEdits.{held_now, names_beside, names
 use Rattle.gix_ref_transaction.proofs.Plannings.{among_alike, tested_alike, all_lined_alike, some_fault_alike}
 use Rattle.gix_ref_transaction.proofs.Prepares.{is_prepared, mode_packs}
 use Rattle.gix_ref_transaction.proofs.Repacked.{locks_alone, repacked_on}
+use Rattle.gix_ref_transaction.proofs.Stores.{records_here, records_there, store_joined}
 use Rattle.gix_ref_transaction.proofs.Rollbacks.{all_once, of_records, with_records, dropped_back}
 use Rattle.gix_ref_transaction.proofs.transaction.locked.Goals as goal
 
@@ -52,7 +53,7 @@ returns-in-Ok-clause-moments g c = λ honest.
     let old = g.F.Files.history c.args.store.now.files in
     let mid = g.F.Files.history c.repack.new.store.files in
     let then = g.F.Files.history c.plan_all.new.store.files in
-    let first = c.repack.ensures.honest honest in
+    let first = c.repack.ensures.keeps.honest honest in
     locks_joined old mid then (locks_alone (base_of c.args.store.now) old mid (c.repack.ensures.moments honest)) (c.plan_all.ensures.moments first)
 
 pub returns-in-Err-clause-moments : goal.returns-in-Err-clause-moments
@@ -61,26 +62,26 @@ returns-in-Err-clause-moments g c = λ honest.
     let mid = g.F.Files.history c.repack.new.store.files in
     let then = g.F.Files.history c.plan_all.new.store.files in
     let new = g.F.Files.history c.drop_all.new.files in
-    let first = c.repack.ensures.honest honest in
-    locks_joined old then new (locks_joined old mid then (locks_alone (base_of c.args.store.now) old mid (c.repack.ensures.moments honest)) (c.plan_all.ensures.moments first)) (c.drop_all.ensures.moments (c.plan_all.ensures.honest first))
+    let first = c.repack.ensures.keeps.honest honest in
+    locks_joined old then new (locks_joined old mid then (locks_alone (base_of c.args.store.now) old mid (c.repack.ensures.moments honest)) (c.plan_all.ensures.moments first)) (c.drop_all.ensures.moments (c.plan_all.ensures.keeps.honest first))
 
 -- ---- what the calls want
 pub plan_all-requires-clause-paths : goal.plan_all-requires-clause-paths
 plan_all-requires-clause-paths g c =
-    subst (λ (base : Base). IsTrue (list_all is_path (name_paths base c.deref-2.result.now))) (sym c.repack.ensures.base)
+    subst (λ (base : Base). IsTrue (list_all is_path (name_paths base c.deref-2.result.now))) (sym c.repack.ensures.keeps.base)
     (subst (λ (es : List RefEdit). IsTrue (list_all is_path (name_paths (base_of c.args.store.now) es))) (sym c.deref-2.ensures.value) (names_paths (base_of c.args.store.now) c.args.edits.items c.requires.paths))
 
 pub finish-requires : goal.finish-requires
 finish-requires g c =
     let b = base_of c.args.store.now in
     let gone = removes c.args.packed_refs.now in
-    let planned = subst (λ (base : Base). AllPlanned base gone c.deref-2.result.now c.plan_all.new.moves.items) c.repack.ensures.base c.in-Ok.ensures.planned in
+    let planned = subst (λ (base : Base). AllPlanned base gone c.deref-2.result.now c.plan_all.new.moves.items) c.repack.ensures.keeps.base c.in-Ok.ensures.planned in
     let own = subst (λ (es : List RefEdit). AllPlanned b gone es c.plan_all.new.moves.items) c.deref-2.ensures.value planned in
     commit_once b gone c.args.edits.items c.plan_all.new.moves.items own c.in_ok-records.records c.in_ok-records.ensures.at c.requires.apart
 
 -- ---- packed records aren't locked
-pub returns-in_err-records-clause-failed : goal.returns-in_err-records-clause-failed
-returns-in_err-records-clause-failed g c = λ asked honest split.
+pub returns-in_err-records-clause-locked : goal.returns-in_err-records-clause-locked
+returns-in_err-records-clause-locked g c = λ asked honest split.
     let f = g.F.Files.failures in
     let old = g.F.Files.history c.args.store.now.files in
     let mid = g.F.Files.history c.repack.new.store.files in
@@ -92,15 +93,9 @@ returns-in_err-records-clause-failed g c = λ asked honest split.
     rw (p.1, p.2) (record {
       causes = inr (c.args.edits.items, split, by_records a.lines a.base a.tree g.F.Files.reading_may_fail c.args.edits.items error);
       counted = records_count (f c.args.store.now.files) (f c.repack.new.store.files) error;
-      records = λ can of. records_cause (HasFault f g.F.Files.reading_may_fail c.args.store.now.files c.repack.new.store.files) error (c.in_err-records.ensures.failed honest can.0 can.1) of;
-      rolled_back = of_records (f c.args.store.now.files) (f c.repack.new.store.files) lock old.tree mid.tree error stay (c.in_err-records.ensures.rolled_back honest);
+      records = λ can of. records_cause (HasFault f g.F.Files.reading_may_fail c.args.store.now.files c.repack.new.store.files) error ((c.in_err-records.ensures.failed honest).failed can.0 can.1) of;
+      rolled_back = of_records (f c.args.store.now.files) (f c.repack.new.store.files) lock old.tree mid.tree error stay (c.in_err-records.ensures.failed honest).rolled_back;
     })
-
-pub returns-in_err-records-clause-memory : goal.returns-in_err-records-clause-memory
-returns-in_err-records-clause-memory g c =
-    let f = g.F.Files.failures in
-    let p = err_from_is_err_and c.from_residual.result c.from_residual.ensures.1 in
-    rw (p.1, p.2) (records_quiet (f c.repack.new.store.files ≡ f c.args.store.now.files) c.in_err-records.field-0.0 c.in_err-records.ensures.memory (λ early. ap (λ s. f s.files) (c.in_err-records.ensures.early early)))
 
 pub returns-in_err-records-clause-resolves : goal.returns-in_err-records-clause-resolves
 returns-in_err-records-clause-resolves g c = λ honest told.
@@ -114,8 +109,8 @@ returns-in_err-records-clause-folders g c = λ honest.
     onlys_same (places_of (base_of c.args.store.now) c.args.edits.items) (g.F.Files.history c.args.store.now.files) (g.F.Files.history c.repack.new.store.files) (c.repack.ensures.folders honest)
 
 -- ---- an edit is refused
-pub returns-in-Err-clause-failed : goal.returns-in-Err-clause-failed
-returns-in-Err-clause-failed g c = λ asked honest split.
+pub returns-in-Err-clause-locked : goal.returns-in-Err-clause-locked
+returns-in-Err-clause-locked g c = λ asked honest split.
     let f = g.F.Files.failures in
     let may = g.F.Files.reading_may_fail in
     let old = g.F.Files.history c.args.store.now.files in
@@ -130,38 +125,38 @@ returns-in-Err-clause-failed g c = λ asked honest split.
     let moves = c.plan_all.new.moves.items in
     let error = c.in-Err.error in
     let told = c.drop_all.ensures.told in
-    let first = c.repack.ensures.honest honest in
-    let second = c.plan_all.ensures.honest first in
+    let first = c.repack.ensures.keeps.honest honest in
+    let second = c.plan_all.ensures.keeps.honest first in
     let lock = lock_of (packed_place b) in
     let stay = now_of (OthersStay lock old.tree) old mid (λ path apart. refl) (c.repack.ensures.moments honest) in
     let same = now_of (SameButLocks old.tree) old mid (λ path none. refl) (locks_alone b old mid (c.repack.ensures.moments honest)) in
-    let why = c.in-Err.ensures.failed first in
-    let fault = some_fault_alike options c.repack.new.store.options b (base_of c.repack.new.store) old.tree mid.tree (records_in c.args.packed) c.args.committer same c.repack.ensures.options c.repack.ensures.base
-    may c.deref-2.result.now error why in
-    let of = some_edit (logging c.repack.new.store.options (reads_with c.repack.new.store mid.tree c.args.packed) c.args.committer) (base_of c.repack.new.store) mid.tree may c.deref-2.result.now error why in
-    let held = held_now records mid.tree then (c.plan_all.ensures.keeps first) (c.in_ok-records.ensures.held honest) in
+    let unplanned = c.in-Err.ensures.failed first in
+    let fault = some_fault_alike options c.repack.new.store.options b (base_of c.repack.new.store) old.tree mid.tree (records_in c.args.packed) c.args.committer same c.repack.ensures.keeps.options c.repack.ensures.keeps.base
+    may c.deref-2.result.now error unplanned.cause in
+    let of = some_edit (logging c.repack.new.store.options (reads_with c.repack.new.store mid.tree c.args.packed) c.args.committer) (base_of c.repack.new.store) mid.tree may c.deref-2.result.now error unplanned.cause in
+    let held = held_now records mid.tree then (c.plan_all.ensures.stay first) (records_there _ c.in_ok-records.records mid.tree (c.in_ok-records.ensures.held honest)) in
     let own : moves ≡ c.deref-in-Err.result.now = sym c.deref-in-Err.ensures.value in
-    let all = subst (λ (ms : List Move). AreHeld records ms then) own (record { packed = held; each = c.plan_all.ensures.held first }) in
-    let once = subst (λ (ms : List Move). Once (all_locks records ms)) own (all_once records moves mid.tree (c.in_ok-records.ensures.held honest) (c.plan_all.ensures.fresh first) (c.plan_all.ensures.once first)) in
-    let counts = c.drop_all.ensures.counted (f c.args.store.now.files) second (omega (arith, c.repack.ensures.later, c.plan_all.ensures.later)) all once
-    (subst (λ n. Counts n (f c.plan_all.new.store.files) error) c.in_ok-records.ensures.unfailed (c.in-Err.ensures.counted first)) in
-    let came = with_records lock records old.tree mid.tree stay (c.in_ok-records.ensures.here honest) (λ none. ap (λ s. (g.F.Files.history s.files).tree) (c.in_ok-records.ensures.idle none)) in
+    let all = subst (λ (ms : List Move). AreHeld records ms then) own (record { packed = held; each = (c.plan_all.ensures.taken first).held }) in
+    let once = subst (λ (ms : List Move). Once (all_locks records ms)) own (all_once records moves mid.tree (records_there _ c.in_ok-records.records mid.tree (c.in_ok-records.ensures.held honest)) (c.plan_all.ensures.taken first).fresh (c.plan_all.ensures.taken first).once) in
+    let counts = c.drop_all.ensures.counted (f c.args.store.now.files) second (omega (arith, c.repack.ensures.keeps.later, c.plan_all.ensures.keeps.later)) all once
+    (subst (λ n. Counts n (f c.plan_all.new.store.files) error) (c.in_ok-records.ensures.keeps.quiet tt) unplanned.counted) in
+    let came = with_records lock records old.tree mid.tree stay (records_here _ c.in_ok-records.records mid.tree (c.in_ok-records.ensures.held honest)) (λ none. ap (λ s. (g.F.Files.history s.files).tree) (c.in_ok-records.ensures.idle none)) in
     let dropped = subst (λ (ms : List Move). AllGone ms records then new ⊎ MayBeLeft c.drop_all.result) c.deref-in-Err.ensures.value (c.drop_all.ensures.rolled_back second) in
     record {
       causes = inr (
         edits,
         split,
         by_all a.lines b old.tree may edits error c.drop_all.result told
-            (λ is. not_lockable b edits old.tree mid.tree stay c.requires.apart (λ once beside all. c.in-Err.ensures.refused first (ap Err is)
-            (subst (λ (es : List RefEdit). has_twice (name_paths (base_of c.repack.new.store) es) ≡ false) (sym c.deref-2.ensures.value) (subst (λ (base : Base). has_twice (name_paths base edits) ≡ false) (sym c.repack.ensures.base) once))
-            (subst (λ (es : List RefEdit). AreBeside (name_paths (base_of c.repack.new.store) es)) (sym c.deref-2.ensures.value) (subst (λ (base : Base). AreBeside (name_paths base edits)) (sym c.repack.ensures.base) beside))
-            (subst (λ (es : List RefEdit). AllByRecursion (λ e. IsLockable mid.tree (place (base_of c.repack.new.store) e.name)) es) (sym c.deref-2.ensures.value) (subst (λ (base : Base). AllByRecursion (λ e. IsLockable mid.tree (place base e.name)) edits) (sym c.repack.ensures.base) all))))
+            (λ is. not_lockable b edits old.tree mid.tree stay c.requires.apart (λ once beside all. unplanned.refused is
+            (subst (λ (es : List RefEdit). has_twice (name_paths (base_of c.repack.new.store) es) ≡ false) (sym c.deref-2.ensures.value) (subst (λ (base : Base). has_twice (name_paths base edits) ≡ false) (sym c.repack.ensures.keeps.base) once))
+            (subst (λ (es : List RefEdit). AreBeside (name_paths (base_of c.repack.new.store) es)) (sym c.deref-2.ensures.value) (subst (λ (base : Base). AreBeside (name_paths base edits)) (sym c.repack.ensures.keeps.base) beside))
+            (subst (λ (es : List RefEdit). AllByRecursion (λ e. IsLockable mid.tree (place (base_of c.repack.new.store) e.name)) es) (sym c.deref-2.ensures.value) (subst (λ (base : Base). AllByRecursion (λ e. IsLockable mid.tree (place base e.name)) edits) (sym c.repack.ensures.keeps.base) all))))
             (subst (λ (es : List RefEdit). SomeEditFault a.lines b old.tree may es error) c.deref-2.ensures.value fault),
       );
       counted = counts;
       records = λ can of_records. absurd (after_no_records error c.drop_all.result told of of_records);
       rolled_back = dropped_back (f c.args.store.now.files) (f c.repack.new.store.files) (f c.plan_all.new.store.files) (f c.drop_all.new.files) moves records old.tree mid.tree then new error c.drop_all.result
-          c.repack.ensures.later c.drop_all.ensures.later came (c.in-Err.ensures.rolled_back first) told counts dropped;
+          c.repack.ensures.keeps.later c.drop_all.ensures.later came unplanned.rolled_back told counts dropped;
     }
 
 pub returns-in-Err-clause-folders : goal.returns-in-Err-clause-folders
@@ -170,32 +165,27 @@ returns-in-Err-clause-folders g c = λ honest.
     let mid = g.F.Files.history c.repack.new.store.files in
     let then = g.F.Files.history c.plan_all.new.store.files in
     let new = g.F.Files.history c.drop_all.new.files in
-    let first = c.repack.ensures.honest honest in
+    let first = c.repack.ensures.keeps.honest honest in
     let b = base_of c.args.store.now in
     let paths = places_of b c.args.edits.items in
-    let own = subst (λ (es : List RefEdit). Adds (FoldersOnlyOf (places_of b es) mid.tree) mid then) c.deref-2.ensures.value (subst (λ (base : Base). Adds (FoldersOnlyOf (places_of base c.deref-2.result.now) mid.tree) mid then) c.repack.ensures.base (c.plan_all.ensures.folders first)) in
-    onlys_joined paths old then new (onlys_joined paths old mid then (onlys_same paths old mid (c.repack.ensures.folders honest)) own) (onlys_same paths then new (c.drop_all.ensures.folders (c.plan_all.ensures.honest first)))
-
-pub returns-in-Err-clause-memory : goal.returns-in-Err-clause-memory
-returns-in-Err-clause-memory g c = λ quiet.
-    let parts = c.drop_all.ensures.memory (quiet_other c.drop_all.result quiet) in
-    parts.1 ∙ c.in-Err.ensures.memory parts.0 ∙ c.in_ok-records.ensures.unfailed
+    let own = subst (λ (es : List RefEdit). Adds (FoldersOnlyOf (places_of b es) mid.tree) mid then) c.deref-2.ensures.value (subst (λ (base : Base). Adds (FoldersOnlyOf (places_of base c.deref-2.result.now) mid.tree) mid then) c.repack.ensures.keeps.base (c.plan_all.ensures.folders first)) in
+    onlys_joined paths old then new (onlys_joined paths old mid then (onlys_same paths old mid (c.repack.ensures.folders honest)) own) (onlys_same paths then new (c.drop_all.ensures.folders (c.plan_all.ensures.keeps.honest first)))
 
 pub returns-in-Err-clause-resolves : goal.returns-in-Err-clause-resolves
 returns-in-Err-clause-resolves g c = λ honest told.
     let why = PackFault g.F.Files.reading_may_fail g.O.Lookup.may_fail g.O.Lookup.table (objects_in c.args.packed_refs.now) in
-    let first = c.repack.ensures.honest honest in
+    let first = c.repack.ensures.keeps.honest honest in
     let mid = (g.F.Files.history c.repack.new.store.files).tree in
-    let of = some_edit (logging c.repack.new.store.options (reads_with c.repack.new.store mid c.args.packed) c.args.committer) (base_of c.repack.new.store) mid g.F.Files.reading_may_fail c.deref-2.result.now c.in-Err.error (c.in-Err.ensures.failed first) in
+    let of = some_edit (logging c.repack.new.store.options (reads_with c.repack.new.store mid c.args.packed) c.args.committer) (base_of c.repack.new.store) mid g.F.Files.reading_may_fail c.deref-2.result.now c.in-Err.error (c.in-Err.ensures.failed first).cause in
     after_unresolved (SomeChangeFault why c.args.edits.items) c.in-Err.error c.drop_all.result c.drop_all.ensures.told of
 
 -- ---- all are locked
-pub returns-in-Ok-clause-prepared : goal.returns-in-Ok-clause-prepared
-returns-in-Ok-clause-prepared g c = λ asked honest split.
+pub returns-in-Ok-clause-locked : goal.returns-in-Ok-clause-locked
+returns-in-Ok-clause-locked g c = λ asked honest split.
     let old = g.F.Files.history c.args.store.now.files in
     let mid = g.F.Files.history c.repack.new.store.files in
     let then = g.F.Files.history c.plan_all.new.store.files in
-    let first = c.repack.ensures.honest honest in
+    let first = c.repack.ensures.keeps.honest honest in
     let a = asked_with g.F.Files.history c.args.store.now c.args.packed c.args.committer asked in
     let b = base_of c.args.store.now in
     let options = c.args.store.now.options in
@@ -207,30 +197,30 @@ returns-in-Ok-clause-prepared g c = λ asked honest split.
     let paths = places_of b edits in
     let lock = lock_of (packed_place b) in
     let given = c.deref-2.ensures.value in
-    let bases = c.repack.ensures.base in
+    let bases = c.repack.ensures.keeps.base in
     let stay = now_of (OthersStay lock old.tree) old mid (λ path apart. refl) (c.repack.ensures.moments honest) in
     let same = now_of (SameButLocks old.tree) old mid (λ path none. refl) (locks_alone b old mid (c.repack.ensures.moments honest)) in
     let tested = tested_alike (reads_with c.repack.new.store mid.tree c.args.packed) a.lines.read
     (λ name. ap (λ (base : Base). state_among base mid.tree known name) bases ∙ among_alike b old.tree mid.tree known same name)
-    c.deref-2.result.now (c.in-Ok.ensures.tested first) in
-    let lined = all_lined_alike options c.repack.new.store.options b (base_of c.repack.new.store) old.tree mid.tree known c.args.committer same c.repack.ensures.options bases
-    gone c.deref-2.result.now moves c.in-Ok.ensures.planned (c.in-Ok.ensures.lines first) in
+    c.deref-2.result.now (c.in-Ok.ensures.made first).tested in
+    let lined = all_lined_alike options c.repack.new.store.options b (base_of c.repack.new.store) old.tree mid.tree known c.args.committer same c.repack.ensures.keeps.options bases
+    gone c.deref-2.result.now moves c.in-Ok.ensures.planned (c.in-Ok.ensures.made first).lines in
     let planned = subst (λ (es : List RefEdit). AllPlanned b gone es moves) given (subst (λ (base : Base). AllPlanned base gone c.deref-2.result.now moves) bases c.in-Ok.ensures.planned) in
     let own = subst (λ (es : List RefEdit). Adds (FoldersOnlyOf (places_of b es) mid.tree) mid then) given (subst (λ (base : Base). Adds (FoldersOnlyOf (places_of base c.deref-2.result.now) mid.tree) mid then) bases (c.plan_all.ensures.folders first)) in
     let only = only_now paths old then (onlys_joined paths old mid then (onlys_same paths old mid (c.repack.ensures.folders honest)) own) in
-    let few = records_same_but lock records old.tree mid.tree stay (c.in_ok-records.ensures.here honest) (λ none. ap (λ s. (g.F.Files.history s.files).tree) (c.in_ok-records.ensures.idle none)) in
-    let locked = all_same_but records moves old.tree mid.tree then.tree few (same_but (lock_paths moves) mid.tree then.tree (c.plan_all.ensures.keeps first) (c.in-Ok.ensures.locked first)) in
-    let held : AreHeld records moves then.tree = record { packed = held_now records mid.tree then.tree (c.plan_all.ensures.keeps first) (c.in_ok-records.ensures.held honest); each = c.plan_all.ensures.held first } in
+    let few = records_same_but lock records old.tree mid.tree stay (records_here _ c.in_ok-records.records mid.tree (c.in_ok-records.ensures.held honest)) (λ none. ap (λ s. (g.F.Files.history s.files).tree) (c.in_ok-records.ensures.idle none)) in
+    let locked = all_same_but records moves old.tree mid.tree then.tree few (same_but (lock_paths moves) mid.tree then.tree (c.plan_all.ensures.stay first) (c.in-Ok.ensures.made first).locked) in
+    let held : AreHeld records moves then.tree = record { packed = held_now records mid.tree then.tree (c.plan_all.ensures.stay first) (records_there _ c.in_ok-records.records mid.tree (c.in_ok-records.ensures.held honest)); each = (c.plan_all.ensures.taken first).held } in
     let beside = λ (apart : AreBeside (edit_paths b edits)). subst (λ (es : List RefEdit). AreBeside (name_paths (base_of c.repack.new.store) es)) (sym given) (subst (λ (base : Base). AreBeside (name_paths base edits)) (sym bases) (names_beside b edits apart)) in
     let whole : prepared_of c.finish.result.edits.items c.finish.result.moves.items c.finish.result.packed ≡ prepared_of edits moves records = λ i. prepared_of (c.finish.ensures.edits i).items (c.finish.ensures.moves i).items (c.finish.ensures.packed i) in
     subst (IsPrepared a then.tree) (sym whole) (record {
       split = split;
       tested = subst (λ (es : List RefEdit). AllTested a.lines.read es) given tested;
-      texts = subst (λ (es : List RefEdit). AllHold then.tree es moves) given (c.in-Ok.ensures.texts first);
+      texts = subst (λ (es : List RefEdit). AllHold then.tree es moves) given (c.in-Ok.ensures.made first).texts;
       lines = subst (λ (es : List RefEdit). AllLined a.lines b old.tree es moves) given lined;
       locked = locked;
       held = held;
-      room = λ room. can_commit b gone edits moves planned records c.in_ok-records.ensures.at old.tree then.tree c.requires.paths only locked held (c.in-Ok.ensures.room first (beside room.apart)) room;
+      room = λ room. can_commit b gone edits moves planned records c.in_ok-records.ensures.at old.tree then.tree c.requires.paths only locked held ((c.in-Ok.ensures.made first).room (beside room.apart)) room;
     })
 
 pub returns-in-Ok-clause-packed : goal.returns-in-Ok-clause-packed
@@ -238,7 +228,7 @@ returns-in-Ok-clause-packed g c = λ honest told known.
     let old = g.F.Files.history c.args.store.now.files in
     let mid = g.F.Files.history c.repack.new.store.files in
     let then = g.F.Files.history c.plan_all.new.store.files in
-    let first = c.repack.ensures.honest honest in
+    let first = c.repack.ensures.keeps.honest honest in
     let b = base_of c.args.store.now in
     let gone = removes c.args.packed_refs.now in
     let packs = option_map g.O.Lookup.table (objects_in c.args.packed_refs.now) in
@@ -247,10 +237,10 @@ returns-in-Ok-clause-packed g c = λ honest told known.
     let records = c.in_ok-records.records in
     let given = c.deref-2.ensures.value in
     let same = now_of (SameButLocks old.tree) old then (λ path none. refl) (locks_joined old mid then (locks_alone b old mid (c.repack.ensures.moments honest)) (c.plan_all.ensures.moments first)) in
-    let planned = subst (λ (es : List RefEdit). AllPlanned b gone es moves) given (subst (λ (base : Base). AllPlanned base gone c.deref-2.result.now moves) c.repack.ensures.base c.in-Ok.ensures.planned) in
-    let texts = subst (λ (es : List RefEdit). AllHold then.tree es moves) given (c.in-Ok.ensures.texts first) in
-    let repacked = repacked_on b packs old.tree mid.tree then.tree edits records (c.plan_all.ensures.keeps first) (subst (λ (es : List RefEdit). AreRepacked b packs old.tree mid.tree es records) c.deref.ensures.value (c.in_ok-records.ensures.repacked honest told known)) in
-    let back = subst (λ (base : Base). AllGiveKind base.kind edits → AllReadBack base.kind edits) (c.plan_all.ensures.base ∙ c.repack.ensures.base) c.finish.ensures.back in
+    let planned = subst (λ (es : List RefEdit). AllPlanned b gone es moves) given (subst (λ (base : Base). AllPlanned base gone c.deref-2.result.now moves) c.repack.ensures.keeps.base c.in-Ok.ensures.planned) in
+    let texts = subst (λ (es : List RefEdit). AllHold then.tree es moves) given (c.in-Ok.ensures.made first).texts in
+    let repacked = repacked_on b packs old.tree mid.tree then.tree edits records (c.plan_all.ensures.stay first) (subst (λ (es : List RefEdit). AreRepacked b packs old.tree mid.tree es records) c.deref.ensures.value (c.in_ok-records.ensures.repacked honest told known)) in
+    let back = subst (λ (base : Base). AllGiveKind base.kind edits → AllReadBack base.kind edits) (c.plan_all.ensures.keeps.base ∙ c.repack.ensures.keeps.base) c.finish.ensures.back in
     let whole : prepared_of c.finish.result.edits.items c.finish.result.moves.items c.finish.result.packed ≡ prepared_of edits moves records = λ i. prepared_of (c.finish.ensures.edits i).items (c.finish.ensures.moves i).items (c.finish.ensures.packed i) in
     subst (IsPacked b packs gone old.tree then.tree) (sym whole) (record {
       repacked = repacked;
@@ -261,21 +251,48 @@ pub returns-in-Ok-clause-planned : goal.returns-in-Ok-clause-planned
 returns-in-Ok-clause-planned g c =
     let b = base_of c.args.store.now in
     let gone = removes c.args.packed_refs.now in
-    let planned = subst (λ (base : Base). AllPlanned base gone c.deref-2.result.now c.plan_all.new.moves.items) c.repack.ensures.base c.in-Ok.ensures.planned in
+    let planned = subst (λ (base : Base). AllPlanned base gone c.deref-2.result.now c.plan_all.new.moves.items) c.repack.ensures.keeps.base c.in-Ok.ensures.planned in
     let own = subst (λ (es : List RefEdit). AllPlanned b gone es c.plan_all.new.moves.items) c.deref-2.ensures.value planned in
     subst (λ (v : Vec RefEdit Global). AllPlanned b gone v.items c.finish.result.moves.items) (sym c.finish.ensures.edits)
     (subst (λ (v : Vec Move Global). AllPlanned b gone c.args.edits.items v.items) (sym c.finish.ensures.moves) own)
-
-pub returns-in-Ok-clause-unfailed : goal.returns-in-Ok-clause-unfailed
-returns-in-Ok-clause-unfailed g c = c.in-Ok.ensures.unfailed ∙ c.in_ok-records.ensures.unfailed
 
 pub returns-in-Ok-clause-folders : goal.returns-in-Ok-clause-folders
 returns-in-Ok-clause-folders g c = λ honest.
     let old = g.F.Files.history c.args.store.now.files in
     let mid = g.F.Files.history c.repack.new.store.files in
     let then = g.F.Files.history c.plan_all.new.store.files in
-    let first = c.repack.ensures.honest honest in
+    let first = c.repack.ensures.keeps.honest honest in
     let b = base_of c.args.store.now in
     let paths = places_of b c.args.edits.items in
-    let own = subst (λ (es : List RefEdit). Adds (FoldersOnlyOf (places_of b es) mid.tree) mid then) c.deref-2.ensures.value (subst (λ (base : Base). Adds (FoldersOnlyOf (places_of base c.deref-2.result.now) mid.tree) mid then) c.repack.ensures.base (c.plan_all.ensures.folders first)) in
+    let own = subst (λ (es : List RefEdit). Adds (FoldersOnlyOf (places_of b es) mid.tree) mid then) c.deref-2.ensures.value (subst (λ (base : Base). Adds (FoldersOnlyOf (places_of base c.deref-2.result.now) mid.tree) mid then) c.repack.ensures.keeps.base (c.plan_all.ensures.folders first)) in
     onlys_joined paths old mid then (onlys_same paths old mid (c.repack.ensures.folders honest)) own
+
+-- ---- what is kept
+pub returns-in_err-records-clause-keeps : goal.returns-in_err-records-clause-keeps
+returns-in_err-records-clause-keeps g c =
+    let f = g.F.Files.failures in
+    let kept = c.in_err-records.ensures.keeps in
+    let p = err_from_is_err_and c.from_residual.result c.from_residual.ensures.1 in
+    rw (p.1, p.2) (record {
+      honest = kept.honest;
+      base = kept.base;
+      options = kept.options;
+      later = kept.later;
+      quiet = records_quiet (f c.repack.new.store.files ≡ f c.args.store.now.files) c.in_err-records.field-0.0 kept.quiet (λ early. ap (λ s. f s.files) (c.in_err-records.ensures.early early));
+    })
+
+pub returns-in-Ok-clause-keeps : goal.returns-in-Ok-clause-keeps
+returns-in-Ok-clause-keeps g c = store_joined g.F.Files c.args.store.now c.repack.new.store c.plan_all.new.store c.in_ok-records.ensures.keeps c.in-Ok.ensures.keeps (λ quiet. (tt, tt))
+
+pub returns-in-Err-clause-keeps : goal.returns-in-Err-clause-keeps
+returns-in-Err-clause-keeps g c =
+    let kept = store_joined g.F.Files c.args.store.now c.repack.new.store c.plan_all.new.store c.in_ok-records.ensures.keeps c.in-Err.ensures.keeps (λ quiet. (tt, quiet)) in
+    record {
+      honest = λ honest. c.drop_all.ensures.honest (kept.honest honest);
+      base = kept.base;
+      options = kept.options;
+      later = omega (arith, kept.later, c.drop_all.ensures.later);
+      quiet = λ quiet.
+          let parts = c.drop_all.ensures.memory (quiet_other c.drop_all.result quiet) in
+          parts.1 ∙ kept.quiet parts.0;
+    }

@@ -1,6 +1,6 @@
 use Rattle.std.proofs.Common.{inl, inr, ap, refl, subst, arith}
-use Rattle.std.specs.Prelude.{Err, IfOk}
-use Rattle.std.proofs.lemmas.Result.{err_from_is_err_and}
+use Rattle.std.specs.Prelude.{Err}
+use Rattle.std.proofs.lemmas.Result.{IfErr-weaker, err_from_is_err_and}
 use Rattle.gix_ref_file.specs.History.{Adds}
 use Rattle.gix_ref_file.proofs.Histories.{adds_nothing}
 use Rattle.gix_ref_store.specs.RefStates.{RefState, packed_text_in, ref_state}
@@ -9,10 +9,11 @@ use Rattle.gix_ref_way.specs.Ways.{Bytes}
 use Rattle.gix_ref_transaction.specs.Causes.{IfUnresolved}
 use Rattle.gix_ref_transaction.specs.Modes.{objects_in}
 use Rattle.gix_ref_transaction.specs.Preparing.{FailsToPrepare, FoldersFor, GivenCause, IsPrepared, asked_in}
-use Rattle.gix_ref_transaction.specs.Reads.{prepared_of}
-use Rattle.gix_ref_transaction.specs.Resolving.{PackFault}
+use Rattle.gix_ref_transaction.specs.Parts.{parts}
+use Rattle.gix_ref_transaction.specs.Resolving.{PackCause}
 use Rattle.gix_ref_transaction.proofs.Plannings.{given_reads, lent_keeps}
-use Rattle.gix_ref_transaction.proofs.Readies.{err_three, open_counts, open_fault, open_no_records, open_resolves}
+use Rattle.gix_ref_transaction.proofs.Stores.{ok_five, ok_given}
+use Rattle.gix_ref_transaction.proofs.Readies.{open_counts, open_fault, open_no_records, open_resolves}
 use Rattle.gix_ref_transaction.proofs.transaction.prepare.Goals as goal
 
 -- ---- packed records aren't opened
@@ -33,7 +34,7 @@ pub returns-in_err-records-clause-failed : goal.returns-in_err-records-clause-fa
 returns-in_err-records-clause-failed g c =
     let tree = (g.F.Files.history c.args.store.now.files).tree in
     let b = base_of c.args.store.now in
-    let why = PackFault g.F.Files.reading_may_fail g.O.Lookup.may_fail g.O.Lookup.table (objects_in c.args.packed_refs) in
+    let why = PackCause g.F.Files g.O.Lookup (objects_in c.args.packed_refs) in
     let error = c.in_err-records.field-0.0 in
     let p = err_from_is_err_and c.from_residual.result c.from_residual.ensures.1 in
     rw (p.1, p.2) (record {
@@ -51,54 +52,55 @@ returns-in_err-records-clause-failed g c =
 pub returns-clause-keeps : goal.returns-clause-keeps
 returns-clause-keeps g c =
     let history = g.F.Files.history in
+    let kept = c.prepare_with.ensures.keeps in
     record {
-      honest = c.prepare_with.ensures.honest;
-      base = c.prepare_with.ensures.base;
-      options = c.prepare_with.ensures.options;
-      moments = c.prepare_with.ensures.moments;
-      alike = c.prepare_with.ensures.alike;
+      honest = kept.honest;
+      base = kept.base;
+      options = kept.options;
+      moments = kept.moments;
+      alike = kept.alike;
       folders = λ honest.
           let tree = (history c.args.store.now.files).tree in
           let b = base_of c.args.store.now in
           let reads = given_reads b tree c.in_ok-records.records c.as_ref.result c.as_ref.ensures.value (c.in_ok-records.ensures.kept honest) in
-          subst (λ (read : Bytes → RefState). Adds (FoldersFor (asked_in c.args.store.now tree read c.args.committer c.args.edits.items) tree) (history c.args.store.now.files) (history c.prepare_with.new.store.files)) (λ i name. reads name i) (c.prepare_with.ensures.folders honest);
-      later = c.prepare_with.ensures.later;
+          subst (λ (read : Bytes → RefState). Adds (FoldersFor (asked_in c.args.store.now tree read c.args.committer c.args.edits.items) tree) (history c.args.store.now.files) (history c.prepare_with.new.store.files)) (λ i name. reads name i) (kept.folders honest);
+      later = kept.later;
     }
 
 pub returns-clause-prepared : goal.returns-clause-prepared
-returns-clause-prepared g c = λ honest.
+returns-clause-prepared g c =
     let history = g.F.Files.history in
     let tree = (history c.args.store.now.files).tree in
     let b = base_of c.args.store.now in
-    let reads = given_reads b tree c.in_ok-records.records c.as_ref.result c.as_ref.ensures.value (c.in_ok-records.ensures.kept honest) in
-    subst (λ (read : Bytes → RefState). IfOk c.prepare_with.result (λ t. IsPrepared (asked_in c.args.store.now tree read c.args.committer c.args.edits.items) (history c.prepare_with.new.store.files).tree (prepared_of t.edits.items t.moves.items t.packed)))
-    (λ i name. reads name i) (c.prepare_with.ensures.prepared honest)
-
-pub returns-clause-packed : goal.returns-clause-packed
-returns-clause-packed g c = λ honest told.
-    let tree = (g.F.Files.history c.args.store.now.files).tree in
-    let b = base_of c.args.store.now in
-    c.prepare_with.ensures.packed honest told (lent_keeps b.kind (packed_text_in b tree) c.in_ok-records.records c.as_ref.result c.as_ref.ensures.value (c.in_ok-records.ensures.kept honest))
+    let r = c.prepare_with.result in
+    let does = c.prepare_with.ensures in
+    ok_five r (λ t unfailed ready planned prepared packed. record {
+      unfailed = unfailed;
+      ready = ready;
+      planned = planned;
+      prepared = λ honest.
+          let reads = given_reads b tree c.in_ok-records.records c.as_ref.result c.as_ref.ensures.value (c.in_ok-records.ensures.kept honest) in
+          subst (λ (read : Bytes → RefState). IsPrepared (asked_in c.args.store.now tree read c.args.committer c.args.edits.items) (history c.prepare_with.new.store.files).tree (parts t)) (λ i name. reads name i) (prepared honest);
+      packed = λ honest told. packed honest told (lent_keeps b.kind (packed_text_in b tree) c.in_ok-records.records c.as_ref.result c.as_ref.ensures.value (c.in_ok-records.ensures.kept honest));
+    })
+    does.unfailed does.ready does.planned (ok_given _ r does.prepared) does.packed
 
 pub returns-clause-failed : goal.returns-clause-failed
 returns-clause-failed g c =
     let history = g.F.Files.history in
     let f = g.F.Files.failures in
-    let why = PackFault g.F.Files.reading_may_fail g.O.Lookup.may_fail g.O.Lookup.table (objects_in c.args.packed_refs) in
-    err_three _ _ _ _ _ _ c.prepare_with.result
-    (λ error quiet failed resolves. record {
-      memory = quiet;
+    let tree = (history c.args.store.now.files).tree in
+    let b = base_of c.args.store.now in
+    let why = PackCause g.F.Files g.O.Lookup (objects_in c.args.packed_refs) in
+    IfErr-weaker c.prepare_with.result _ _ (λ error left. record {
+      memory = left.memory;
       failed = λ honest.
-          let tree = (history c.args.store.now.files).tree in
-          let b = base_of c.args.store.now in
           let reads = given_reads b tree c.in_ok-records.records c.as_ref.result c.as_ref.ensures.value (c.in_ok-records.ensures.kept honest) in
           let same = subst (λ (read : Bytes → RefState). FailsToPrepare GivenCause (asked_in c.args.store.now tree read c.args.committer c.args.edits.items) (f c.args.store.now.files) (f c.prepare_with.new.store.files) g.F.Files.reading_may_fail (history c.prepare_with.new.store.files).tree error)
-          (λ i name. reads name i) (failed honest) in
+          (λ i name. reads name i) (left.failed honest) in
           record { causes = inr same.causes; counted = same.counted; records = same.records; rolled_back = same.rolled_back };
       resolves = λ honest told.
-          let tree = (history c.args.store.now.files).tree in
-          let b = base_of c.args.store.now in
           let reads = given_reads b tree c.in_ok-records.records c.as_ref.result c.as_ref.ensures.value (c.in_ok-records.ensures.kept honest) in
-          subst (λ (read : Bytes → RefState). IfUnresolved read why c.args.edits.items error) (λ i name. reads name i) (resolves honest told);
+          subst (λ (read : Bytes → RefState). IfUnresolved read why c.args.edits.items error) (λ i name. reads name i) (left.resolves honest told);
     })
-    c.prepare_with.ensures.memory c.prepare_with.ensures.failed c.prepare_with.ensures.resolves
+    c.prepare_with.ensures.failed

@@ -63,7 +63,7 @@ loop-end-preserved g c =
             (so_far.folders honest) (w.make_folder.ensures.folders (so_far.honest honest));
         stay = λ honest. keeps_joined _ _ _ (so_far.stay honest) (w.make_folder.ensures.stay (so_far.honest honest));
         later = omega (arith, so_far.later, w.make_folder.ensures.later);
-        unfailed = w.in_ok-make_folder.ensures.unfailed ∙ so_far.unfailed;
+        unfailed = w.in_ok-make_folder.ensures.quiet ∙ so_far.unfailed;
         made = λ honest. one_made end path _ _ (so_far.made honest) (w.in_ok-make_folder.ensures.kept (so_far.honest honest)) (w.in_ok-make_folder.ensures.made (so_far.honest honest));
       })
       | else-byte-eq47 w ↦ rw w.files-is (record {

@@ -124,7 +124,7 @@ loop-name-preserved g t c =
                 (w.deref-then-is_deeper.ensures.value ∙ (l honest).at)
                 (w.in_ok-clear_way.ensures.gone (so_far.honest honest) (longer_too place path above));
             later = omega (arith, so_far.later, w.clear_way.ensures.later);
-            unfailed = w.in_ok-clear_way.ensures.unfailed ∙ so_far.unfailed;
+            unfailed = w.in_ok-clear_way.ensures.quiet ∙ so_far.unfailed;
           })
       | else-is_deeper w ↦ rw w.files-is (record {
         honest = so_far.honest;

@@ -10,12 +10,14 @@ use Rattle.gix_traverse_graph.specs.Rows.{AllHeld}
 use Rattle.gix_traverse_commit_known.specs.Meeting.{CountsAll}
 use Rattle.gix_traverse_commit_known.specs.Told.{rows_of}
 use Rattle.gix_traverse_commit_known.proofs.Chosen.{take_all}
-use Rattle.gix_traverse_commit.proofs.Counting.{counts_next, painted_list, paints_none, paints_some, unread_counts}
+use Rattle.gix_traverse_commit.proofs.Counting.{painted_list, paints_none, paints_some, unread_counts}
 use Rattle.gix_traverse_commit_known.proofs.Keeping.{kept_next}
+use Rattle.gix_traverse_commit_known.proofs.Meeting.{counts_next}
 use Rattle.gix_traverse_graph.proofs.Lists.{contains_from_at}
 use Rattle.gix_traverse_commit_known.proofs.Painting.{painted_all, painted_reached, known_longer, read_fit, paint_fault, shorter}
 use Rattle.gix_traverse_graph.proofs.RowLemmas.{at_item}
 use Rattle.gix_traverse_commit.proofs.Awaited.{paints_more}
+use Rattle.gix_traverse_graph.specs.declared.parents.Parents.TheVariants.{All}
 use Rattle.gix_traverse_commit.proofs.paint.paint.Goals as goal
 
 pub returns-in_err-commit-clause-refused : goal.returns-in_err-commit-clause-refused
@@ -37,19 +39,19 @@ painted-preserved-in_ok-paint_parents g c =
     let listed = rw (c.painted.invariant.rows, c.painted.invariant.objects) at c.in_ok-commit.ensures.listed in
     let parents = rw (c.painted.invariant.rows, c.painted.invariant.objects) at c.in_ok-commit.ensures.parents in
     let closed = rw c.painted.invariant.rows at c.in_ok-commit.ensures.closed in
-    let counted = rw c.painted.invariant.rows at c.in_ok-commit.ensures.rowed in
+    let one = rw c.painted.invariant.rows at c.fetch.ensures.one in
     let rows = rows_of c.args.source.now.rows in
     let ids = g.F.Lookup.ids c.args.source.now.objects in
     record {
-      objects = c.fetch.ensures.objects ∙ c.painted.invariant.objects;
-      rows = c.fetch.ensures.rows ∙ c.painted.invariant.rows;
+      objects = c.fetch.ensures.reads.objects ∙ c.painted.invariant.objects;
+      rows = c.fetch.ensures.reads.rows ∙ c.painted.invariant.rows;
       only = paints_more c.args.known.now c.painted.known c.paint_parents.new.known c.painted.invariant.only c.in_ok-paint_parents.ensures.only;
       within = (let k = slice_get_within c.paint_parents.new.painted.items c.painted.read id (c.in_ok-paint_parents.ensures.longer c.painted.read id here) in omega arith);
       painted = c.in_ok-paint_parents.ensures.painted c.painted.invariant.painted;
       known = known_longer rows ids items c.paint_parents.new.painted.items c.painted.read id l c.in_ok-paint_parents.ensures.longer c.painted.invariant.known here listed;
-      rowed = (λ h. let r = c.painted.invariant.rowed h in let held = r.0 id (contains_from_at items c.painted.read id here) in (c.in_ok-paint_parents.ensures.rowed rows r.0 (subst (λ (xs : List ObjectId). AllHeld rows xs) (sym c.as_slice.ensures) (closed held)), (counted held).0 ∙ r.1));
+      rowed = (λ h. let r = c.painted.invariant.rowed h in let held = r.0 id (contains_from_at items c.painted.read id here) in (c.in_ok-paint_parents.ensures.rowed rows r.0 (subst (λ (xs : List ObjectId). AllHeld rows xs) (sym c.as_slice.ensures) (closed held)), one.rowed held ∙ r.1));
       counted = counts_next rows items c.paint_parents.new.painted.items c.painted.read id c.args.source.now.lookups c.painted.source.lookups c.fetch.new.self.lookups here c.in_ok-paint_parents.ensures.longer c.painted.invariant.counted
-          (record { stored = (rw c.painted.invariant.rows at c.fetch.ensures.asked); rowed = λ h. (counted h).0 });
+          one;
       walked = (λ unpainted honest commits told.
           let w = c.painted.invariant.walked unpainted honest commits told in
           let e : c.painted.read + 1 ≡ suc c.painted.read = omega arith in
@@ -93,19 +95,19 @@ painted-preserved g c =
     let listed = rw (c.painted.invariant.rows, c.painted.invariant.objects) at c.in_ok-commit.ensures.listed in
     let parents = rw (c.painted.invariant.rows, c.painted.invariant.objects) at c.in_ok-commit.ensures.parents in
     let closed = rw c.painted.invariant.rows at c.in_ok-commit.ensures.closed in
-    let counted = rw c.painted.invariant.rows at c.in_ok-commit.ensures.rowed in
+    let one = rw c.painted.invariant.rows at c.fetch.ensures.one in
     let rows = rows_of c.args.source.now.rows in
     let ids = g.F.Lookup.ids c.args.source.now.objects in
     record {
-      objects = c.fetch.ensures.objects ∙ c.painted.invariant.objects;
-      rows = c.fetch.ensures.rows ∙ c.painted.invariant.rows;
+      objects = c.fetch.ensures.reads.objects ∙ c.painted.invariant.objects;
+      rows = c.fetch.ensures.reads.rows ∙ c.painted.invariant.rows;
       only = paints_more c.args.known.now c.painted.known c.paint_parents.new.known c.painted.invariant.only c.in_ok-paint_parents.ensures.only;
       within = (let k = slice_get_within c.paint_parents.new.painted.items c.painted.read id (c.in_ok-paint_parents.ensures.longer c.painted.read id here) in omega arith);
       painted = c.in_ok-paint_parents.ensures.painted c.painted.invariant.painted;
       known = known_longer rows ids items c.paint_parents.new.painted.items c.painted.read id l c.in_ok-paint_parents.ensures.longer c.painted.invariant.known here listed;
-      rowed = (λ h. let r = c.painted.invariant.rowed h in let held = r.0 id (contains_from_at items c.painted.read id here) in (c.in_ok-paint_parents.ensures.rowed rows r.0 (subst (λ (xs : List ObjectId). AllHeld rows xs) (sym c.as_slice.ensures) (closed held)), (counted held).0 ∙ r.1));
+      rowed = (λ h. let r = c.painted.invariant.rowed h in let held = r.0 id (contains_from_at items c.painted.read id here) in (c.in_ok-paint_parents.ensures.rowed rows r.0 (subst (λ (xs : List ObjectId). AllHeld rows xs) (sym c.as_slice.ensures) (closed held)), one.rowed held ∙ r.1));
       counted = counts_next rows items c.paint_parents.new.painted.items c.painted.read id c.args.source.now.lookups c.painted.source.lookups c.fetch.new.self.lookups here c.in_ok-paint_parents.ensures.longer c.painted.invariant.counted
-          (record { stored = (rw c.painted.invariant.rows at c.fetch.ensures.asked); rowed = λ h. (counted h).0 });
+          one;
       walked = (λ unpainted honest commits told.
           let w = c.painted.invariant.walked unpainted honest commits told in
           let e : c.painted.read + 1 ≡ suc c.painted.read = omega arith in
@@ -135,9 +137,9 @@ returns-in_err-commit-clause-counted_fault g c = λ unpainted.
     let table = g.F.Lookup.table c.args.source.now.objects in
     let rows = rows_of c.args.source.now.rows in
     let f = rw (c.painted.invariant.rows, c.painted.invariant.objects) at c.in_err-commit.ensures.refused in
-    let asked = rw c.painted.invariant.rows at c.fetch.ensures.asked in
+    let asked = rw c.painted.invariant.rows at c.fetch.ensures.one.stored in
     let some : PaintsSome honest rows table c.args.hidden.now c.args.source.now.lookups c.painted.source.lookups = paints_some honest rows table c.args.hidden.now c.painted.known.nodes items c.painted.read c.args.source.now.lookups c.painted.source.lookups c.painted.invariant.counted c.painted.invariant.painted (c.painted.invariant.walked unpainted) in
-    let one = unread_counts honest (g.F.Lookup.may_fail c.args.source.now.objects) rows table c.index.result.now c.in_err-commit.field-0.0 c.painted.source.lookups c.fetch.new.self.lookups f asked c.fetch.ensures.rising in
+    let one = unread_counts All honest (g.F.Lookup.may_fail c.args.source.now.objects) rows table c.index.result.now c.in_err-commit.field-0.0 c.painted.source.lookups c.fetch.new.self.lookups f asked c.fetch.ensures.reads.least in
     rw (p.1, p.2) (c.painted.source.lookups, some, one)
 
 pub returns-in_err-paint_tips-clause-counted_fault : goal.returns-in_err-paint_tips-clause-counted_fault
@@ -154,4 +156,4 @@ returns-in_err-paint_parents-clause-counted_fault g c = λ unpainted.
     let table = g.F.Lookup.table c.args.source.now.objects in
     let rows = rows_of c.args.source.now.rows in
     let some = paints_some honest rows table c.args.hidden.now c.painted.known.nodes c.painted.painted.items c.painted.read c.args.source.now.lookups c.painted.source.lookups c.painted.invariant.counted c.painted.invariant.painted (c.painted.invariant.walked unpainted) in
-    rw (p.1, p.2) (c.painted.source.lookups, some, c.fetch.ensures.rising)
+    rw (p.1, p.2) (c.painted.source.lookups, some, c.fetch.ensures.reads.least)

@@ -54,9 +54,6 @@ pub returns-clause-walked : goal.returns-clause-walked
 returns-clause-walked g c = λ along keep tips listed child which e w r.
     kept_row along tips keep (is_met c.parents.known.nodes) (listed ++ c.parents.known.queue) (length listed) c.parents.parent-index child (c.parents.invariant.walked along keep tips listed child which e w r) (subst (λ (row : List ObjectId). length row ≤ c.parents.parent-index) e c.parents-test.false)
 
-pub returns-clause-grown : goal.returns-clause-grown
-returns-clause-grown g c = c.parents.invariant.grown
-
 pub parents-init : goal.parents-init
 parents-init g c = record {
   accepts = refl;
@@ -75,8 +72,12 @@ returns-clause-asked g c =
     let (xs, asks, w) = c.parents.invariant.once in
     (xs, subst (λ (ps : List ObjectId). IsListOf (Fresh (is_met c.args.known.now.nodes) (is_hidden c.args.known.now.nodes) ps) xs) (take_all c.args.parents.now c.parents.parent-index c.parents-test.false) w.list, asks)
 
-pub returns-clause-left : goal.returns-clause-left
-returns-clause-left g c = c.parents.invariant.left
+pub returns-clause-alone : goal.returns-clause-alone
+returns-clause-alone g c = record {
+  turns = c.parents.invariant.turns;
+  painted = c.parents.invariant.hidden;
+  gains = c.parents.invariant.left;
+}
 
 pub returns-clause-marks : goal.returns-clause-marks
 returns-clause-marks g c = subst (λ (ps : List ObjectId). MarksMet c.args.known.now.nodes ps c.parents.known.nodes) (take_all c.args.parents.now c.parents.parent-index c.parents-test.false) c.parents.invariant.marks

@@ -48,11 +48,12 @@ tips-preserved c =
 pub returns-clause-walked : goal.returns-clause-walked
 returns-clause-walked c = λ along keep which w. kept_start along c.args.tips.now keep (is_met c.tips.known.nodes) [] c.tips.known.queue c.tips.tip-index refl (c.tips.invariant.walked along keep which w) c.tips-test.false
 
-pub returns-clause-grown : goal.returns-clause-grown
-returns-clause-grown c = c.tips.invariant.grown
-
-pub returns-clause-left : goal.returns-clause-left
-returns-clause-left c = c.tips.invariant.left
+pub returns-clause-alone : goal.returns-clause-alone
+returns-clause-alone c = record {
+  turns = c.tips.invariant.turns;
+  painted = c.tips.invariant.hidden;
+  gains = c.tips.invariant.left;
+}
 
 pub returns-clause-met : goal.returns-clause-met
 returns-clause-met c = subst (λ (ts : List ObjectId). MarksAll c.args.known.now.nodes ts c.tips.known.nodes) (take_all c.args.tips.now c.tips.tip-index c.tips-test.false) c.tips.invariant.met

@@ -18,34 +18,34 @@ returns-clause-explored g c =
     let table = g.F.Lookup.table c.args.source.now.objects in
     let old : Known = c.in_ok-known.known in
     let mid : Known = c.walk.new.self in
-    let (high, full, walking) = c.in_ok-walk.ensures.walking in
-    let by_rows = subst (λ (ro : Option (List Row)). Walking (g.F.Lookup.is_honest c.explore_ends.new.source.objects) (g.F.Lookup.may_fail c.explore_ends.new.source.objects) (rows_of ro) (g.F.Lookup.table c.explore_ends.new.source.objects) c.args.parents c.args.tips.now old.ids.keys old.nodes.items high mid.ids.keys mid.nodes.items) c.in_ok-known.ensures.rows walking in
-    let w = subst (λ (ob : g.row.F.Denot). Walking (g.F.Lookup.is_honest ob) (g.F.Lookup.may_fail ob) rows (g.F.Lookup.table ob) c.args.parents c.args.tips.now old.ids.keys old.nodes.items high mid.ids.keys mid.nodes.items) c.in_ok-known.ensures.objects by_rows in
+    let (high, full, walking) = c.in_ok-walk.ensures.walks in
+    let by_rows = subst (λ (ro : Option (List Row)). Walking (g.F.Lookup.is_honest c.explore_ends.new.source.objects) (g.F.Lookup.may_fail c.explore_ends.new.source.objects) (rows_of ro) (g.F.Lookup.table c.explore_ends.new.source.objects) c.args.parents c.args.tips.now old.ids.keys old.nodes.items high mid.ids.keys mid.nodes.items) c.in_ok-known.ensures.same.rows walking in
+    let w = subst (λ (ob : g.row.F.Denot). Walking (g.F.Lookup.is_honest ob) (g.F.Lookup.may_fail ob) rows (g.F.Lookup.table ob) c.args.parents c.args.tips.now old.ids.keys old.nodes.items high mid.ids.keys mid.nodes.items) c.in_ok-known.ensures.same.objects by_rows in
     explored honest may_fail rows table c.args.tips.now c.args.ends.now c.args.parents old mid high c.in_ok-known.ensures.painted w full c.in_ok-walk.ensures.hidden
 
 pub returns-clause-counted : goal.returns-clause-counted
 returns-clause-counted g c =
     let all = returns-clause-explored g c in
-    omega (arith, c.in_ok-walk.ensures.counted, c.in_ok-known.ensures.counted, c.in_ok-known.ensures.painted.all_read, all.all_read)
+    omega (arith, c.in_ok-walk.ensures.counts.most, c.in_ok-known.ensures.counted, c.in_ok-known.ensures.painted.all_read, all.all_read)
 
 pub returns-clause-each : goal.returns-clause-each
 returns-clause-each g c = λ bare zero.
     let all = returns-clause-explored g c in
-    let bare' = subst (λ (ro : Option (List Row)). (x : ObjectId) → Holds (rows_of ro) x → ⊥) (sym c.in_ok-known.ensures.rows) bare in
+    let bare' = subst (λ (ro : Option (List Row)). (x : ObjectId) → Holds (rows_of ro) x → ⊥) (sym c.in_ok-known.ensures.same.rows) bare in
     let first = c.in_ok-known.ensures.each bare zero in
-    let each = c.in_ok-walk.ensures.each c.in_ok-known.ensures.painted.all_read bare' (omega (arith, first, c.in_ok-known.ensures.painted.all_read)) in
+    let each = c.in_ok-walk.ensures.counts.bare c.in_ok-known.ensures.painted.all_read bare' (omega (arith, first, c.in_ok-known.ensures.painted.all_read)) in
     omega (arith, each, first, c.in_ok-known.ensures.painted.all_read, all.all_read)
 
 pub returns-clause-asked : goal.returns-clause-asked
 returns-clause-asked g c =
     let first = c.args.source.now.lookups in
-    let step = subst (λ (ro : Option (List Row)). CountsAll (rows_of ro) c.in_ok-known.known.ids.keys first c.explore_ends.new.source.lookups → CountsAll (rows_of ro) c.walk.new.self.ids.keys first c.walk.new.source.lookups) c.in_ok-known.ensures.rows (c.in_ok-walk.ensures.asked c.in_ok-known.ensures.painted.all_read first) in
+    let step = subst (λ (ro : Option (List Row)). CountsAll (rows_of ro) c.in_ok-known.known.ids.keys first c.explore_ends.new.source.lookups → CountsAll (rows_of ro) c.walk.new.self.ids.keys first c.walk.new.source.lookups) c.in_ok-known.ensures.same.rows (c.in_ok-walk.ensures.counts.each c.in_ok-known.ensures.painted.all_read first) in
     step c.in_ok-known.ensures.asked
 
 pub returns-clause-rowed : goal.returns-clause-rowed
 returns-clause-rowed g c = λ tips_held ends_held.
     let (held, same) = c.in_ok-known.ensures.rowed ends_held in
-    let step = subst (λ (ro : Option (List Row)). AllHeld (rows_of ro) c.in_ok-known.known.ids.keys → AllHeld (rows_of ro) c.args.tips.now → AllHeld (rows_of ro) c.walk.new.self.ids.keys × (c.walk.new.source.lookups ≡ c.explore_ends.new.source.lookups)) c.in_ok-known.ensures.rows c.in_ok-walk.ensures.rowed in
+    let step = subst (λ (ro : Option (List Row)). AllHeld (rows_of ro) c.in_ok-known.known.ids.keys → AllHeld (rows_of ro) c.args.tips.now → AllHeld (rows_of ro) c.walk.new.self.ids.keys × (c.walk.new.source.lookups ≡ c.explore_ends.new.source.lookups)) c.in_ok-known.ensures.same.rows c.in_ok-walk.ensures.counts.held in
     (step held tips_held).1 ∙ same
 
 pub returns-in_err-walk-clause-refused : goal.returns-in_err-walk-clause-refused

@@ -23,32 +23,32 @@ module _ {honest may_fail : Type 0} {rows : List Row} {table : Table} {ends keys
 
 pub returns-in-Some-clause-refused : goal.returns-in-Some-clause-refused
 returns-in-Some-clause-refused g c =
-    let (high, full, walking) = c.in_ok-walk.ensures.walking in
+    let (high, full, walking) = c.in_ok-walk.ensures.walks in
     let w = from_none c.new-known.result c.new-known.ensures.ids c.new-known.ensures.nodes walking in
     let (n, facts, a, e) = c.in-Some.ensures.fault in
     inr (stops _ _ _ _ c.args.ends.now _ _ high w full n facts c.in-Some.error a e)
 
 pub returns-in-None-clause-painted : goal.returns-in-None-clause-painted
 returns-in-None-clause-painted g c =
-    let (high, full, walking) = c.in_ok-walk.ensures.walking in
+    let (high, full, walking) = c.in_ok-walk.ensures.walks in
     let w = from_none c.new-known.result c.new-known.ensures.ids c.new-known.ensures.nodes walking in
     painted _ _ _ _ c.args.ends.now _ _ high w full (record { ids = c.walk.new.self.ids; nodes = c.walk.new.self.nodes; hidden = c.len.result }) refl refl c.len.ensures.len c.in-None.ensures.none
 
 pub returns-in-None-clause-counted : goal.returns-in-None-clause-counted
 returns-in-None-clause-counted g c =
-    let (high, full, walking) = c.in_ok-walk.ensures.walking in
+    let (high, full, walking) = c.in_ok-walk.ensures.walks in
     let w = from_none c.new-known.result c.new-known.ensures.ids c.new-known.ensures.nodes walking in
     let many = as_many _ _ _ _ c.args.ends.now _ _ high w full in
-    omega (arith, c.in_ok-walk.ensures.counted, many)
+    omega (arith, c.in_ok-walk.ensures.counts.most, many)
 
 pub returns-in-None-clause-each : goal.returns-in-None-clause-each
 returns-in-None-clause-each g c = λ bare zero.
-    let (high, full, walking) = c.in_ok-walk.ensures.walking in
+    let (high, full, walking) = c.in_ok-walk.ensures.walks in
     let w = from_none c.new-known.result c.new-known.ensures.ids c.new-known.ensures.nodes walking in
     let many = as_many _ _ _ _ c.args.ends.now _ _ high w full in
     let none : length c.new-known.result.nodes.items ≡ 0 = ap length c.new-known.ensures.nodes in
     let none_either : length c.new-known.result.ids.keys ≡ 0 = ap length c.new-known.ensures.ids in
-    let each = c.in_ok-walk.ensures.each (none ∙ sym none_either) bare (omega (arith, zero)) in
+    let each = c.in_ok-walk.ensures.counts.bare (none ∙ sym none_either) bare (omega (arith, zero)) in
     omega (arith, each, zero, none, many)
 
 pub returns-in-None-clause-asked : goal.returns-in-None-clause-asked
@@ -56,13 +56,13 @@ returns-in-None-clause-asked g c =
     let first = c.args.source.now.lookups in
     let none : length c.new-known.result.nodes.items ≡ 0 = ap length c.new-known.ensures.nodes in
     let none_either : length c.new-known.result.ids.keys ≡ 0 = ap length c.new-known.ensures.ids in
-    c.in_ok-walk.ensures.asked (none ∙ sym none_either) first (subst (λ (ks : List ObjectId). CountsAll (rows_of c.args.source.now.rows) ks first first) (sym c.new-known.ensures.ids) refl)
+    c.in_ok-walk.ensures.counts.each (none ∙ sym none_either) first (subst (λ (ks : List ObjectId). CountsAll (rows_of c.args.source.now.rows) ks first first) (sym c.new-known.ensures.ids) refl)
 
 none_held : (rows : List Row) → AllHeld rows []
 none_held rows x c = let (k, a) = at_from_contains [] x c in absurd (none_at_nil k x a)
 
 pub returns-in-None-clause-rowed : goal.returns-in-None-clause-rowed
-returns-in-None-clause-rowed g c = λ held. c.in_ok-walk.ensures.rowed (subst (AllHeld (rows_of c.args.source.now.rows)) (sym c.new-known.ensures.ids) (none_held (rows_of c.args.source.now.rows))) held
+returns-in-None-clause-rowed g c = λ held. c.in_ok-walk.ensures.counts.held (subst (AllHeld (rows_of c.args.source.now.rows)) (sym c.new-known.ensures.ids) (none_held (rows_of c.args.source.now.rows))) held
 
 pub returns-in_err-walk-clause-refused : goal.returns-in_err-walk-clause-refused
 returns-in_err-walk-clause-refused g c =

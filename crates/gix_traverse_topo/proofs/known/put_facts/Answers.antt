@@ -1,5 +1,4 @@
-use Rattle.std.proofs.Common.{◌≡◌, ◌<◌, List, length, ap, arith}
-use Rattle.gix_traverse_topo.specs.declared.known.Node.{Node}
+use Rattle.std.proofs.Common.{◌<◌, length, ap, arith}
 use Rattle.gix_traverse_topo.proofs.Updates.{facts_put, all_facts_put, same_counts}
 use Rattle.gix_traverse_topo.proofs.known.put_facts.Goals as goal
 

@@ -12,42 +12,42 @@ use Rattle.history_model.specs.declared.Fault.TheVariants.{Memory}
 use Rattle.history.proofs.commit.store_commit.Goals as goal
 
 pub returns-in_err-plan-clause-stores : goal.returns-in_err-plan-clause-stores
-returns-in_err-plan-clause-stores g c = λ r order asked.
+returns-in_err-plan-clause-stores g c = λ r sent asked.
     let F = g.F.Files in
     let old = c.args.repository.now in
     let stopped = err_from_is_err_and c.from_residual.result c.from_residual.ensures.1 in
-    nothing_stored F old r (Commit order) c.in_err-plan.field-0.0 c.from_residual.result (stopped.1 ∙ ap Err stopped.2)
-    (commit_unplanned F.reading_may_fail (CountsFailure F.failures F.reading_may_fail old old) (HasStored F.is_honest F.history old r (Commit order)) (λ may. inr (inr may))
-    r order c.in_err-plan.field-0.0 (c.in_err-plan.ensures r order asked))
+    nothing_stored F old r (Commit sent) c.in_err-plan.field-0.0 c.from_residual.result (stopped.1 ∙ ap Err stopped.2)
+    (commit_unplanned F.reading_may_fail (CountsFailure F.failures F.reading_may_fail old old) (HasStored F.is_honest F.history old r (Commit sent)) (λ may. inr (inr may))
+    r sent c.in_err-plan.field-0.0 (c.in_err-plan.ensures r sent asked))
 
 pub returns-in_err-moved-clause-stores : goal.returns-in_err-moved-clause-stores
-returns-in_err-moved-clause-stores g c = λ r order asked.
+returns-in_err-moved-clause-stores g c = λ r sent asked.
     let stopped = err_from_is_err_and c.from_residual-in_err-moved.result c.from_residual-in_err-moved.ensures.1 in
-    nothing_stored g.F.Files c.args.repository.now r (Commit order) (Fault Memory) c.from_residual-in_err-moved.result (stopped.1 ∙ ap Err stopped.2) tt
+    nothing_stored g.F.Files c.args.repository.now r (Commit sent) (Fault Memory) c.from_residual-in_err-moved.result (stopped.1 ∙ ap Err stopped.2) tt
 
 pub returns-in_err-put_all-clause-stores : goal.returns-in_err-put_all-clause-stores
-returns-in_err-put_all-clause-stores g c = λ r order asked.
-    let plan = c.in_ok-plan.ensures r order asked in
+returns-in_err-put_all-clause-stores g c = λ r sent asked.
+    let plan = c.in_ok-plan.ensures r sent asked in
     let stopped = err_from_is_err_and c.from_residual-in_err-put_all.result c.from_residual-in_err-put_all.ensures.1 in
-    stored_stopped g.F.Files c.args.repository.now r (Commit order) c.put_all.new.repository c.put_all.result c.from_residual-in_err-put_all.result c.in_err-put_all.field-0.0 c.in_err-put_all.was (stopped.1 ∙ ap Err stopped.2) plan.0
-    (commit_stored g.F.Files c.args.repository.now r order c.in_ok-plan.plan plan.0 asked.serves plan.1 c.deref.result.now c.deref.ensures.value c.put_all.new.repository c.put_all.result c.put_all.ensures.puts)
+    stored_stopped g.F.Files c.args.repository.now r (Commit sent) c.put_all.new.repository c.put_all.result c.from_residual-in_err-put_all.result c.in_err-put_all.field-0.0 c.in_err-put_all.was (stopped.1 ∙ ap Err stopped.2) plan.0
+    (commit_stored g.F.Files c.args.repository.now r sent c.in_ok-plan.plan plan.0 asked.serves plan.1 c.deref.result.now c.deref.ensures.value c.put_all.new.repository c.put_all.result c.put_all.ensures.puts)
 
 pub returns-clause-stores : goal.returns-clause-stores
-returns-clause-stores g c = λ r order asked.
-    let plan = c.in_ok-plan.ensures r order asked in
-    let stored = commit_stored g.F.Files c.args.repository.now r order c.in_ok-plan.plan plan.0 asked.serves plan.1 c.deref.result.now c.deref.ensures.value c.put_all.new.repository (Ok tt) c.in_ok-put_all.ensures.puts in
+returns-clause-stores g c = λ r sent asked.
+    let plan = c.in_ok-plan.ensures r sent asked in
+    let stored = commit_stored g.F.Files c.args.repository.now r sent c.in_ok-plan.plan plan.0 asked.serves plan.1 c.deref.result.now c.deref.ensures.value c.put_all.new.repository (Ok tt) c.in_ok-put_all.ensures.puts in
     record {
       ends = (
         record {
           none = plan.0;
           free = stored.stores.0;
           told = record {
-            is = made_id r (commit_move r order) c.in_ok-plan.plan.moves plan.1.moves;
-            moves = one_moved r (commit_move r order) c.in_ok-plan.plan.moves c.in_ok-moved.moved.items c.in_ok-moved.ensures plan.1.moves;
+            is = made_id r (commit_move r sent) c.in_ok-plan.plan.moves plan.1.moves;
+            moves = one_moved r (commit_move r sent) c.in_ok-plan.plan.moves c.in_ok-moved.moved.items c.in_ok-moved.ensures plan.1.moves;
             takes = refl;
           };
         },
-        has_stored g.F.Files c.args.repository.now r (Commit order) _ c.put_all.new.repository asked.serves c.in_ok-put_all.ensures.alone stored,
+        has_stored g.F.Files c.args.repository.now r (Commit sent) _ c.put_all.new.repository asked.serves c.in_ok-put_all.ensures.alone stored,
       );
       passes = stored.passes;
     }

@@ -29,25 +29,25 @@ returns-in-Ok-clause-alone g c = record {
 }
 
 pub returns-in-Err-clause-edits : goal.returns-in-Err-clause-edits
-returns-in-Err-clause-edits g c = λ r order asked.
+returns-in-Err-clause-edits g c = λ r sent asked.
     let F = g.F.Files in
     let now = c.args.repository.now in
-    let may = may_change F.is_honest F.history now r order c.args.moved.now c.args.taken asked in
+    let may = may_change F.is_honest F.history now r sent c.args.moved.now c.args.taken asked in
     record {
-      ends = met_fault _ (HoldNamesOf F.is_honest F.history c.change.new.self (after r order)) c.in-Err.error c.fault_of.result c.fault_of.ensures
+      ends = met_fault _ (HoldNamesOf F.is_honest F.history c.change.new.self (after r sent)) c.in-Err.error c.fault_of.result c.fault_of.ensures
           (λ failed. counted (c.change.ensures.failed r may (c.in-Err.is ∙ ap Err failed)));
-      passes = edits_passed F.is_honest F.history now r order c.args.moved.now c.args.taken asked (F.history c.change.new.self.store.files) (c.change.ensures.moments r may);
+      passes = edits_passed F.is_honest F.history now r sent c.args.moved.now c.args.taken asked (F.history c.change.new.self.store.files) (c.change.ensures.moments r may);
       made = tt;
     }
 
 pub returns-in-Ok-clause-edits : goal.returns-in-Ok-clause-edits
-returns-in-Ok-clause-edits g c = λ r order asked.
+returns-in-Ok-clause-edits g c = λ r sent asked.
     let F = g.F.Files in
     let now = c.args.repository.now in
-    let may = may_change F.is_honest F.history now r order c.args.moved.now c.args.taken asked in
+    let may = may_change F.is_honest F.history now r sent c.args.moved.now c.args.taken asked in
     record {
-      ends = names_changed F.is_honest F.history now r order c.args.moved.now c.args.taken asked c.change.new.self
+      ends = names_changed F.is_honest F.history now r sent c.args.moved.now c.args.taken asked c.change.new.self
           (c.change.ensures.honest may.whole.honest) c.change.ensures.kind (c.in-Ok.ensures.changed r may) (c.in-Ok.ensures.keeps r may);
-      passes = edits_passed F.is_honest F.history now r order c.args.moved.now c.args.taken asked (F.history c.change.new.self.store.files) (c.change.ensures.moments r may);
+      passes = edits_passed F.is_honest F.history now r sent c.args.moved.now c.args.taken asked (F.history c.change.new.self.store.files) (c.change.ensures.moments r may);
       made = c.in-Ok.ensures.changed r may;
     }

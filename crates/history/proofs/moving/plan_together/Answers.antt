@@ -5,11 +5,11 @@ use Rattle.history.proofs.NamesPlanned.{lines_moved}
 use Rattle.history.proofs.moving.plan_together.Goals as goal
 
 pub returns-in_err-plan_moves : goal.returns-in_err-plan_moves
-returns-in_err-plan_moves g c = λ r order h is.
+returns-in_err-plan_moves g c = λ r sent h is.
     let stopped = err_from_is_err_and c.from_residual.result c.from_residual.ensures.1 in
-    moves_unplanned g.F.Files.reading_may_fail r c.from_residual.result c.in_err-plan_moves.field-0.0 (stopped.1 ∙ ap Err stopped.2) order c.plan_moves.result c.in_err-plan_moves.was (c.plan_moves.ensures r order h is)
+    moves_unplanned g.F.Files.reading_may_fail r c.from_residual.result c.in_err-plan_moves.field-0.0 (stopped.1 ∙ ap Err stopped.2) sent c.plan_moves.result c.in_err-plan_moves.was (c.plan_moves.ensures r sent h is)
 
 pub returns : goal.returns
-returns g c = λ r order h is.
-    let planned = c.in_ok-plan_moves.ensures r order h is in
-    record { none = planned.0; free = refl; told = record { is = tt; moves = lines_moved r order order.to c.in_ok-plan_moves.field-0.items planned.1; takes = refl } }
+returns g c = λ r sent h is.
+    let planned = c.in_ok-plan_moves.ensures r sent h is in
+    record { none = planned.0; free = refl; told = record { is = tt; moves = lines_moved r sent sent.to c.in_ok-plan_moves.field-0.items planned.1; takes = refl } }

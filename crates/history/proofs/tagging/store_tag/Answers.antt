@@ -12,42 +12,42 @@ use Rattle.history_model.specs.declared.Fault.TheVariants.{Memory}
 use Rattle.history.proofs.tagging.store_tag.Goals as goal
 
 pub returns-in_err-tagged-clause-stores : goal.returns-in_err-tagged-clause-stores
-returns-in_err-tagged-clause-stores g c = λ r order h is.
+returns-in_err-tagged-clause-stores g c = λ r sent h is.
     let F = g.F.Files in
     let old = c.args.repository.now in
     let stopped = err_from_is_err_and c.from_residual.result c.from_residual.ensures.1 in
-    nothing_stored F old r (Tag order) c.in_err-tagged.field-0.0 c.from_residual.result (stopped.1 ∙ ap Err stopped.2)
-    (tag_unplanned F.reading_may_fail (CountsFailure F.failures F.reading_may_fail old old) (HasStored F.is_honest F.history old r (Tag order)) (λ may. inr (inr may))
-    r order c.in_err-tagged.field-0.0 (c.in_err-tagged.ensures r order h is))
+    nothing_stored F old r (Tag sent) c.in_err-tagged.field-0.0 c.from_residual.result (stopped.1 ∙ ap Err stopped.2)
+    (tag_unplanned F.reading_may_fail (CountsFailure F.failures F.reading_may_fail old old) (HasStored F.is_honest F.history old r (Tag sent)) (λ may. inr (inr may))
+    r sent c.in_err-tagged.field-0.0 (c.in_err-tagged.ensures r sent h is))
 
 pub returns-in_err-moved-clause-stores : goal.returns-in_err-moved-clause-stores
-returns-in_err-moved-clause-stores g c = λ r order h is.
+returns-in_err-moved-clause-stores g c = λ r sent h is.
     let stopped = err_from_is_err_and c.from_residual-in_err-moved.result c.from_residual-in_err-moved.ensures.1 in
-    nothing_stored g.F.Files c.args.repository.now r (Tag order) (Fault Memory) c.from_residual-in_err-moved.result (stopped.1 ∙ ap Err stopped.2) tt
+    nothing_stored g.F.Files c.args.repository.now r (Tag sent) (Fault Memory) c.from_residual-in_err-moved.result (stopped.1 ∙ ap Err stopped.2) tt
 
 pub returns-in_err-put-clause-stores : goal.returns-in_err-put-clause-stores
-returns-in_err-put-clause-stores g c = λ r order h is.
-    let planned = c.in_ok-tagged.ensures r order h is in
+returns-in_err-put-clause-stores g c = λ r sent h is.
+    let planned = c.in_ok-tagged.ensures r sent h is in
     let stopped = err_from_is_err_and c.from_residual-in_err-put.result c.from_residual-in_err-put.ensures.1 in
-    stored_stopped g.F.Files c.args.repository.now r (Tag order) c.put.new.repository c.put.result c.from_residual-in_err-put.result c.in_err-put.field-0.0 c.in_err-put.was (stopped.1 ∙ ap Err stopped.2) planned.none
-    (tag_stored g.F.Files c.args.repository.now r order c.in_ok-tagged.tagged h planned c.put.new.repository c.put.result c.put.ensures.puts)
+    stored_stopped g.F.Files c.args.repository.now r (Tag sent) c.put.new.repository c.put.result c.from_residual-in_err-put.result c.in_err-put.field-0.0 c.in_err-put.was (stopped.1 ∙ ap Err stopped.2) planned.none
+    (tag_stored g.F.Files c.args.repository.now r sent c.in_ok-tagged.tagged h planned c.put.new.repository c.put.result c.put.ensures.puts)
 
 pub returns-clause-stores : goal.returns-clause-stores
-returns-clause-stores g c = λ r order h is.
-    let planned = c.in_ok-tagged.ensures r order h is in
-    let stored = tag_stored g.F.Files c.args.repository.now r order c.in_ok-tagged.tagged h planned c.put.new.repository (Ok tt) c.in_ok-put.ensures.puts in
+returns-clause-stores g c = λ r sent h is.
+    let planned = c.in_ok-tagged.ensures r sent h is in
+    let stored = tag_stored g.F.Files c.args.repository.now r sent c.in_ok-tagged.tagged h planned c.put.new.repository (Ok tt) c.in_ok-put.ensures.puts in
     record {
       ends = (
         record {
           none = planned.none;
           free = stored.stores.0;
           told = record {
-            is = made_id r (tag_move r order) c.in_ok-tagged.tagged.moves planned.moves;
-            moves = one_moved r (tag_move r order) c.in_ok-tagged.tagged.moves c.in_ok-moved.moved.items c.in_ok-moved.ensures planned.moves;
+            is = made_id r (tag_move r sent) c.in_ok-tagged.tagged.moves planned.moves;
+            moves = one_moved r (tag_move r sent) c.in_ok-tagged.tagged.moves c.in_ok-moved.moved.items c.in_ok-moved.ensures planned.moves;
             takes = refl;
           };
         },
-        has_stored g.F.Files c.args.repository.now r (Tag order) _ c.put.new.repository h c.in_ok-put.ensures.alone stored,
+        has_stored g.F.Files c.args.repository.now r (Tag sent) _ c.put.new.repository h c.in_ok-put.ensures.alone stored,
       );
       passes = stored.passes;
     }

@@ -4,6 +4,6 @@ use Rattle.history_plans.proofs.ActorTimes.{actor_made}
 use Rattle.history_plans.proofs.actors.actor_at.Goals as goal
 
 pub returns : goal.returns
-returns c = λ order is good time.
-    let whole = whole_actor c.args.line order is good in
-    actor_made order _ _ c.args.time c.new.result c.new.ensures (c.into_kept.ensures ∙ whole.0) (c.into_kept-2.ensures ∙ whole.1) good time
+returns c = λ sent is good time.
+    let whole = whole_actor c.args.line sent is good in
+    actor_made sent _ _ c.args.time c.new.result c.new.ensures (c.into_kept.ensures ∙ whole.0) (c.into_kept-2.ensures ∙ whole.1) good time

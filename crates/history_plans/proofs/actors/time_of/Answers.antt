@@ -3,4 +3,4 @@ use Rattle.history_plans.proofs.ActorTimes.{time_read}
 use Rattle.history_plans.proofs.actors.time_of.Goals as goal
 
 pub returns : goal.returns
-returns c = λ order is. time_read order c.deref.result.now c.deref-2.result.now c.parse_time.result (c.deref.ensures.value ∙ is.seconds) (c.deref-2.ensures.value ∙ is.offset) c.parse_time.ensures
+returns c = λ sent is. time_read sent c.deref.result.now c.deref-2.result.now c.parse_time.result (c.deref.ensures.value ∙ is.seconds) (c.deref-2.ensures.value ∙ is.offset) c.parse_time.ensures

@@ -15,23 +15,23 @@ use Rattle.history_model.specs.Commands.{Commit}
 use Rattle.history_plans.proofs.base.name_of.Goals as goal
 
 pub returns-then-eq : goal.returns-then-eq
-returns-then-eq g c = λ r order stand named.
+returns-then-eq g c = λ r sent stand named.
     let head = (slice_eq-Decides Decides-eqb c.args.name.now head_word c.eq.result c.eq.ensures).0 c.if-eq.true in
     let e = ap (λ w. bytes_eq w head_word) (sym named ∙ head) ∙ text_itself head_word in
     let is = c.in_ok-from_slice.ensures.items ∙ c.deref.ensures.value ∙ stand.branch in
-    (head_named r order e, record { named = is ∙ sym (head_means r order e); formed = ap is_name is ∙ branch_formed r stand.whole.written })
+    (head_named r sent e, record { named = is ∙ sym (head_means r sent e); formed = ap is_name is ∙ branch_formed r stand.whole.written })
 
 pub returns-in_err-test_name : goal.returns-in_err-test_name
-returns-in_err-test_name g c = λ r order stand named.
+returns-in_err-test_name g c = λ r sent stand named.
     let other = texts_apart c.args.name.now head_word (λ same. absurd (cc ((slice_eq-Decides Decides-eqb c.args.name.now head_word c.eq.result c.eq.ensures).1 same, c.if-eq.false))) in
     let e = ap (λ w. bytes_eq w head_word) (sym named) ∙ other in
     let stopped = err_from_is_err_and c.from_residual-in_err-test_name.result c.from_residual-in_err-test_name.ensures.1 in
-    ends_told g.F.Files.reading_may_fail r (Commit order) name_form_causes (IsNamed r order) c.from_residual-in_err-test_name.result (Refused c.in_err-test_name.field-0.0) (stopped.1 ∙ ap Err stopped.2)
-    (other_named r order e ∙ ap form_cause (sym named) ∙ c.in_err-test_name.ensures)
+    ends_told g.F.Files.reading_may_fail r (Commit sent) name_form_causes (IsNamed r sent) c.from_residual-in_err-test_name.result (Refused c.in_err-test_name.field-0.0) (stopped.1 ∙ ap Err stopped.2)
+    (other_named r sent e ∙ ap form_cause (sym named) ∙ c.in_err-test_name.ensures)
 
 pub returns : goal.returns
-returns g c = λ r order stand named.
+returns g c = λ r sent stand named.
     let other = texts_apart c.args.name.now head_word (λ same. absurd (cc ((slice_eq-Decides Decides-eqb c.args.name.now head_word c.eq.result c.eq.ensures).1 same, c.if-eq.false))) in
     let e = ap (λ w. bytes_eq w head_word) (sym named) ∙ other in
     let is = c.in_ok-from_slice-2.ensures.items ∙ named in
-    (other_named r order e ∙ ap form_cause (sym named) ∙ c.in_ok-test_name.ensures, record { named = is ∙ sym (other_means r order e); formed = ap is_name c.in_ok-from_slice-2.ensures.items ∙ formed_of c.args.name.now c.in_ok-test_name.ensures })
+    (other_named r sent e ∙ ap form_cause (sym named) ∙ c.in_ok-test_name.ensures, record { named = is ∙ sym (other_means r sent e); formed = ap is_name c.in_ok-from_slice-2.ensures.items ∙ formed_of c.args.name.now c.in_ok-test_name.ensures })

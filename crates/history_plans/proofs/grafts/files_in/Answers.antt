@@ -1,13 +1,30 @@
-use Rattle.history_repository.proofs.Tables.{holds_known, root_of}
-use Rattle.history_repository.proofs.ReadingFaults.{read_told}
-use Rattle.history_plans.proofs.grafts.files_in.Goals as goal
+use Rattle.std.proofs.Common.{Err, ap}
 use Rattle.gix_hash.specs.Id.{id_of}
+use Rattle.history_repository.proofs.Tables.{holds_known, root_of}
+use Rattle.history_repository.proofs.ReadingFaults.{find_told, read_told}
+use Rattle.history_plans.proofs.TreesRead.{read_trees, stored_trees}
+use Rattle.history_plans.proofs.grafts.files_in.Goals as goal
 
-pub returns : goal.returns
-returns g c = λ r below stands at.
-    c.in_ok-files_by_trees.ensures.files (holds_known _ _ c.args.repository.now r stands) r.kind below (root_of _ _ c.args.repository.now r stands (id_of c.args.tree.now) below at)
+pub returns-in_err-read_below-clause-files : goal.returns-in_err-read_below-clause-files
+returns-in_err-read_below-clause-files g c = λ r below stands at trees.
+    find_told g.F.Files.reading_may_fail _ c.from_residual.result c.in_err-read_below.field-0.0 c.from_residual.ensures.1 (λ same. c.in_err-read_below.ensures.failed (ap Err same))
 
-pub returns-in_err-files_by_trees : goal.returns-in_err-files_by_trees
-returns-in_err-files_by_trees g c = λ r below stands at.
-    read_told g.F.Files.reading_may_fail _ c.from_residual.result c.in_err-files_by_trees.field-0.0 c.from_residual.ensures.1
-    (c.in_err-files_by_trees.ensures.refused (holds_known _ _ c.args.repository.now r stands) r.kind below (root_of _ _ c.args.repository.now r stands (id_of c.args.tree.now) below at))
+pub returns-clause-files : goal.returns-clause-files
+returns-clause-files g c = λ r below stands at trees.
+    let own = c.args.repository.now in
+    let known = holds_known _ _ own r stands in
+    let kept = c.in_ok-read_below.ensures.kept known (stored_trees _ _ own r stands c.args.read.now trees) in
+    c.in_ok-files.ensures.files (known, kept) r.kind below (root_of _ _ own r stands (id_of c.args.tree.now) below at)
+
+pub returns-in_err-files-clause-files : goal.returns-in_err-files-clause-files
+returns-in_err-files-clause-files g c = λ r below stands at trees.
+    let own = c.args.repository.now in
+    let known = holds_known _ _ own r stands in
+    let kept = c.in_ok-read_below.ensures.kept known (stored_trees _ _ own r stands c.args.read.now trees) in
+    read_told g.F.Files.reading_may_fail _ c.from_residual-in_err-files.result c.in_err-files.field-0.0 c.from_residual-in_err-files.ensures.1
+    (c.in_err-files.ensures.refused (known, kept) r.kind below (root_of _ _ own r stands (id_of c.args.tree.now) below at))
+
+pub returns-clause-trees : goal.returns-clause-trees
+returns-clause-trees g c = λ r stands trees.
+    let own = c.args.repository.now in
+    read_trees _ _ own r stands c.read_below.new.read (c.in_ok-read_below.ensures.kept (holds_known _ _ own r stands) (stored_trees _ _ own r stands c.args.read.now trees))

@@ -1,7 +1,6 @@
 use Rattle.std.proofs.Common.{◌≡◌, ◌∙◌, ap, subst, sym, Err}
 use Rattle.std.proofs.lemmas.Result.{err_from_is_err_and}
 use Rattle.history_model.specs.Bytes.{Bytes}
-use Rattle.history_model.specs.Forms.{is_name}
 use Rattle.history_store.specs.AllNames.{TellsMeeting}
 use Rattle.history_repository.specs.Face.{names_part}
 use Rattle.history_plans.specs.Moving.{bars}
@@ -23,7 +22,7 @@ returns-in_err-collides_any g c = λ r to h is named.
 pub returns : goal.returns
 returns g c = λ r to h is named.
     let place : c.deref.result.now ≡ to.name = c.deref.ensures.value ∙ is.name in
-    let found = c.in_ok-collides_any.ensures.found (ap is_name place ∙ named) h.honest_names h.records in
+    let found = c.in_ok-collides_any.ensures.found h.honest_names h.records in
     new_bars r to c.args.line.now is (sym c.is_some.ensures ∙ c.if-is_some.false) c.in_ok-collides_any.field-0
     (collision_told g.F.Files.is_honest g.F.Files.history c.args.repository.now r h to.name named c.in_ok-collides_any.field-0
     (subst (λ (n : Bytes). TellsMeeting c.args.repository.now.names.kind n (g.F.Files.history (names_part c.args.repository.now)).tree c.in_ok-collides_any.field-0) place found))

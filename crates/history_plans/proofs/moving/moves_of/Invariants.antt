@@ -8,4 +8,4 @@ use Rattle.history_plans.proofs.moving.moves_of.Given as goal
 
 -- the moves of the lines so far
 abbrev pub invariant-loop-line : goal.invariant-loop-line
-invariant-loop-line l = (r : plain.Repository) (order : MoveCommand) (orders : List To) → AllZip (swapped r) l.yielded orders → l.kind ≡ r.kind → IsTeller order l.actor l.message → AreMoves r order orders l.moves.items
+invariant-loop-line l = (r : plain.Repository) (sent : MoveCommand) (orders : List To) → AllZip (swapped r) l.yielded orders → l.kind ≡ r.kind → IsTeller sent l.actor l.message → AreMoves r sent orders l.moves.items

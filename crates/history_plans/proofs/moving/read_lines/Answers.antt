@@ -14,7 +14,7 @@ loop-to-init g c = λ r h. (λ orders are. none_zip IsTo (IsLine r) orders c.new
 pub loop-to-preserved : goal.loop-to-preserved
 loop-to-preserved g c = λ r h.
     let so_far = c.loop-to.invariant r h in (
-      λ orders are. line_added r c.loop-to.yielded c.in-Some.to orders c.loop-to.lines.items c.push.new.self.items c.in_ok-read_line.field-0 are so_far.0 (λ order is. c.in_ok-read_line.ensures.reads r order h is so_far.1) c.in_ok-push.ensures.items,
+      λ orders are. line_added r c.loop-to.yielded c.in-Some.to orders c.loop-to.lines.items c.push.new.self.items c.in_ok-read_line.field-0 are so_far.0 (λ sent is. c.in_ok-read_line.ensures.reads r sent h is so_far.1) c.in_ok-push.ensures.items,
       c.in_ok-read_line.ensures.kept r h so_far.1,
     )
 

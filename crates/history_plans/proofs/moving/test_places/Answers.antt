@@ -6,20 +6,20 @@ use Rattle.history_plans.proofs.ApartLemmas.{collide_parts}
 use Rattle.history_plans.proofs.moving.test_places.Goals as goal
 
 pub returns-then-branch : goal.returns-then-branch
-returns-then-branch g c = λ r order h are named.
-    ap (λ b. cond b (Some Collides) None) (collide_parts r order c.args.lines.now are
-    ∙ ap (λ b. b || list_any (bars r) order.to) (sym c.in_ok-do_lines_collide.ensures ∙ c.if-branch.true))
+returns-then-branch g c = λ r sent h are named.
+    ap (λ b. cond b (Some Collides) None) (collide_parts r sent c.args.lines.now are
+    ∙ ap (λ b. b || list_any (bars r) sent.to) (sym c.in_ok-do_lines_collide.ensures ∙ c.if-branch.true))
 
 pub returns-then-branch-2 : goal.returns-then-branch-2
-returns-then-branch-2 g c = λ r order h are named.
-    ap (λ b. cond b (Some Collides) None) (collide_parts r order c.args.lines.now are
-    ∙ ap (λ b. b || list_any (bars r) order.to) (sym c.in_ok-do_lines_collide.ensures ∙ c.if-branch.false)
-    ∙ sym (c.in_ok-have_barred.ensures r order.to h are named) ∙ c.if-branch-2.true)
+returns-then-branch-2 g c = λ r sent h are named.
+    ap (λ b. cond b (Some Collides) None) (collide_parts r sent c.args.lines.now are
+    ∙ ap (λ b. b || list_any (bars r) sent.to) (sym c.in_ok-do_lines_collide.ensures ∙ c.if-branch.false)
+    ∙ sym (c.in_ok-have_barred.ensures r sent.to h are named) ∙ c.if-branch-2.true)
 
 pub returns : goal.returns
-returns g c = λ r order h are named. (
-  ap (λ b. cond b (Some Collides) None) (collide_parts r order c.args.lines.now are
-      ∙ ap (λ b. b || list_any (bars r) order.to) (sym c.in_ok-do_lines_collide.ensures ∙ c.if-branch.false)
-      ∙ sym (c.in_ok-have_barred.ensures r order.to h are named) ∙ c.if-branch-2.false),
+returns g c = λ r sent h are named. (
+  ap (λ b. cond b (Some Collides) None) (collide_parts r sent c.args.lines.now are
+      ∙ ap (λ b. b || list_any (bars r) sent.to) (sym c.in_ok-do_lines_collide.ensures ∙ c.if-branch.false)
+      ∙ sym (c.in_ok-have_barred.ensures r sent.to h are named) ∙ c.if-branch-2.false),
   tt,
 )

@@ -1,10 +1,10 @@
-use Rattle.std.proofs.Common.{◌≡◌, ◌∙◌, ap, refl, Err, None, codes}
+use Rattle.std.proofs.Common.{◌≡◌, ◌∙◌, ap, refl, Err, None}
 use Rattle.std.specs.Prelude.{map}
 use Rattle.std.proofs.lemmas.Result.{err_from_is_err_and}
 use Rattle.history_repository.specs.NamesShown.{shown_name, told_name}
 use Rattle.history_plans.specs.Packing.{AreAllNames}
 use Rattle.history_repository.proofs.ReadingFaults.{gave_fault, gives_fault}
-use Rattle.history_repository.proofs.NameLines.{listed_are, listed_peeled, listing_fault, not_root}
+use Rattle.history_repository.proofs.NameLines.{listed_are, listed_peeled, listing_fault}
 use Rattle.history_plans.proofs.PackedLines.{all_given, shown_full}
 use Rattle.history_plans.proofs.packing.names_to_pack.Goals as goal
 
@@ -19,7 +19,7 @@ pub returns-in_err-shown : goal.returns-in_err-shown
 returns-in_err-shown g c = λ r s.
     let F = g.F.Files in
     let here = c.args.repository.now in
-    let lists = c.in_ok-names.ensures.found (λ empty. not_root (codes "refs") refl empty) s.honest_names s.records in
+    let lists = c.in_ok-names.ensures.found s.honest_names s.records in
     let peeled = listed_peeled F.is_honest F.history here r s here.names.kind s.names_kind None c.in_ok-names.names.items refl lists in
     let stopped = err_from_is_err_and c.from_residual-in_err-shown.result c.from_residual-in_err-shown.ensures.1 in
     gives_fault F.reading_may_fail (λ names. AreAllNames r names.items) c.from_residual-in_err-shown.result _ (stopped.1 ∙ ap Err stopped.2)
@@ -29,7 +29,7 @@ pub returns : goal.returns
 returns g c = λ r s.
     let F = g.F.Files in
     let here = c.args.repository.now in
-    let lists = c.in_ok-names.ensures.found (λ empty. not_root (codes "refs") refl empty) s.honest_names s.records in
+    let lists = c.in_ok-names.ensures.found s.honest_names s.records in
     let peeled = listed_peeled F.is_honest F.history here r s here.names.kind s.names_kind None c.in_ok-names.names.items refl lists in
     let are = c.in_ok-shown.ensures r s peeled ∙ listed_are F.is_honest F.history here r s here.names.kind s.names_kind None c.in_ok-names.names.items refl lists in
     let full = shown_full r s.whole.whole s.whole.written c.in_ok-shown.shown.items are in

@@ -3,7 +3,6 @@ use Rattle.std.proofs.lemmas.Result.{err_from_is_err_and}
 use Rattle.gix_hash.specs.Id.{id_of}
 use Rattle.history_model.specs.Bytes.{Bytes}
 use Rattle.history_model.specs.Repository.{id_at}
-use Rattle.history_model.specs.Forms.{is_name}
 use Rattle.history_model.specs.declared.Cause.TheVariants.{Collides}
 use Rattle.history_store.specs.AllNames.{TellsMeeting}
 use Rattle.history_repository.specs.Face.{names_part}
@@ -44,7 +43,7 @@ returns-then-branch g c = λ r from to h is.
     let new = held_at g.F.Files.is_honest g.F.Files.history c.args.repository.now r h to c.deref-4.result.now (c.deref-4.ensures.value ∙ is.to_is) are.1 c.in_ok-find.field-0 (c.in_ok-find.ensures.found h.honest_names h.records) in
     let free = free_told _ c.in_ok-find.field-0 new (sym c.is_some.ensures ∙ c.if-is_some.false) in
     let place : c.deref-5.result.now ≡ to = c.deref-5.ensures.value ∙ is.to_is in
-    let found = c.in_ok-collides_any.ensures.found (ap is_name place ∙ are.1) h.honest_names h.records in
+    let found = c.in_ok-collides_any.ensures.found h.honest_names h.records in
     let told = collision_told g.F.Files.is_honest g.F.Files.history c.args.repository.now r h to are.1 c.in_ok-collides_any.field-0
     (subst (λ (n : Bytes). TellsMeeting c.args.repository.now.names.kind n (g.F.Files.history (names_part c.args.repository.now)).tree c.in_ok-collides_any.field-0) place found) in
     let first = by_place r from to named there free c.in_ok-collides_any.field-0 told in
@@ -59,7 +58,7 @@ returns g c = λ r from to h is.
     let new = held_at g.F.Files.is_honest g.F.Files.history c.args.repository.now r h to c.deref-4.result.now (c.deref-4.ensures.value ∙ is.to_is) are.1 c.in_ok-find.field-0 (c.in_ok-find.ensures.found h.honest_names h.records) in
     let free = free_told _ c.in_ok-find.field-0 new (sym c.is_some.ensures ∙ c.if-is_some.false) in
     let place : c.deref-5.result.now ≡ to = c.deref-5.ensures.value ∙ is.to_is in
-    let found = c.in_ok-collides_any.ensures.found (ap is_name place ∙ are.1) h.honest_names h.records in
+    let found = c.in_ok-collides_any.ensures.found h.honest_names h.records in
     let told = collision_told g.F.Files.is_honest g.F.Files.history c.args.repository.now r h to are.1 c.in_ok-collides_any.field-0
     (subst (λ (n : Bytes). TellsMeeting c.args.repository.now.names.kind n (g.F.Files.history (names_part c.args.repository.now)).tree c.in_ok-collides_any.field-0) place found) in
     let first = by_place r from to named there free c.in_ok-collides_any.field-0 told in

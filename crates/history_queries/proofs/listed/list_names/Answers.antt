@@ -7,7 +7,7 @@ use Rattle.history_repository.specs.NamesShown.{folder_cause, shown_name, told_n
 use Rattle.history_repository.specs.Face.{names_part}
 use Rattle.history_queries.proofs.Answered.{handed_on, reading_fault}
 use Rattle.history_repository.proofs.ReadingFaults.{gave_fault}
-use Rattle.history_repository.proofs.NameLines.{asked_folder, asked_is, listed_peeled, listing_fault, names_answered, names_cause, not_root}
+use Rattle.history_repository.proofs.NameLines.{asked_folder, asked_is, listed_peeled, listing_fault, names_answered, names_cause}
 use Rattle.history_queries.proofs.listed.list_names.Goals as goal
 
 pub returns-in_err-test_folder : goal.returns-in_err-test_folder
@@ -30,7 +30,7 @@ returns-in_err-shown g c = λ r s.
     let folder = option_copied c.args.folder in
     let asked = asked_is c.args.folder _ c.unwrap_or-folder.result c.unwrap_or-folder.ensures refl in
     let good : folder_cause (asked_folder folder) ≡ None = ap folder_cause (sym asked) ∙ c.in_ok-test_folder.ensures in
-    let found = c.in_ok-names.ensures.found (λ empty. not_root (asked_folder folder) good (sym asked ∙ empty)) s.honest_names s.records in
+    let found = c.in_ok-names.ensures.found s.honest_names s.records in
     let lists = subst (λ f. ListsAll here.names.kind (g.F.Files.history (names_part here)).tree f c.in_ok-names.names.items) asked found in
     let peeled = listed_peeled g.F.Files.is_honest g.F.Files.history here r s here.names.kind s.names_kind folder c.in_ok-names.names.items good lists in
     handed_on MayFail r (Names folder) c.from_residual-in_err-shown.result _ c.from_residual-in_err-shown.ensures.1
@@ -43,7 +43,7 @@ returns g c = λ r s.
     let folder = option_copied c.args.folder in
     let asked = asked_is c.args.folder _ c.unwrap_or-folder.result c.unwrap_or-folder.ensures refl in
     let good : folder_cause (asked_folder folder) ≡ None = ap folder_cause (sym asked) ∙ c.in_ok-test_folder.ensures in
-    let found = c.in_ok-names.ensures.found (λ empty. not_root (asked_folder folder) good (sym asked ∙ empty)) s.honest_names s.records in
+    let found = c.in_ok-names.ensures.found s.honest_names s.records in
     let lists = subst (λ f. ListsAll here.names.kind (g.F.Files.history (names_part here)).tree f c.in_ok-names.names.items) asked found in
     let peeled = listed_peeled g.F.Files.is_honest g.F.Files.history here r s here.names.kind s.names_kind folder c.in_ok-names.names.items good lists in
     let written = c.in_ok-names_text.ensures ∙ (λ i. reply_text (NamesAre (c.deref.ensures.value i) (map shown_name (c.deref-2.ensures.value i)))) in

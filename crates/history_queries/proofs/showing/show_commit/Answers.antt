@@ -6,10 +6,10 @@ use Rattle.gix_hash.specs.Id.{id_of}
 
 pub returns-in_err-commit : goal.returns-in_err-commit
 returns-in_err-commit g c = λ r word s reads has.
-    let order = Show word None in
+    let sent = Show word None in
     let read = reads_commit r s.whole.whole word (id_of c.args.meant.now.id) reads in
-    handed_on g.F.Files.reading_may_fail r order c.from_residual.result _ c.from_residual.ensures.1
-    (reading_fault g.F.Files.reading_may_fail r order _ (c.in_err-commit.ensures r read.0 s read.1 has))
+    handed_on g.F.Files.reading_may_fail r sent c.from_residual.result _ c.from_residual.ensures.1
+    (reading_fault g.F.Files.reading_may_fail r sent _ (c.in_err-commit.ensures r read.0 s read.1 has))
 
 pub returns : goal.returns
 returns g c = λ r word s reads has.

@@ -17,18 +17,18 @@ returns-then-is_bad_path g c = λ r word bytes s reads has kept.
 
 pub returns-in_err-root : goal.returns-in_err-root
 returns-in_err-root g c = λ r word bytes s reads has kept.
-    let order = Show word (Some bytes) in
+    let sent = Show word (Some bytes) in
     let read = reads_commit r s.whole.whole word (id_of c.args.meant.now.id) reads in
-    handed_on g.F.Files.reading_may_fail r order c.from_residual.result _ c.from_residual.ensures.1
-    (reading_fault g.F.Files.reading_may_fail r order _ (c.in_err-root.ensures r read.0 s read.1 has))
+    handed_on g.F.Files.reading_may_fail r sent c.from_residual.result _ c.from_residual.ensures.1
+    (reading_fault g.F.Files.reading_may_fail r sent _ (c.in_err-root.ensures r read.0 s read.1 has))
 
 pub returns-in_err-found_below : goal.returns-in_err-found_below
 returns-in_err-found_below g c = λ r word bytes s reads has kept.
-    let order = Show word (Some bytes) in
+    let sent = Show word (Some bytes) in
     let read = reads_commit r s.whole.whole word (id_of c.args.meant.now.id) reads in
     let folder = root_at r s.whole.whole.store (id_of c.args.meant.now.id) read.0 c.in_ok-root.root read.1 (c.in_ok-root.ensures r read.0 s read.1 has) in
-    handed_on g.F.Files.reading_may_fail r order c.from_residual-in_err-found_below.result _ c.from_residual-in_err-found_below.ensures.1
-    (reading_fault g.F.Files.reading_may_fail r order _ (c.in_err-found_below.ensures r read.0.files s folder))
+    handed_on g.F.Files.reading_may_fail r sent c.from_residual-in_err-found_below.result _ c.from_residual-in_err-found_below.ensures.1
+    (reading_fault g.F.Files.reading_may_fail r sent _ (c.in_err-found_below.ensures r read.0.files s folder))
 
 pub returns-in-None : goal.returns-in-None
 returns-in-None g c = λ r word bytes s reads has kept.

@@ -17,8 +17,8 @@ returns-in-Ok-clause-stands g c = λ objects names.
     let honest = subst g.F.Files.is_honest (sym c.new-names.ensures.files) names in
     let part = part_of history facts c.in-Ok.branch.items c.new-names.result.store.files c.args.names c.new-names.result.kind kind c.new-names.ensures.files (c.new-names.ensures.kind ∙ c.kind.ensures)
     (c.in-Ok.ensures.stands honest) in
-    let keeps = subst (λ files. KeepsRecords c.read_names.new.names (history files).tree) c.new-names.ensures.files (c.in-Ok.ensures.keeps honest) in
-    opened_as_one kind pair ids facts (c.requires objects) (record { objects = c.args.objects; names = c.read_names.new.names; branch = c.in-Ok.branch }) (λ i. ids) part keeps
+    let keeps = subst (λ files. KeepsRecords c.survey_names.new.names (history files).tree) c.new-names.ensures.files (c.in-Ok.ensures.keeps honest) in
+    opened_as_one kind pair ids facts (c.requires objects) (record { objects = c.args.objects; names = c.survey_names.new.names; branch = c.in-Ok.branch }) (λ i. ids) part keeps
 
 pub returns-in-Ok-clause-same : goal.returns-in-Ok-clause-same
 returns-in-Ok-clause-same g c = λ r objects names stands.
@@ -30,8 +30,8 @@ returns-in-Ok-clause-same g c = λ r objects names stands.
     let honest = subst g.F.Files.is_honest (sym c.new-names.ensures.files) names in
     let part = part_of history facts c.in-Ok.branch.items c.new-names.result.store.files c.args.names c.new-names.result.kind kind c.new-names.ensures.files (c.new-names.ensures.kind ∙ c.kind.ensures)
     (c.in-Ok.ensures.stands honest) in
-    let keeps = subst (λ files. KeepsRecords c.read_names.new.names (history files).tree) c.new-names.ensures.files (c.in-Ok.ensures.keeps honest) in
-    opened_as kind pair ids facts (c.requires objects) (record { objects = c.args.objects; names = c.read_names.new.names; branch = c.in-Ok.branch }) (λ i. ids) part keeps r stands
+    let keeps = subst (λ files. KeepsRecords c.survey_names.new.names (history files).tree) c.new-names.ensures.files (c.in-Ok.ensures.keeps honest) in
+    opened_as kind pair ids facts (c.requires objects) (record { objects = c.args.objects; names = c.survey_names.new.names; branch = c.in-Ok.branch }) (λ i. ids) part keeps r stands
 
 pub returns-in-Err-clause-refused : goal.returns-in-Err-clause-refused
 returns-in-Err-clause-refused g c = λ objects names.

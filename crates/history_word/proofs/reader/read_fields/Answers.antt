@@ -63,7 +63,7 @@ returns-in_ok-read_actor-in-Actor g c =
     rw (c.in-Actor.is) (
       a.0,
       a.1,
-      (actor_takes c.in-Actor.line actor a.0 _ _ a.2.0 (λ l. IfSome actor (λ x. IsActor x l)) (λ order l d k. c.set_actor.ensures.commit order l d k) (λ order l d k. c.set_actor.ensures.tag order l d k) (λ order l d k. c.set_actor.ensures.moves order l d k) a.2.0.is, a.2.1),
+      (actor_takes c.in-Actor.line actor a.0 _ _ a.2.0 (λ l. IfSome actor (λ x. IsActor x l)) (λ sent l d k. c.set_actor.ensures.commit sent l d k) (λ sent l d k. c.set_actor.ensures.tag sent l d k) (λ sent l d k. c.set_actor.ensures.moves sent l d k) a.2.0.is, a.2.1),
     )
 
 pub returns-in_ok-read_field-in-Message : goal.returns-in_ok-read_field-in-Message
@@ -72,7 +72,7 @@ returns-in_ok-read_field-in-Message g c =
     rw (c.in-Message.is) (
       a.0,
       a.1,
-      (message_fields c.in-Message.size a.0 _ _ a.2.0 a.2.1 a.2.2 (λ order d. c.set_message.ensures.commit order a.2.0 d a.2.3) (λ order d. c.set_message.ensures.tag order a.2.0 d a.2.3) (λ order d. c.set_message.ensures.moves order a.2.0 d a.2.3), a.2.4),
+      (message_fields c.in-Message.size a.0 _ _ a.2.0 a.2.1 a.2.2 (λ sent d. c.set_message.ensures.commit sent a.2.0 d a.2.3) (λ sent d. c.set_message.ensures.tag sent a.2.0 d a.2.3) (λ sent d. c.set_message.ensures.moves sent a.2.0 d a.2.3), a.2.4),
     )
 
 pub returns-in-Parent : goal.returns-in-Parent

@@ -22,5 +22,5 @@ returns g c =
     let took = a.2.0 in (
       a.0,
       a.1,
-      (record { paths = took.paths; heads = sym c.as_slice.ensures ∙ took.heads; spelled = took.spelled; is = λ order h. c.finish.ensures order took.paths h took.is }, a.2.1),
+      (record { paths = took.paths; heads = sym c.as_slice.ensures ∙ took.heads; spelled = took.spelled; is = λ sent h. c.finish.ensures sent took.paths h took.is }, a.2.1),
     )

@@ -5,8 +5,8 @@ use Rattle.gix_object_nodes.specs.Nodes.{slots_of, slot_in, child_of}
 use Rattle.gix_object_nodes.specs.Files.{through}
 use Rattle.gix_object_nodes.specs.Marks.{marks_of, changed_in, slot_if, slots_if, due_in}
 use Rattle.gix_object_nodes.proofs.Due.{due_forest, due_row}
-use Rattle.gix_object_nodes.proofs.Slots.{node_at}
-use Rattle.gix_object_nodes.proofs.ReachedTrees.{AreMarked, root_marked, marked_more, unmarked_more, all_marked, is_set, marks_back}
+use Rattle.gix_object_nodes.proofs.Slots.{given_back, node_at}
+use Rattle.gix_object_nodes.proofs.ReachedTrees.{AreMarked, root_marked, marked_more, unmarked_more, all_marked, is_set}
 use Rattle.gix_object_nodes.proofs.write.reached.reached.Goals.{then-index, else-index}
 use Rattle.gix_object_nodes.proofs.write.reached.reached.Goals as goal
 
@@ -47,7 +47,7 @@ loop-i-preserved c =
       | then-index w ↦
           let new = w.mark.new.marks in
           let n : c.loop-i.marks.len ≡ length new = omega (arith, w.mark.auto.marks, w.as_mut_slice.ensures.len) in
-          let items : c.if-index.marks.items ≡ new = ap (λ (v : Vec Bool Global). v.items) w.marks-is ∙ marks_back c.loop-i.marks.len new _ n in
+          let items : c.if-index.marks.items ≡ new = ap (λ (v : Vec Bool Global). v.items) w.marks-is ∙ given_back c.loop-i.marks.len new _ n in
           let same = w.as_mut_slice.ensures.value in
           record {
             len = ap length items ∙ w.mark.auto.marks ∙ ap length same ∙ c.loop-i.invariant.len;

@@ -5,6 +5,7 @@ use Rattle.gix_ref_file.proofs.Histories.{adds_weaker}
 use Rattle.gix_ref_lock.proofs.LockLemmas.{written_others, filled_by, on_ok_both, must_rise, written_stays}
 use Rattle.gix_ref_way.proofs.FoldersStay.{while_written}
 use Rattle.gix_ref_file.proofs.Rooted.{file_room}
+use Rattle.gix_ref_lock.proofs.Kept.{quiet_of}
 use Rattle.gix_ref_lock.proofs.lock.Lock.fill.Goals as goal
 
 pub returns-clause-moments : goal.returns-clause-moments
@@ -21,11 +22,6 @@ returns-clause-filled g c = λ honest.
     let change = subst (λ (path : List ℕ). Makes (to_write path c.args.bytes.now) old new c.write.result) c.deref.ensures.value (c.write.ensures.change honest) in
     on_ok_both c.write.result (λ may is. filled_by c.args.self.now.path.items c.args.bytes.now old.tree new.tree may is) change.allowed change.made
 
-pub returns-clause-folders : goal.returns-clause-folders
-returns-clause-folders g c = λ honest.
-    let old = g.F.Files.history c.args.files.now in
-    adds_weaker old (g.F.Files.history c.write.new.self) (c.write.ensures.change honest).moments (λ x left. while_written c.deref.result.now c.args.bytes.now old.tree x left)
-
 pub returns-clause-failed : goal.returns-clause-failed
 returns-clause-failed g c = λ honest is failed.
     let old = (g.F.Files.history c.args.files.now).tree in
@@ -38,3 +34,13 @@ returns-clause-stays g c = λ honest is.
     let new = g.F.Files.history c.write.new.self in
     let change = subst (λ (path : List ℕ). Makes (to_write path c.args.bytes.now) old new c.write.result) c.deref.ensures.value (c.write.ensures.change honest) in
     written_stays c.args.self.now.path.items c.args.bytes.now old new change.moments is
+
+pub returns-clause-keeps : goal.returns-clause-keeps
+returns-clause-keeps g c = record {
+  honest = c.write.ensures.honest;
+  later = c.write.ensures.later;
+  quiet = quiet_of c.write.result c.write.ensures.unfailed c.write.ensures.memory;
+  folders = λ honest.
+      let old = g.F.Files.history c.args.files.now in
+      adds_weaker old (g.F.Files.history c.write.new.self) (c.write.ensures.change honest).moments (λ x left. while_written c.deref.result.now c.args.bytes.now old.tree x left);
+}

@@ -1,15 +1,15 @@
-use Rattle.std.proofs.Common.{◌∙◌, ap, sym, map, subst, inl, inr, ⊎_elim, List, ℕ, arith}
+use Rattle.std.proofs.Common.{◌∙◌, ap, sym, map, subst, inl, inr, ⊎_elim, List, ℕ}
 use Rattle.std.specs.Prelude.{is_some}
 use Rattle.std.proofs.lemmas.Result.{err_from_is_err_and}
 use Rattle.gix_ref_file.specs.Tree.{bytes_of}
 use Rattle.gix_ref_file.specs.Changes.{is_file_at}
 use Rattle.gix_ref_way.specs.Ways.{file_at}
-use Rattle.gix_ref_way.proofs.FoldersMade.{risen_later}
 use Rattle.gix_ref_file.specs.History.{Adds}
 use Rattle.gix_ref_lock.specs.Locks.{lock_of, OthersStay}
 use Rattle.gix_ref_lock.specs.RecordEdits.{line_in}
 use Rattle.gix_ref_lock.proofs.GivenUp.{second_half}
-use Rattle.gix_ref_lock.proofs.LockLemmas.{others_joined, folders_joined}
+use Rattle.gix_ref_lock.proofs.Kept.{kept_joined}
+use Rattle.gix_ref_lock.proofs.LockLemmas.{others_joined}
 use Rattle.gix_ref_transaction.proofs.RecordLines.{holds_records, known_of}
 use Rattle.gix_ref_transaction.proofs.repacking.records.written.Goals as goal
 
@@ -20,7 +20,7 @@ returns-in_err-prepared-clause-moments g c = λ honest.
     let new = g.F.Files.history c.prepare.new.files in
     let path = c.in_ok-begun.begun.lock.beside ∙ ap lock_of (c.in_ok-begun.ensures.begun honest).here in
     others_joined (lock_of c.args.place.now) old mid new (c.new.ensures.moments honest)
-    (subst (λ (l : List ℕ). Adds (OthersStay l mid.tree) mid new) path (c.prepare.ensures.moments (c.new.ensures.honest honest)))
+    (subst (λ (l : List ℕ). Adds (OthersStay l mid.tree) mid new) path (c.prepare.ensures.moments (c.new.ensures.keeps.honest honest)))
 
 pub returns-clause-moments : goal.returns-clause-moments
 returns-clause-moments g c = λ honest.
@@ -29,7 +29,7 @@ returns-clause-moments g c = λ honest.
     let new = g.F.Files.history c.prepare.new.files in
     let path = c.in_ok-begun.begun.lock.beside ∙ ap lock_of (c.in_ok-begun.ensures.begun honest).here in
     others_joined (lock_of c.args.place.now) old mid new (c.new.ensures.moments honest)
-    (subst (λ (l : List ℕ). Adds (OthersStay l mid.tree) mid new) path (c.prepare.ensures.moments (c.new.ensures.honest honest)))
+    (subst (λ (l : List ℕ). Adds (OthersStay l mid.tree) mid new) path (c.prepare.ensures.moments (c.new.ensures.keeps.honest honest)))
 
 pub returns-clause-held : goal.returns-clause-held
 returns-clause-held g c = λ honest some keeps.
@@ -38,57 +38,48 @@ returns-clause-held g c = λ honest some keeps.
     let new = (g.F.Files.history c.prepare.new.files).tree in
     let told = c.in_ok-prepared.ensures in
     let records = c.in_ok-begun.ensures.records honest (known_of c.args.kind (file_at old c.args.place.now) c.args.packed keeps) in
-    holds_records c.args.kind c.args.place.now old mid new (map line_in c.args.lines.items) c.in_ok-begun.begun c.in_ok-prepared.prepared (c.in_ok-begun.ensures.begun honest) records told.lock told.buffer (told.written some)
-    (told.prepared (c.new.ensures.honest honest) some)
-
-pub returns-in_err-begun-clause-failed : goal.returns-in_err-begun-clause-failed
-returns-in_err-begun-clause-failed g c = λ honest place read.
-    let p = err_from_is_err_and c.from_residual.result c.from_residual.ensures.1 in
-    rw (p.1, p.2) (⊎_elim inr inl (c.in_err-begun.ensures.failed honest place read))
-
-pub returns-in_err-prepared-clause-failed : goal.returns-in_err-prepared-clause-failed
-returns-in_err-prepared-clause-failed g c = λ honest place read.
-    let mid = (g.F.Files.history c.new.new.files).tree in
-    let f = g.F.Files.failures in
-    let begun = c.in_ok-begun.ensures.begun honest in
-    let path = c.in_ok-begun.begun.lock.beside ∙ ap lock_of begun.here in
-    let there = ap (is_file_at mid) path ∙ ap (λ o. is_some (bytes_of o)) begun.taken.held in
-    let fails = c.in_err-prepared.ensures.failed (c.new.ensures.honest honest) there in
-    let p = err_from_is_err_and c.from_residual-in_err-prepared.result c.from_residual-in_err-prepared.ensures.1 in
-    rw (p.1, p.2) (⊎_elim (λ risen. inr (inl (risen_later (f c.args.files.now) (f c.new.new.files) (f c.prepare.new.files) (f c.prepare.new.files) c.new.ensures.later risen (omega arith)))) inl fails)
-
-pub returns-in_err-prepared-clause-folders : goal.returns-in_err-prepared-clause-folders
-returns-in_err-prepared-clause-folders g c = λ honest.
-    folders_joined (g.F.Files.history c.args.files.now) (g.F.Files.history c.new.new.files) (g.F.Files.history c.prepare.new.files) (c.new.ensures.folders honest) (c.prepare.ensures.folders (c.new.ensures.honest honest))
-
-pub returns-clause-folders : goal.returns-clause-folders
-returns-clause-folders g c = λ honest.
-    folders_joined (g.F.Files.history c.args.files.now) (g.F.Files.history c.new.new.files) (g.F.Files.history c.prepare.new.files) (c.new.ensures.folders honest) (c.prepare.ensures.folders (c.new.ensures.honest honest))
+    holds_records c.args.kind c.args.place.now old mid new (map line_in c.args.lines.items) c.in_ok-begun.begun c.in_ok-prepared.prepared (c.in_ok-begun.ensures.begun honest) records told.same.lock told.same.buffer (told.written some)
+    (told.prepared (c.new.ensures.keeps.honest honest) some)
 
 pub returns-clause-locked : goal.returns-clause-locked
 returns-clause-locked g c = λ honest.
     let new = (g.F.Files.history c.prepare.new.files).tree in
     let told = c.in_ok-prepared.ensures in
-    ap (λ l. is_file_at new l.path.items) told.lock ∙ told.held (c.new.ensures.honest honest) (c.in_ok-begun.ensures.held honest)
+    ap (λ l. is_file_at new l.path.items) told.same.lock ∙ told.held (c.new.ensures.keeps.honest honest) (c.in_ok-begun.ensures.held honest)
 
-pub returns-in_err-prepared-clause-rolled_back : goal.returns-in_err-prepared-clause-rolled_back
-returns-in_err-prepared-clause-rolled_back g c = λ honest.
+pub returns-in_err-begun-clause-keeps : goal.returns-in_err-begun-clause-keeps
+returns-in_err-begun-clause-keeps g c =
+    let p = err_from_is_err_and c.from_residual.result c.from_residual.ensures.1 in
+    rw (p.1, p.2) c.in_err-begun.ensures.keeps
+
+pub returns-in_err-prepared-clause-keeps : goal.returns-in_err-prepared-clause-keeps
+returns-in_err-prepared-clause-keeps g c =
+    let p = err_from_is_err_and c.from_residual-in_err-prepared.result c.from_residual-in_err-prepared.ensures.1 in
+    rw (p.1, p.2) (kept_joined g.F.Files c.args.files.now c.new.new.files c.prepare.new.files c.in_ok-begun.ensures.keeps c.in_err-prepared.ensures.keeps (λ short. (tt, short)))
+
+pub returns-clause-keeps : goal.returns-clause-keeps
+returns-clause-keeps g c = kept_joined g.F.Files c.args.files.now c.new.new.files c.prepare.new.files c.in_ok-begun.ensures.keeps c.in_ok-prepared.ensures.keeps (λ quiet. (tt, tt))
+
+pub returns-in_err-begun-clause-failed : goal.returns-in_err-begun-clause-failed
+returns-in_err-begun-clause-failed g c = λ honest.
+    let p = err_from_is_err_and c.from_residual.result c.from_residual.ensures.1 in
+    rw (p.1, p.2) (record {
+      rolled_back = c.in_err-begun.ensures.rolled_back honest;
+      failed = λ place read. inr (⊎_elim inr inl (c.in_err-begun.ensures.failed honest place read));
+    })
+
+pub returns-in_err-prepared-clause-failed : goal.returns-in_err-prepared-clause-failed
+returns-in_err-prepared-clause-failed g c = λ honest.
+    let mid = (g.F.Files.history c.new.new.files).tree in
     let new = (g.F.Files.history c.prepare.new.files).tree in
     let f = g.F.Files.failures in
+    let then = c.new.ensures.keeps.honest honest in
     let begun = c.in_ok-begun.ensures.begun honest in
     let path = c.in_ok-begun.begun.lock.beside ∙ ap lock_of begun.here in
     let none = ap (λ o. is_some (bytes_of o)) begun.taken.free in
-    let left = c.in_err-prepared.ensures.rolled_back (c.new.ensures.honest honest) (c.in_ok-begun.ensures.held honest) in
+    let there = ap (is_file_at mid) path ∙ ap (λ o. is_some (bytes_of o)) begun.taken.held in
     let p = err_from_is_err_and c.from_residual-in_err-prepared.result c.from_residual-in_err-prepared.ensures.1 in
-    rw (p.1, p.2) (⊎_elim (λ gone. inl (ap (is_file_at new) (sym path) ∙ gone ∙ sym none))
-    (λ rest. inr (⊎_elim (λ risen. inl (second_half (f c.args.files.now) (f c.new.new.files) (f c.prepare.new.files) c.new.ensures.later risen)) inr rest)) left)
-
-pub returns-in_err-begun-clause-memory : goal.returns-in_err-begun-clause-memory
-returns-in_err-begun-clause-memory g c =
-    let p = err_from_is_err_and c.from_residual.result c.from_residual.ensures.1 in
-    rw (p.1, p.2) c.in_err-begun.ensures.memory
-
-pub returns-in_err-prepared-clause-memory : goal.returns-in_err-prepared-clause-memory
-returns-in_err-prepared-clause-memory g c =
-    let p = err_from_is_err_and c.from_residual-in_err-prepared.result c.from_residual-in_err-prepared.ensures.1 in
-    rw (p.1, p.2) (λ short. c.in_err-prepared.ensures.memory short ∙ c.in_ok-begun.ensures.unfailed)
+    rw (p.1, p.2) (record {
+      rolled_back = inr (⊎_elim (λ risen. inl (second_half (f c.args.files.now) (f c.new.new.files) (f c.prepare.new.files) c.new.ensures.keeps.later risen)) inr (c.in_err-prepared.ensures.failed then there));
+      failed = λ place read. inr (⊎_elim (λ risen. inr (inl (second_half (f c.args.files.now) (f c.new.new.files) (f c.prepare.new.files) c.new.ensures.keeps.later risen))) inl (c.in_err-prepared.ensures.failed then there));
+    })

@@ -90,7 +90,7 @@ returns-in_err-commit-clause-failed g c = λ honest can.
     let p = err_from_is_err_and c.from_residual.result c.from_residual.ensures.1 in
     rw (p.1, p.2) (c.in_err-commit.ensures.failed once honest own)
 
-pub returns-in_err-commit-clause-memory : goal.returns-in_err-commit-clause-memory
-returns-in_err-commit-clause-memory g c =
+pub returns-in_err-commit-clause-keeps : goal.returns-in_err-commit-clause-keeps
+returns-in_err-commit-clause-keeps g c =
     let p = err_from_is_err_and c.from_residual.result c.from_residual.ensures.1 in
-    rw (p.1, p.2) c.in_err-commit.ensures.memory
+    rw (p.1, p.2) c.in_err-commit.ensures.keeps

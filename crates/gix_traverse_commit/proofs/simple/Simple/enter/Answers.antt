@@ -51,24 +51,24 @@ returns-clause-going g c = λ honest commits told a listed sure at.
     let accepts = g.P.Accept.accepts in
     let ids = g.F.Lookup.ids c.args.self.now.source.objects in
     let rows = rows_of c.args.self.now.source.rows in
-    let honest' = subst (λ (o : g.row.F.Denot). g.F.Lookup.is_honest o) (sym c.fetch.ensures.objects) honest in
-    let sure' = subst (λ (o : g.row.F.Denot). IsSure (g.F.Lookup.may_fail o) a) (sym c.fetch.ensures.objects) sure in
-    let told' = subst (λ (o : g.row.F.Denot). AreTold (rows_of c.fetch.new.self.rows) (g.F.Lookup.table o) commits) (sym c.fetch.ensures.objects) (subst (λ (r : Option (List Row)). AreTold (rows_of r) (g.F.Lookup.table c.args.self.now.source.objects) commits) (sym c.fetch.ensures.rows) told) in
+    let honest' = subst (λ (o : g.row.F.Denot). g.F.Lookup.is_honest o) (sym c.fetch.ensures.reads.objects) honest in
+    let sure' = subst (λ (o : g.row.F.Denot). IsSure (g.F.Lookup.may_fail o) a) (sym c.fetch.ensures.reads.objects) sure in
+    let told' = subst (λ (o : g.row.F.Denot). AreTold (rows_of c.fetch.new.self.rows) (g.F.Lookup.table o) commits) (sym c.fetch.ensures.reads.objects) (subst (λ (r : Option (List Row)). AreTold (rows_of r) (g.F.Lookup.table c.args.self.now.source.objects) commits) (sym c.fetch.ensures.reads.rows) told) in
     let same = c.as_slice.ensures ∙ c.in_ok-commit.ensures.parents honest commits told in
     let asked = same ∙ ap (λ (p : Parents). asked_parents p commits c.args.id) (at_order accepts ids commits a listed c.args.id c.args.self.now at).0 in
-    let known : IsKnown (rows_of c.fetch.new.self.rows) ids c.args.id = subst (λ (r : Option (List Row)). IsKnown (rows_of r) ids c.args.id) (sym c.fetch.ensures.rows) c.in_ok-commit.ensures.listed in
-    let begun = at_source accepts ids commits a listed c.args.id c.args.self.now (record c.fetch.new.self { buffer = c.replace-content.new.dest }) c.fetch.ensures.rows at in
+    let known : IsKnown (rows_of c.fetch.new.self.rows) ids c.args.id = subst (λ (r : Option (List Row)). IsKnown (rows_of r) ids c.args.id) (sym c.fetch.ensures.reads.rows) c.in_ok-commit.ensures.listed in
+    let begun = at_source accepts ids commits a listed c.args.id c.args.self.now (record c.fetch.new.self { buffer = c.replace-content.new.dest }) c.fetch.ensures.reads.rows at in
     let under = c.in_ok-meet_all.ensures.going honest' commits told' ids a listed c.args.id sure' asked known begun in
     under_source accepts ids commits a (listed ++ c.args.id ∷ []) c.meet_all.new.self (record c.meet_all.new.self.source { buffer = c.replace-content.result }) c.kind-self.result refl under
 
 pub returns-clause-awaits : goal.returns-clause-awaits
 returns-clause-awaits g c = λ honest commits told.
-    let honest' = subst (λ (o : g.row.F.Denot). g.F.Lookup.is_honest o) (sym c.fetch.ensures.objects) honest in
-    let told' = subst (λ (o : g.row.F.Denot). AreTold (rows_of c.fetch.new.self.rows) (g.F.Lookup.table o) commits) (sym c.fetch.ensures.objects) (subst (λ (r : Option (List Row)). AreTold (rows_of r) (g.F.Lookup.table c.args.self.now.source.objects) commits) (sym c.fetch.ensures.rows) told) in
+    let honest' = subst (λ (o : g.row.F.Denot). g.F.Lookup.is_honest o) (sym c.fetch.ensures.reads.objects) honest in
+    let told' = subst (λ (o : g.row.F.Denot). AreTold (rows_of c.fetch.new.self.rows) (g.F.Lookup.table o) commits) (sym c.fetch.ensures.reads.objects) (subst (λ (r : Option (List Row)). AreTold (rows_of r) (g.F.Lookup.table c.args.self.now.source.objects) commits) (sym c.fetch.ensures.reads.rows) told) in
     let order = timing_of c.args.self.now.parents c.args.self.now.sorting in
     let turns = turns_of c.args.self.now.known in
     let turns' = turns_of c.meet_all.new.self.known in
-    let step = subst (λ (o : g.row.F.Denot). LetsWaitIn order (g.F.Lookup.may_fail o) commits (IsMetWith g.P.Accept.accepts c.args.self.now c.as_slice.result.now) turns turns') c.fetch.ensures.objects (c.in_ok-meet_all.ensures.awaits honest' commits told') in
+    let step = subst (λ (o : g.row.F.Denot). LetsWaitIn order (g.F.Lookup.may_fail o) commits (IsMetWith g.P.Accept.accepts c.args.self.now c.as_slice.result.now) turns turns') c.fetch.ensures.reads.objects (c.in_ok-meet_all.ensures.awaits honest' commits told') in
     subst (λ (ps : List ObjectId). LetsWaitIn order (g.F.Lookup.may_fail c.args.self.now.source.objects) commits (IsMetWith g.P.Accept.accepts c.args.self.now ps) turns turns') c.as_slice.ensures step
 
 pub returns-clause-comes : goal.returns-clause-comes
@@ -83,24 +83,24 @@ returns-clause-comes g c =
     let least = c.meet_all.ensures.reads.least in
     let most = c.meet_all.ensures.reads.most in
     let still : order ≡ None → after ≡ read = (λ b. let few = subst (λ (t : Option Timing). after ≤ read + times_of t ps) b most in omega (arith, least, few)) in
-    let one : CountsOne rows c.args.id before read = record { stored = c.fetch.ensures.asked; rowed = λ held. (c.fetch.ensures.rowed held).0 } in
+    let one : CountsOne rows c.args.id before read = c.fetch.ensures.one in
     let meets = c.in_ok-meet_all.ensures.meets in
-    let closed : Holds rows c.args.id → AllHeld (rows_of c.fetch.new.self.rows) ps = (λ held. subst (λ (o : Option (List Row)). AllHeld (rows_of o) ps) (sym c.fetch.ensures.rows) (subst (AllHeld rows) (sym c.as_slice.ensures) (c.in_ok-commit.ensures.closed held))) in
+    let closed : Holds rows c.args.id → AllHeld (rows_of c.fetch.new.self.rows) ps = (λ held. subst (λ (o : Option (List Row)). AllHeld (rows_of o) ps) (sym c.fetch.ensures.reads.rows) (subst (AllHeld rows) (sym c.as_slice.ensures) (c.in_ok-commit.ensures.closed held))) in
     let same : c.replace-content.result.items ≡ c.fetch.new.self.buffer.items = ap (λ v. v.items) c.replace-content.ensures.value in
     record {
       same = refl;
       known = c.in_ok-commit.ensures.listed;
       content = record {
-        rowed = λ held. same ∙ (c.in_ok-commit.ensures.rowed held).1;
+        rowed = λ held. same ∙ c.fetch.ensures.emptied held;
         stored = λ honest n. subst (λ (bytes : List ℕ). Stands table (id_of c.args.id) kinds.Commit bytes) (sym same) (c.in_ok-commit.ensures.content honest n);
       };
       kind = c.kind-self.ensures;
-      in_breadth = λ b. let e = still b in omega (arith, e, c.fetch.ensures.counted);
+      in_breadth = λ b. let e = still b in omega (arith, e, c.fetch.ensures.reads.most);
       one = λ b. record { stored = λ n. still b ∙ one.stored n; rowed = λ held. still b ∙ one.rowed held };
       counted = record {
-        stored = λ n. subst (λ (m : ℕ). m ≤ after) (c.fetch.ensures.asked n) least;
-        rowed = λ held. meets.still (closed held) ∙ (c.fetch.ensures.rowed held).0;
-        most = (let long = ap length c.as_slice.ensures in let few = times_most order ps in omega (arith, most, few, c.fetch.ensures.counted, long));
+        stored = λ n. subst (λ (m : ℕ). m ≤ after) (c.fetch.ensures.one.stored n) least;
+        rowed = λ held. meets.still (closed held) ∙ c.fetch.ensures.one.rowed held;
+        most = (let long = ap length c.as_slice.ensures in let few = times_most order ps in omega (arith, most, few, c.fetch.ensures.reads.most, long));
       };
       meets = record {
         met = meets.met;
@@ -108,15 +108,15 @@ returns-clause-comes g c =
         asked = meets.asked;
         read = read;
         one = one;
-        times = subst (λ (r : Option (List Row)). CountsTimes order (rows_of r) (accepted (g.P.Accept.accepts c.args.self.now.predicate) meets.met) read after) c.fetch.ensures.rows meets.times;
+        times = subst (λ (r : Option (List Row)). CountsTimes order (rows_of r) (accepted (g.P.Accept.accepts c.args.self.now.predicate) meets.met) read after) c.fetch.ensures.reads.rows meets.times;
       };
       marks = subst (λ (qs : List ObjectId). MarksMet c.args.self.now.known.nodes qs c.meet_all.new.self.known.nodes) c.as_slice.ensures meets.marks;
       painted = meets.painted;
       behind = λ some. subst (λ (qs : List ObjectId). QueuesSome c.args.self.now.known qs c.meet_all.new.self.known) c.as_slice.ensures (meets.behind some);
       gains = meets.gains;
       rowed = (λ r held.
-          let now = meets.rowed (in_rows c.args.self.now.source.rows (record c.args.self.now { source = record c.fetch.new.self { buffer = c.replace-content.new.dest } }) c.fetch.ensures.rows r.tips r.hidden r.queue r.waiting_rows) (closed held) in
-          (record { tips = now.tips; hidden = now.hidden; queue = now.queue; waiting_rows = now.waiting_rows }, meets.still (closed held) ∙ (c.fetch.ensures.rowed held).0));
+          let now = meets.rowed (in_rows c.args.self.now.source.rows (record c.args.self.now { source = record c.fetch.new.self { buffer = c.replace-content.new.dest } }) c.fetch.ensures.reads.rows r.tips r.hidden r.queue r.waiting_rows) (closed held) in
+          (record { tips = now.tips; hidden = now.hidden; queue = now.queue; waiting_rows = now.waiting_rows }, meets.still (closed held) ∙ c.fetch.ensures.one.rowed held));
       stays = λ b. record {
         begun = ap (λ w. w.begun) c.meet_all.ensures.stays ∙ b;
         parents = ap (λ w. w.parents) c.meet_all.ensures.stays;
@@ -134,9 +134,9 @@ returns-in_err-commit-clause-fails g c =
     let table = g.F.Lookup.table c.args.self.now.source.objects in
     let error = c.in_err-commit.field-0.0 in
     let why : FailsToCome honest may_fail table c.args.self.now c.args.id (error_of error) (record c.args.self.now { source = c.fetch.new.self }) = record {
-      cause = stops_fetch c.args.self.now.parents honest may_fail rows table c.args.id error c.in_err-commit.ensures.unread;
-      counts = fault_counts honest may_fail rows table c.args.id error c.args.self.now.source.lookups c.fetch.new.self.lookups c.in_err-commit.ensures.refused c.fetch.ensures.asked c.fetch.ensures.rising;
-      in_breadth = λ b. c.fetch.ensures.counted;
+      cause = stops_fetch c.args.self.now.parents honest may_fail rows table c.args.id error c.in_err-commit.ensures.refused;
+      counts = fault_counts c.args.self.now.parents honest may_fail rows table c.args.id error c.args.self.now.source.lookups c.fetch.new.self.lookups c.in_err-commit.ensures.refused c.fetch.ensures.one.stored c.fetch.ensures.reads.least;
+      in_breadth = λ b. c.fetch.ensures.reads.most;
       unasked = inr refl;
     } in
     rw (p.1, p.2) why
@@ -148,11 +148,11 @@ returns-in_err-meet_all-clause-fails g c =
     let most = c.meet_all.ensures.reads.most in
     let before = c.args.self.now.source.lookups in
     let after = c.meet_all.new.self.source.lookups in
-    let rising : before ≤ after = omega (arith, least, c.fetch.ensures.rising) in
+    let rising : before ≤ after = omega (arith, least, c.fetch.ensures.reads.least) in
     let why : FailsToCome (g.F.Lookup.is_honest c.args.self.now.source.objects) (g.F.Lookup.may_fail c.args.self.now.source.objects) (g.F.Lookup.table c.args.self.now.source.objects) c.args.self.now c.args.id simple.Memory c.meet_all.new.self = record {
       cause = tt;
       counts = rising;
-      in_breadth = λ b. let few = subst (λ (t : Option Timing). after ≤ c.fetch.new.self.lookups + times_of t c.as_slice.result.now) b most in omega (arith, few, c.fetch.ensures.counted);
+      in_breadth = λ b. let few = subst (λ (t : Option Timing). after ≤ c.fetch.new.self.lookups + times_of t c.as_slice.result.now) b most in omega (arith, few, c.fetch.ensures.reads.most);
       unasked = inl refl;
     } in
     rw (p.1, p.2) why

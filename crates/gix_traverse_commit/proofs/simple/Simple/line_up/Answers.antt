@@ -23,7 +23,8 @@ use Rattle.gix_traverse_commit_known.proofs.Chosen.{chosen_none, met_tips}
 use Rattle.gix_traverse_commit_known.proofs.Keeping.{kept_none}
 use Rattle.gix_traverse_commit_known.proofs.Simply.{accepts_more, kept_tip, refused_tip}
 use Rattle.gix_traverse_commit_known.proofs.Timely.{in_nil, met_none}
-use Rattle.gix_traverse_commit.specs.Awaited.{LooksUp, times_of}
+use Rattle.gix_traverse_commit_known.specs.Fetching.{LooksUpAtMost}
+use Rattle.gix_traverse_commit.specs.Awaited.{times_of}
 use Rattle.gix_traverse_commit.proofs.Awaited.{awaits_rowed, counts_held, tips_awaited}
 use Rattle.gix_traverse_commit.proofs.Rest.{in_rows}
 use Rattle.gix_traverse_commit.proofs.simple.Simple.line_up.Goals as goal
@@ -36,12 +37,12 @@ refused_since h a t e k = let f = (and_parts a t (and_parts (not h) (a && t) k).
 pub returns-clause-reads : goal.returns-clause-reads
 returns-clause-reads g c =
     let is : timing_of c.args.self.now.parents c.args.self.now.sorting ≡ Some c.in-Some.timing = sym c.time_order.ensures ∙ c.in-Some.is in
-    subst (λ (t : Option Timing). LooksUp (times_of t c.args.self.now.tips.items) c.args.self.now.source c.await_tips.new.source) (sym is) (subst (λ (ts : List ObjectId). LooksUp (length ts) c.args.self.now.source c.await_tips.new.source) c.as_slice-2.ensures.value c.await_tips.ensures.reads)
+    subst (λ (t : Option Timing). LooksUpAtMost (times_of t c.args.self.now.tips.items) c.args.self.now.source c.await_tips.new.source) (sym is) (subst (λ (ts : List ObjectId). LooksUpAtMost (length ts) c.args.self.now.source c.await_tips.new.source) c.as_slice-2.ensures.value c.await_tips.ensures.reads)
 
 pub returns-in_err-await_tips-clause-reads : goal.returns-in_err-await_tips-clause-reads
 returns-in_err-await_tips-clause-reads g c =
     let is : timing_of c.args.self.now.parents c.args.self.now.sorting ≡ Some c.in-Some.timing = sym c.time_order.ensures ∙ c.in-Some.is in
-    subst (λ (t : Option Timing). LooksUp (times_of t c.args.self.now.tips.items) c.args.self.now.source c.await_tips.new.source) (sym is) (subst (λ (ts : List ObjectId). LooksUp (length ts) c.args.self.now.source c.await_tips.new.source) c.as_slice-2.ensures.value c.await_tips.ensures.reads)
+    subst (λ (t : Option Timing). LooksUpAtMost (times_of t c.args.self.now.tips.items) c.args.self.now.source c.await_tips.new.source) (sym is) (subst (λ (ts : List ObjectId). LooksUpAtMost (length ts) c.args.self.now.source c.await_tips.new.source) c.as_slice-2.ensures.value c.await_tips.ensures.reads)
 
 pub returns-in_default-clause-going : goal.returns-in_default-clause-going
 returns-in_default-clause-going g c = λ honest commits told ids a sure m.
@@ -56,10 +57,10 @@ returns-in_default-clause-going g c = λ honest commits told ids a sure m.
       parents = m.parents;
       sorting = m.sorting;
       in_breadth = sym (timing_same a c.args.self.now.parents c.args.self.now.sorting m.parents m.sorting) ∙ none;
-      none_waits = c.in_ok-queue_tips.ensures.turns ∙ m.none_waits;
-      accepts_as = accepts_more (g.P.Accept.accepts c.args.self.now.predicate) (g.P.Accept.accepts c.args.self.now.predicate) c.args.self.now.known.nodes c.queue_tips.new.known.nodes a refl c.in_ok-queue_tips.ensures.grown m.accepts_as;
+      none_waits = c.in_ok-queue_tips.ensures.alone.turns ∙ m.none_waits;
+      accepts_as = accepts_more (g.P.Accept.accepts c.args.self.now.predicate) (g.P.Accept.accepts c.args.self.now.predicate) c.args.self.now.known.nodes c.queue_tips.new.known.nodes a refl (λ x h. (c.in_ok-queue_tips.ensures.met x).1 (inl h)) m.accepts_as;
       hides = hides;
-      hidden = c.in_ok-queue_tips.ensures.hidden;
+      hidden = c.in_ok-queue_tips.ensures.alone.painted;
       painted = m.painted;
       known = λ x k. absurd (in_nil x k);
       walked = subst (λ (ts : List ObjectId). KeptAll along ts keep (is_met c.queue_tips.new.known.nodes) c.queue_tips.new.known.queue 0) tips
@@ -99,7 +100,7 @@ returns-clause-going g c = λ honest commits told ids a sure m.
 pub returns-in_default-clause-awaits : goal.returns-in_default-clause-awaits
 returns-in_default-clause-awaits g c = λ honest commits told.
     let none : timing_of c.args.self.now.parents c.args.self.now.sorting ≡ None = search rules in
-    subst (λ (t : Option Timing). LetsWaitIn t (g.F.Lookup.may_fail c.args.self.now.source.objects) commits (IsFresh c.args.self.now.known.nodes c.args.self.now.tips.items) (turns_of c.args.self.now.known) (turns_of c.queue_tips.new.known)) (sym none) c.in_ok-queue_tips.ensures.turns
+    subst (λ (t : Option Timing). LetsWaitIn t (g.F.Lookup.may_fail c.args.self.now.source.objects) commits (IsFresh c.args.self.now.known.nodes c.args.self.now.tips.items) (turns_of c.args.self.now.known) (turns_of c.queue_tips.new.known)) (sym none) c.in_ok-queue_tips.ensures.alone.turns
 
 pub returns-clause-awaits : goal.returns-clause-awaits
 returns-clause-awaits g c = λ honest commits told.
@@ -116,21 +117,21 @@ returns-in_default-clause-lines g c =
     let queued = c.in_ok-queue_tips.ensures in
     record {
       begun = refl;
-      painted = queued.hidden;
+      painted = queued.alone.painted;
       met = subst (λ (ts : List ObjectId). MarksAll c.args.self.now.known.nodes ts c.queue_tips.new.known.nodes) c.as_slice.ensures.value queued.met;
       timed = record {
         timed = [];
         each = subst (λ (t : Option Timing). CountsTimes t rows [] lookups lookups) (sym none) refl;
         list = λ some. absurd (let s : false ≡ true = subst (λ (t : Option Timing). IsSome t) none some in let z : ⊥ = cc in z);
       };
-      gains = subst (λ (ts : List Turn). NoneGains c.args.self.now.known.nodes (times_queued c.args.self.now) c.queue_tips.new.known.nodes (λ id. times_in c.queue_tips.new.known.queue id + times_waiting ts id)) (sym queued.turns)
-          (gains_before c.args.self.now.known.nodes c.queue_tips.new.known.nodes (times_in c.args.self.now.known.queue) (times_in c.queue_tips.new.known.queue) (times_waiting (turns_of c.args.self.now.known)) queued.left);
+      gains = subst (λ (ts : List Turn). NoneGains c.args.self.now.known.nodes (times_queued c.args.self.now) c.queue_tips.new.known.nodes (λ id. times_in c.queue_tips.new.known.queue id + times_waiting ts id)) (sym queued.alone.turns)
+          (gains_before c.args.self.now.known.nodes c.queue_tips.new.known.nodes (times_in c.args.self.now.known.queue) (times_in c.queue_tips.new.known.queue) (times_waiting (turns_of c.args.self.now.known)) queued.alone.gains);
       rowed = λ r. (
         record {
           tips = r.tips;
           hidden = r.hidden;
           queue = queued.rowed rows r.queue (subst (AllHeld rows) (sym c.as_slice.ensures.value) r.tips);
-          waiting_rows = subst (AllRowed rows) (sym queued.turns) r.waiting_rows;
+          waiting_rows = subst (AllRowed rows) (sym queued.alone.turns) r.waiting_rows;
         },
         refl,
       );

@@ -23,7 +23,8 @@ use Rattle.gix_traverse_graph.specs.Order.{IsOpen}
 use Rattle.gix_traverse_commit_known.proofs.Chosen.{met_parents}
 use Rattle.gix_traverse_commit_known.proofs.Simply.{accepts_more, known_push}
 use Rattle.gix_traverse_commit_known.proofs.Timely.{met_kept}
-use Rattle.gix_traverse_commit.specs.Awaited.{LooksUp, times_of}
+use Rattle.gix_traverse_commit_known.specs.Fetching.{LooksUpAtMost}
+use Rattle.gix_traverse_commit.specs.Awaited.{times_of}
 use Rattle.gix_traverse_commit.proofs.Awaited.{awaits_rowed, counts_held, parents_awaited}
 use Rattle.gix_traverse_commit.proofs.Rest.{in_rows}
 use Rattle.gix_traverse_commit_known.proofs.Awaiting.{of_accepted}
@@ -32,12 +33,12 @@ use Rattle.gix_traverse_commit.proofs.simple.Simple.meet_all.Goals as goal
 pub returns-clause-reads : goal.returns-clause-reads
 returns-clause-reads g c =
     let is : timing_of c.args.self.now.parents c.args.self.now.sorting ≡ Some c.in-Some.timing = sym c.time_order.ensures ∙ c.in-Some.is in
-    subst (λ (t : Option Timing). LooksUp (times_of t c.args.parents.now) c.args.self.now.source c.await_parents.new.source) (sym is) c.await_parents.ensures.reads
+    subst (λ (t : Option Timing). LooksUpAtMost (times_of t c.args.parents.now) c.args.self.now.source c.await_parents.new.source) (sym is) c.await_parents.ensures.reads
 
 pub returns-in_err-await_parents-clause-reads : goal.returns-in_err-await_parents-clause-reads
 returns-in_err-await_parents-clause-reads g c =
     let is : timing_of c.args.self.now.parents c.args.self.now.sorting ≡ Some c.in-Some.timing = sym c.time_order.ensures ∙ c.in-Some.is in
-    subst (λ (t : Option Timing). LooksUp (times_of t c.args.parents.now) c.args.self.now.source c.await_parents.new.source) (sym is) c.await_parents.ensures.reads
+    subst (λ (t : Option Timing). LooksUpAtMost (times_of t c.args.parents.now) c.args.self.now.source c.await_parents.new.source) (sym is) c.await_parents.ensures.reads
 
 pub returns-in_default-clause-going : goal.returns-in_default-clause-going
 returns-in_default-clause-going g c = λ honest commits told ids a listed id sure same known at.
@@ -49,10 +50,10 @@ returns-in_default-clause-going g c = λ honest commits told ids a listed id sur
         parents = n.parents;
         sorting = n.sorting;
         in_breadth = n.in_breadth;
-        none_waits = c.in_ok-meet_parents.ensures.turns ∙ n.none_waits;
-        accepts_as = accepts_more (g.P.Accept.accepts c.args.self.now.predicate) (g.P.Accept.accepts c.meet_parents.new.predicate) c.args.self.now.known.nodes c.meet_parents.new.known.nodes a c.meet_parents.ensures.accepts c.in_ok-meet_parents.ensures.grown n.accepts_as;
+        none_waits = c.in_ok-meet_parents.ensures.alone.turns ∙ n.none_waits;
+        accepts_as = accepts_more (g.P.Accept.accepts c.args.self.now.predicate) (g.P.Accept.accepts c.meet_parents.new.predicate) c.args.self.now.known.nodes c.meet_parents.new.known.nodes a c.meet_parents.ensures.accepts (λ x h. (c.in_ok-meet_parents.ensures.marks x).1 (inl h)) n.accepts_as;
         hides = n.hides;
-        hidden = λ x. c.in_ok-meet_parents.ensures.hidden x ∙ n.hidden x;
+        hidden = λ x. c.in_ok-meet_parents.ensures.alone.painted x ∙ n.hidden x;
         painted = n.painted;
         known = known_push (rows_of c.args.self.now.source.rows) ids listed id n.known known;
         walked = c.in_ok-meet_parents.ensures.walked (asked_parents a.parents commits) (keep_of n.hides a.accepts) a.tips (listed ++ id ∷ []) id
@@ -101,7 +102,7 @@ returns-clause-going g c = λ honest commits told ids a listed id sure same know
 pub returns-in_default-clause-awaits : goal.returns-in_default-clause-awaits
 returns-in_default-clause-awaits g c = λ honest commits told.
     let none : timing_of c.args.self.now.parents c.args.self.now.sorting ≡ None = search rules in
-    subst (λ (t : Option Timing). LetsWaitIn t (g.F.Lookup.may_fail c.args.self.now.source.objects) commits (IsMetWith g.P.Accept.accepts c.args.self.now c.args.parents.now) (turns_of c.args.self.now.known) (turns_of c.meet_parents.new.known)) (sym none) c.in_ok-meet_parents.ensures.turns
+    subst (λ (t : Option Timing). LetsWaitIn t (g.F.Lookup.may_fail c.args.self.now.source.objects) commits (IsMetWith g.P.Accept.accepts c.args.self.now c.args.parents.now) (turns_of c.args.self.now.known) (turns_of c.meet_parents.new.known)) (sym none) c.in_ok-meet_parents.ensures.alone.turns
 
 pub returns-clause-awaits : goal.returns-clause-awaits
 returns-clause-awaits g c = λ honest commits told.
@@ -121,15 +122,15 @@ returns-in_default-clause-meets g c =
       asked = asks;
       times = subst (λ (t : Option Timing). CountsTimes t rows (accepted (g.P.Accept.accepts c.args.self.now.predicate) fresh) lookups lookups) (sym none) refl;
       marks = met.marks;
-      painted = met.hidden;
+      painted = met.alone.painted;
       behind = λ some. absurd (let s : false ≡ true = subst (λ (t : Option Timing). IsSome t) none some in let z : ⊥ = cc in z);
-      gains = subst (λ (ts : List Turn). NoneGains c.args.self.now.known.nodes (times_queued c.args.self.now) c.meet_parents.new.known.nodes (λ id. times_in c.meet_parents.new.known.queue id + times_waiting ts id)) (sym met.turns)
-          (gains_before c.args.self.now.known.nodes c.meet_parents.new.known.nodes (times_in c.args.self.now.known.queue) (times_in c.meet_parents.new.known.queue) (times_waiting (turns_of c.args.self.now.known)) met.left);
+      gains = subst (λ (ts : List Turn). NoneGains c.args.self.now.known.nodes (times_queued c.args.self.now) c.meet_parents.new.known.nodes (λ id. times_in c.meet_parents.new.known.queue id + times_waiting ts id)) (sym met.alone.turns)
+          (gains_before c.args.self.now.known.nodes c.meet_parents.new.known.nodes (times_in c.args.self.now.known.queue) (times_in c.meet_parents.new.known.queue) (times_waiting (turns_of c.args.self.now.known)) met.alone.gains);
       rowed = λ r held. record {
         tips = r.tips;
         hidden = r.hidden;
         queue = met.rowed rows r.queue held;
-        waiting_rows = subst (AllRowed rows) (sym met.turns) r.waiting_rows;
+        waiting_rows = subst (AllRowed rows) (sym met.alone.turns) r.waiting_rows;
       };
       still = λ held. refl;
     }

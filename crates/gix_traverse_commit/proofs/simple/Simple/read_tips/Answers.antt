@@ -2,7 +2,8 @@ use Rattle.std.proofs.Common.{rules, ap, sym, subst, List, length}
 use Rattle.std.specs.Prelude.{Contains, IsSome}
 use Rattle.gix_hash.specs.declared.object_id.ObjectId.{ObjectId}
 use Rattle.gix_traverse_commit.proofs.Awaited.{counts_timed, reads_timed}
-use Rattle.gix_traverse_commit.specs.Awaited.{LooksUp, times_of}
+use Rattle.gix_traverse_commit_known.specs.Fetching.{LooksUpAtMost}
+use Rattle.gix_traverse_commit.specs.Awaited.{times_of}
 use Rattle.gix_traverse_commit_known.specs.Meeting.{CountsAll, unmet}
 use Rattle.gix_traverse_commit_known.specs.Told.{rows_of}
 use Rattle.gix_traverse_graph.specs.Sorting.{timing_of}
@@ -12,13 +13,13 @@ use Rattle.gix_traverse_commit.proofs.simple.Simple.read_tips.Goals as goal
 pub returns-in_err-read_times-clause-reads : goal.returns-in_err-read_times-clause-reads
 returns-in_err-read_times-clause-reads g c =
     let by : IsSome (timing_of All c.args.sorting) = search rules in
-    reads_timed (timing_of All c.args.sorting) c.args.self.now.tips.items c.args.self.now.source c.read_times.new.source by (subst (λ (ts : List ObjectId). LooksUp (length ts) c.args.self.now.source c.read_times.new.source) c.as_slice.ensures.value (let r = c.read_times.ensures.reads in record { objects = r.objects; rows = r.rows; least = r.least; most = r.most }))
+    reads_timed (timing_of All c.args.sorting) c.args.self.now.tips.items c.args.self.now.source c.read_times.new.source by (subst (λ (ts : List ObjectId). LooksUpAtMost (length ts) c.args.self.now.source c.read_times.new.source) c.as_slice.ensures.value (let r = c.read_times.ensures.reads in record { objects = r.objects; rows = r.rows; least = r.least; most = r.most }))
 
 pub returns-clause-reads : goal.returns-clause-reads
 returns-clause-reads g c =
     let by : IsSome (timing_of All c.args.sorting) = search rules in
     let r = reads_timed (timing_of All c.args.sorting) c.as_slice.result.now c.args.self.now.source (record c.read_times.new.source { buffer = c.replace-content.result }) by (let r = c.read_times.ensures.reads in record { objects = r.objects; rows = r.rows; least = r.least; most = r.most }) in
-    subst (λ (ts : List ObjectId). LooksUp (times_of (timing_of All c.args.sorting) ts) c.args.self.now.source (record c.read_times.new.source { buffer = c.replace-content.result })) c.as_slice.ensures.value r
+    subst (λ (ts : List ObjectId). LooksUpAtMost (times_of (timing_of All c.args.sorting) ts) c.args.self.now.source (record c.read_times.new.source { buffer = c.replace-content.result })) c.as_slice.ensures.value r
 
 pub returns-clause-times : goal.returns-clause-times
 returns-clause-times g c =

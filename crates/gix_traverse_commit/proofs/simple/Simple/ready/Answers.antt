@@ -58,22 +58,22 @@ returns-in_err-gather-clause-store g c = record {
 
 pub returns-in-Err-clause-store : goal.returns-in-Err-clause-store
 returns-in-Err-clause-store g c = record {
-  objects = c.paint.ensures.objects ∙ ap (λ w. w.source.objects) c.gather.ensures.stays;
-  rows = c.paint.ensures.rows ∙ ap (λ w. w.source.rows) c.gather.ensures.stays;
+  objects = c.paint.ensures.same.objects ∙ ap (λ w. w.source.objects) c.gather.ensures.stays;
+  rows = c.paint.ensures.same.rows ∙ ap (λ w. w.source.rows) c.gather.ensures.stays;
   unasked = ap (λ w. w.predicate) c.gather.ensures.stays;
 }
 
 pub returns-in_err-line_up-clause-store : goal.returns-in_err-line_up-clause-store
 returns-in_err-line_up-clause-store g c = record {
-  objects = c.line_up.ensures.reads.objects ∙ (c.paint.ensures.objects ∙ ap (λ w. w.source.objects) c.gather.ensures.stays);
-  rows = c.line_up.ensures.reads.rows ∙ (c.paint.ensures.rows ∙ ap (λ w. w.source.rows) c.gather.ensures.stays);
+  objects = c.line_up.ensures.reads.objects ∙ (c.paint.ensures.same.objects ∙ ap (λ w. w.source.objects) c.gather.ensures.stays);
+  rows = c.line_up.ensures.reads.rows ∙ (c.paint.ensures.same.rows ∙ ap (λ w. w.source.rows) c.gather.ensures.stays);
   unasked = ap (λ w. w.predicate) c.line_up.ensures.stays ∙ ap (λ w. w.predicate) c.gather.ensures.stays;
 }
 
 pub returns-clause-store : goal.returns-clause-store
 returns-clause-store g c = record {
-  objects = c.line_up.ensures.reads.objects ∙ (c.paint.ensures.objects ∙ ap (λ w. w.source.objects) c.gather.ensures.stays);
-  rows = c.line_up.ensures.reads.rows ∙ (c.paint.ensures.rows ∙ ap (λ w. w.source.rows) c.gather.ensures.stays);
+  objects = c.line_up.ensures.reads.objects ∙ (c.paint.ensures.same.objects ∙ ap (λ w. w.source.objects) c.gather.ensures.stays);
+  rows = c.line_up.ensures.reads.rows ∙ (c.paint.ensures.same.rows ∙ ap (λ w. w.source.rows) c.gather.ensures.stays);
   unasked = ap (λ w. w.predicate) c.line_up.ensures.stays ∙ ap (λ w. w.predicate) c.gather.ensures.stays;
 }
 
@@ -96,10 +96,10 @@ returns-clause-keeps g c = record {
   rowed = (λ r0.
       let r = c.in_ok-gather.ensures.rowed r0 in
       let step = c.in_ok-line_up.ensures.lines.rowed (record {
-        tips = subst (λ (o : Option (List Row)). AllHeld (rows_of o) c.gather.new.self.tips.items) (sym c.paint.ensures.rows) r.tips;
-        hidden = subst (λ (o : Option (List Row)). AllHeld (rows_of o) c.gather.new.self.hidden.items) (sym c.paint.ensures.rows) r.hidden;
-        queue = subst (λ (o : Option (List Row)). AllHeld (rows_of o) c.paint.new.known.queue) (sym c.paint.ensures.rows) (subst (AllHeld (rows_of c.gather.new.self.source.rows)) (sym c.in_default.ensures.only.queue) r.queue);
-        waiting_rows = subst (λ (o : Option (List Row)). AllRowed (rows_of o) (turns_of c.paint.new.known)) (sym c.paint.ensures.rows) (subst (AllRowed (rows_of c.gather.new.self.source.rows)) (sym c.in_default.ensures.only.turns) r.waiting_rows);
+        tips = subst (λ (o : Option (List Row)). AllHeld (rows_of o) c.gather.new.self.tips.items) (sym c.paint.ensures.same.rows) r.tips;
+        hidden = subst (λ (o : Option (List Row)). AllHeld (rows_of o) c.gather.new.self.hidden.items) (sym c.paint.ensures.same.rows) r.hidden;
+        queue = subst (λ (o : Option (List Row)). AllHeld (rows_of o) c.paint.new.known.queue) (sym c.paint.ensures.same.rows) (subst (AllHeld (rows_of c.gather.new.self.source.rows)) (sym c.in_default.ensures.only.queue) r.queue);
+        waiting_rows = subst (λ (o : Option (List Row)). AllRowed (rows_of o) (turns_of c.paint.new.known)) (sym c.paint.ensures.same.rows) (subst (AllRowed (rows_of c.gather.new.self.source.rows)) (sym c.in_default.ensures.only.turns) r.waiting_rows);
       }) in
       (record { tips = step.0.tips; hidden = step.0.hidden; queue = step.0.queue; waiting_rows = step.0.waiting_rows }, step.1 ∙ c.in_default.ensures.rowed (subst (λ (xs : List ObjectId). AllHeld (rows_of c.gather.new.self.source.rows) xs) (sym c.as_slice.ensures.value) r.hidden) ∙ ap (λ w. w.source.lookups) c.gather.ensures.stays));
 }
@@ -118,9 +118,9 @@ returns-clause-begins g c = λ a m.
           let honest = subst (λ s. g.F.Lookup.is_honest s.objects) (sym still) honest0 in
           let sure = subst (λ s. IsSure (g.F.Lookup.may_fail s.objects) a) (sym still) sure0 in
           let told = subst (λ s. AreTold (rows_of s.rows) (g.F.Lookup.table s.objects) commits) (sym still) told0 in
-          let honest' = subst (λ (o : g.row.F.Denot). g.F.Lookup.is_honest o) (sym c.paint.ensures.objects) honest in
-          let told' = subst (λ (o : g.row.F.Denot). AreTold (rows_of c.paint.new.source.rows) (g.F.Lookup.table o) commits) (sym c.paint.ensures.objects) (subst (λ (r : Option (List Row)). AreTold (rows_of r) (g.F.Lookup.table c.gather.new.self.source.objects) commits) (sym c.paint.ensures.rows) told) in
-          under_source g.P.Accept.accepts ids commits a [] c.line_up.new.self (record c.line_up.new.self.source { buffer = c.replace-content.result }) c.line_up.new.self.kind refl (c.in_ok-line_up.ensures.going honest' commits told' ids a (subst (λ (o : g.row.F.Denot). IsSure (g.F.Lookup.may_fail o) a) (sym c.paint.ensures.objects) sure) (record {
+          let honest' = subst (λ (o : g.row.F.Denot). g.F.Lookup.is_honest o) (sym c.paint.ensures.same.objects) honest in
+          let told' = subst (λ (o : g.row.F.Denot). AreTold (rows_of c.paint.new.source.rows) (g.F.Lookup.table o) commits) (sym c.paint.ensures.same.objects) (subst (λ (r : Option (List Row)). AreTold (rows_of r) (g.F.Lookup.table c.gather.new.self.source.objects) commits) (sym c.paint.ensures.same.rows) told) in
+          under_source g.P.Accept.accepts ids commits a [] c.line_up.new.self (record c.line_up.new.self.source { buffer = c.replace-content.result }) c.line_up.new.self.kind refl (c.in_ok-line_up.ensures.going honest' commits told' ids a (subst (λ (o : g.row.F.Denot). IsSure (g.F.Lookup.may_fail o) a) (sym c.paint.ensures.same.objects) sure) (record {
             tips = w.tips;
             hidden = w.hidden;
             parents = w.parents;
@@ -147,7 +147,7 @@ returns-clause-begins g c = λ a m.
                 (let most = c.line_up.ensures.reads.most in let few = times_most (timing_of c.gather.new.self.parents c.gather.new.self.sorting) c.gather.new.self.tips.items in omega (arith, most, few));
             timed = tips.timed;
             times = subst (λ s. CountsTimes (timing a) (rows_of s.rows) tips.timed c.paint.new.source.lookups c.line_up.new.self.source.lookups) still
-                (subst (λ (r : Option (List Row)). CountsTimes (timing a) (rows_of r) tips.timed c.paint.new.source.lookups c.line_up.new.self.source.lookups) c.paint.ensures.rows
+                (subst (λ (r : Option (List Row)). CountsTimes (timing a) (rows_of r) tips.timed c.paint.new.source.lookups c.line_up.new.self.source.lookups) c.paint.ensures.same.rows
                 (subst (λ (t : Option Timing). CountsTimes t (rows_of c.paint.new.source.rows) tips.timed c.paint.new.source.lookups c.line_up.new.self.source.lookups) order tips.each));
             are_timed = (λ some honest commits told.
                 let painted = subst (λ (hs : List ObjectId). Paints commits hs c.paint.new.known.nodes) hidden
@@ -169,13 +169,13 @@ returns-clause-begins g c = λ a m.
       tips_wait = (λ honest0 commits told0.
           let honest = subst (λ s. g.F.Lookup.is_honest s.objects) (sym still) honest0 in
           let told = subst (λ s. AreTold (rows_of s.rows) (g.F.Lookup.table s.objects) commits) (sym still) told0 in
-          let honest' = subst (λ (o : g.row.F.Denot). g.F.Lookup.is_honest o) (sym c.paint.ensures.objects) honest in
-          let told' = subst (λ (o : g.row.F.Denot). AreTold (rows_of c.paint.new.source.rows) (g.F.Lookup.table o) commits) (sym c.paint.ensures.objects) (subst (λ (r : Option (List Row)). AreTold (rows_of r) (g.F.Lookup.table c.gather.new.self.source.objects) commits) (sym c.paint.ensures.rows) told) in
+          let honest' = subst (λ (o : g.row.F.Denot). g.F.Lookup.is_honest o) (sym c.paint.ensures.same.objects) honest in
+          let told' = subst (λ (o : g.row.F.Denot). AreTold (rows_of c.paint.new.source.rows) (g.F.Lookup.table o) commits) (sym c.paint.ensures.same.objects) (subst (λ (r : Option (List Row)). AreTold (rows_of r) (g.F.Lookup.table c.gather.new.self.source.objects) commits) (sym c.paint.ensures.same.rows) told) in
           let painted = subst (λ (hs : List ObjectId). Paints commits hs c.paint.new.known.nodes) hidden (c.in_default.ensures.painted w.asked.unpainted honest commits told) in
           let may_fail = g.F.Lookup.may_fail c.args.self.now.source.objects in
           let before = turns_of c.paint.new.known in
           let after = turns_of c.line_up.new.self.known in
-          let same : c.paint.new.source.objects ≡ c.args.self.now.source.objects = c.paint.ensures.objects ∙ ap (λ s. s.objects) still in
+          let same : c.paint.new.source.objects ≡ c.args.self.now.source.objects = c.paint.ensures.same.objects ∙ ap (λ s. s.objects) still in
           let step = subst (λ (o : g.row.F.Denot). LetsWaitIn (timing_of c.gather.new.self.parents c.gather.new.self.sorting) (g.F.Lookup.may_fail o) commits (IsFresh c.paint.new.known.nodes c.gather.new.self.tips.items) before after) same (c.in_ok-line_up.ensures.awaits honest' commits told') in
           let timed = subst (λ (t : Option Timing). LetsWaitIn t may_fail commits (IsFresh c.paint.new.known.nodes c.gather.new.self.tips.items) before after) order step in
           let empty = subst (λ (ts : List Turn). LetsWaitIn (timing a) may_fail commits (IsFresh c.paint.new.known.nodes c.gather.new.self.tips.items) ts after) (c.in_default.ensures.only.turns ∙ w.none_waits) timed in

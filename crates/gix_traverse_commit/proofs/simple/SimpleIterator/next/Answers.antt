@@ -158,8 +158,8 @@ returns-in-Ok-clause-steps g c =
     }) in
     let known : IsKnown rows ids id = subst (λ (o : g.row.F.Denot). IsKnown rows (g.F.Lookup.ids o) id) objects (subst (λ (r : Option (List Row)). IsKnown (rows_of r) (g.F.Lookup.ids c.take.new.self.source.objects) id) same_rows c.in-Ok.ensures.comes.known) in
     record {
-      objects = c.enter.ensures.objects ∙ objects;
-      rows = c.enter.ensures.rows ∙ same_rows;
+      objects = c.enter.ensures.same.objects ∙ objects;
+      rows = c.enter.ensures.same.rows ∙ same_rows;
       given = (λ honest commits told a listed sure s.
           let w = c.in_default.ensures.going honest commits told a listed sure s in
           let (at, turn) = c.in-Some.ensures.takes.turn ids commits a listed w in
@@ -264,7 +264,7 @@ returns-in-Ok-clause-steps g c =
       kind_end = tt;
       queues = λ b some. subst (λ walk. KeepsOrder walk c.in-Ok.info c.enter.new.self) ((c.in_default.ensures.same b).1) (queued (subst (λ walk. IsSome (timing_of walk.parents walk.sorting)) (sym ((c.in_default.ensures.same b).1)) some));
       falls = (
-          let now = ap rows_of (c.enter.ensures.rows ∙ same_rows) in
+          let now = ap rows_of (c.enter.ensures.same.rows ∙ same_rows) in
           let old = c.args.self.now in
           let new = c.enter.new.self in
           let left = left_falls rows ids old.known.nodes new.known.nodes old.known.queue new.known.queue (turns_of old.known) (turns_of new.known) id known (λ x.
@@ -288,8 +288,8 @@ returns-in-Err-enter-clause-steps g c =
     (subst (λ (o : g.row.F.Denot). StopsFetch c.take.new.self.parents (g.F.Lookup.is_honest o) (g.F.Lookup.may_fail o) (rows_of c.args.self.now.source.rows) (g.F.Lookup.table o) id error) objects
     (subst (λ (r : Option (List Row)). StopsFetch c.take.new.self.parents (g.F.Lookup.is_honest c.take.new.self.source.objects) (g.F.Lookup.may_fail c.take.new.self.source.objects) (rows_of r) (g.F.Lookup.table c.take.new.self.source.objects) id error) same_rows c.in-Err-enter.ensures.fails.cause)) in
     record {
-      objects = c.stop-in-Err-enter.ensures.store.objects ∙ (c.enter.ensures.objects ∙ objects);
-      rows = c.stop-in-Err-enter.ensures.store.rows ∙ (c.enter.ensures.rows ∙ same_rows);
+      objects = c.stop-in-Err-enter.ensures.store.objects ∙ (c.enter.ensures.same.objects ∙ objects);
+      rows = c.stop-in-Err-enter.ensures.store.rows ∙ (c.enter.ensures.same.rows ∙ same_rows);
       given = λ honest commits told a listed sure s. tt;
       end = λ honest commits told a listed sure s. tt;
       refused = (λ honest commits told a listed sure s.

@@ -1,7 +1,8 @@
 use Rattle.std.proofs.Common.{List, take}
 use Rattle.std.specs.Prelude.{Contains}
 use Rattle.gix_hash.specs.declared.object_id.ObjectId.{ObjectId}
-use Rattle.gix_traverse_commit.specs.Awaited.{AsksTimes, AwaitsSome, LooksUp}
+use Rattle.gix_traverse_commit_known.specs.Fetching.{LooksUpAtMost}
+use Rattle.gix_traverse_commit.specs.Awaited.{AsksTimes, AwaitsSome}
 use Rattle.gix_traverse_commit_known.specs.Meeting.{MarksMet, accepted}
 use Rattle.gix_traverse_commit_known.specs.Known.{turns_of}
 use Rattle.gix_traverse_commit_known.specs.Nodes.{is_hidden, is_met}
@@ -12,7 +13,7 @@ use Rattle.gix_traverse_commit.proofs.simple.timed.await_parents.Given as goal
 
 abbrev pub invariant-parents : goal.invariant-parents
 invariant-parents g l = record {
-  reads : LooksUp l.parent-index l.fn.source l.source;
+  reads : LooksUpAtMost l.parent-index l.fn.source l.source;
   met : MarksMet l.fn.known.nodes (take l.parent-index l.parents) l.known.nodes;
   some : AwaitsSome l.fn.known (take l.parent-index l.parents) l.known;
   once : (xs : List ObjectId) × AsksTimes g.P.Accept.accepts g.P.Accept.goes (rows_of l.fn.source.rows) xs l.fn.predicate l.fn.source.lookups l.predicate l.source.lookups

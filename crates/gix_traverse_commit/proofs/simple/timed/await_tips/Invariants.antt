@@ -1,7 +1,8 @@
 use Rattle.std.proofs.Common.{List, take}
 use Rattle.std.specs.Prelude.{Contains}
 use Rattle.gix_hash.specs.declared.object_id.ObjectId.{ObjectId}
-use Rattle.gix_traverse_commit.specs.Awaited.{AwaitsSome, LooksUp}
+use Rattle.gix_traverse_commit_known.specs.Fetching.{LooksUpAtMost}
+use Rattle.gix_traverse_commit.specs.Awaited.{AwaitsSome}
 use Rattle.gix_traverse_commit_known.specs.Meeting.{CountsAll, MarksAll}
 use Rattle.gix_traverse_commit_known.specs.Known.{turns_of}
 use Rattle.gix_traverse_commit_known.specs.Nodes.{is_hidden, is_met}
@@ -12,7 +13,7 @@ use Rattle.gix_traverse_commit.proofs.simple.timed.await_tips.Given as goal
 
 abbrev pub invariant-tips : goal.invariant-tips
 invariant-tips g l = record {
-  reads : LooksUp l.tip-index l.fn.source l.source;
+  reads : LooksUpAtMost l.tip-index l.fn.source l.source;
   met : MarksAll l.fn.known.nodes (take l.tip-index l.tips) l.known.nodes;
   some : AwaitsSome l.fn.known (take l.tip-index l.tips) l.known;
   timed : (xs : List ObjectId) × CountsAll (rows_of l.fn.source.rows) xs l.fn.source.lookups l.source.lookups

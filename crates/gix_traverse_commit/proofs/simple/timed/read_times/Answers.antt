@@ -59,14 +59,13 @@ tips-preserved g c =
     let here = slice_get-get_or ids c.tips.tip-index (Sha1 []) c.tips-test.true in
     let nodes = c.args.known.now.nodes in
     let inv = c.tips.invariant in
-    let read = c.seconds.ensures in
     let rows = rows_of c.args.source.now.rows in
     let before = c.tips.source.lookups in
     let after = c.seconds.new.self.lookups in
     let unmet : is_met nodes id ≡ false = search rules in
-    let one = subst (λ (r : Option (List Row)). CountsOne (rows_of r) id before after) inv.reads.rows (record { stored = read.asked; rowed = λ h. (read.rowed h).1 }) in
+    let one = subst (λ (r : Option (List Row)). CountsOne (rows_of r) id before after) inv.reads.rows c.seconds.ensures.one in
     record {
-      reads = reads_more c.tips.tip-index 1 c.args.source.now c.tips.source c.seconds.new.self inv.reads (record { objects = read.objects; rows = read.rows; least = read.rising; most = read.counted });
+      reads = reads_more c.tips.tip-index 1 c.args.source.now c.tips.source c.seconds.new.self inv.reads c.seconds.ensures.reads;
       each = unmet_more rows nodes ids c.tips.tip-index id c.args.source.now.lookups before after here inv.each
           (subst (λ (b : Bool). CountsAll rows (cond (not b) (id ∷ []) []) before after) (sym unmet) (counts_one rows id before after one));
       told = read_next (g.F.Lookup.is_honest c.args.source.now.objects) rows (g.F.Lookup.table c.args.source.now.objects) nodes ids c.tips.tip-index id here inv.told
@@ -113,6 +112,5 @@ returns-clause-reads g c = reads_within c.tips.tip-index (length c.args.tips.now
 
 pub returns-in_err-seconds-clause-reads : goal.returns-in_err-seconds-clause-reads
 returns-in_err-seconds-clause-reads g c =
-    let read = c.seconds.ensures in
     reads_within (c.tips.tip-index + 1) (length c.args.tips.now) c.args.source.now c.seconds.new.self (omega arith)
-    (reads_more c.tips.tip-index 1 c.args.source.now c.tips.source c.seconds.new.self c.tips.invariant.reads (record { objects = read.objects; rows = read.rows; least = read.rising; most = read.counted }))
+    (reads_more c.tips.tip-index 1 c.args.source.now c.tips.source c.seconds.new.self c.tips.invariant.reads c.seconds.ensures.reads)

@@ -22,12 +22,6 @@ begun place kind known bytes content e f h = e ∙ ap (λ (k : hash.Kind). start
 pub returns-in_err-load-clause-refused : goal.returns-in_err-load-clause-refused
 returns-in_err-load-clause-refused g c =
     let p = err_from_is_err_and c.from_residual-in_err-load.result c.from_residual-in_err-load.ensures.1 in
-    let fault = read_fault All (g.F.Lookup.is_honest c.args.self.now.objects) (g.F.Lookup.may_fail c.args.self.now.objects) (rows_of c.args.self.now.rows) (g.F.Lookup.table c.args.self.now.objects) c.args.id.now c.in_err-load.field-0.0 (subst (λ (o : Option (List Row)). Holds (rows_of o) c.args.id.now → ⊥) c.as_ref.ensures.value c.in_default.ensures.none) c.in_err-load.ensures.refused in
-    rw (p.1, p.2) fault
-
-pub returns-in_err-load-clause-unread : goal.returns-in_err-load-clause-unread
-returns-in_err-load-clause-unread g c =
-    let p = err_from_is_err_and c.from_residual-in_err-load.result c.from_residual-in_err-load.ensures.1 in
     let fault = read_fault c.args.along (g.F.Lookup.is_honest c.args.self.now.objects) (g.F.Lookup.may_fail c.args.self.now.objects) (rows_of c.args.self.now.rows) (g.F.Lookup.table c.args.self.now.objects) c.args.id.now c.in_err-load.field-0.0 (subst (λ (o : Option (List Row)). Holds (rows_of o) c.args.id.now → ⊥) c.as_ref.ensures.value c.in_default.ensures.none) c.in_err-load.ensures.refused in
     rw (p.1, p.2) fault
 
@@ -53,8 +47,8 @@ returns-in-Some-clause-closed g c = λ held.
     subst (λ (o : Option (List Row)). AllHeld (rows_of o) c.in_ok-from_slice.field-0.items) c.as_ref.ensures.value (λ x k. c.in-Some.ensures.rows.parents c.in-Some.row.now c.in-Some.ensures.found.0 x
     (asked_in c.args.along c.in-Some.row.now.parents.items x (subst (λ (xs : List ObjectId). Contains xs x) (c.in_ok-from_slice.ensures.ok ∙ c.asked_of.ensures ∙ ap (asked c.args.along) c.as_slice.ensures) k)))
 
-pub returns-in_err-read_parents-clause-unread : goal.returns-in_err-read_parents-clause-unread
-returns-in_err-read_parents-clause-unread g c =
+pub returns-in_err-read_parents-clause-refused : goal.returns-in_err-read_parents-clause-refused
+returns-in_err-read_parents-clause-refused g c =
     let p = err_from_is_err_and c.from_residual-in_err-read_parents.result c.from_residual-in_err-read_parents.ensures.1 in
     let fault = parents_unread c.args.along (g.F.Lookup.is_honest c.args.self.now.objects) (g.F.Lookup.may_fail c.args.self.now.objects) (rows_of c.args.self.now.rows) (g.F.Lookup.table c.args.self.now.objects) c.args.id.now c.load.new.buffer.items (place_of c.from_bytes-reader.result) c.in_err-read_parents.field-0.0
     (subst (λ (o : Option (List Row)). Holds (rows_of o) c.args.id.now → ⊥) c.as_ref.ensures.value c.in_default.ensures.none) c.in_ok-load.ensures.stood (begun (place_of c.from_bytes-reader.result) c.kind.result (id_of c.args.id.now).kind c.as_slice-2.result.now c.load.new.buffer.items c.from_bytes-reader.ensures c.kind.ensures c.as_slice-2.ensures.value) c.in_err-read_parents.ensures.refused in

@@ -1,7 +1,4 @@
-use Rattle.std.proofs.Common.{◌≡◌, ℕ, take}
-use Rattle.gix_hash.specs.declared.object_id.ObjectId.{ObjectId}
-use Rattle.gix_traverse_graph.specs.Numbered.{same_id}
-use Rattle.gix_traverse_topo.specs.Turns.{times}
+use Rattle.std.proofs.Common.{◌≡◌}
 use Rattle.gix_traverse_topo.specs.Walking.{Names}
 use Rattle.gix_traverse_topo.proofs.Walking.{MeetsSo}
 use Rattle.gix_traverse_topo.proofs.known.Known.meet.Given as goal

@@ -1,5 +1,4 @@
-use Rattle.std.proofs.Common.{◌≡◌, ℕ, take}
-use Rattle.gix_hash.specs.declared.object_id.ObjectId.{ObjectId}
+use Rattle.std.proofs.Common.{◌≡◌, take}
 use Rattle.gix_traverse_graph.specs.Numbered.{same_id}
 use Rattle.gix_traverse_topo.specs.Turns.{times}
 use Rattle.gix_traverse_topo.specs.Walking.{Names}

@@ -1,4 +1,4 @@
-use Rattle.std.proofs.Common.{rules, ◌≡◌, ◌<◌, ◌≤◌, ◌∙◌, List, length, sym, ap, subst, arith}
+use Rattle.std.proofs.Common.{rules, ◌≡◌, ◌∙◌, List, sym, ap, subst, arith}
 use Rattle.std.proofs.lemmas.Result.{err_from_is_err_and}
 use Rattle.gix_hash.specs.declared.object_id.ObjectId.{ObjectId}
 use Rattle.gix_traverse_graph.specs.Commits.{asked}
@@ -13,14 +13,14 @@ use Rattle.gix_traverse_topo.proofs.Walking.{meets_longer, names_put}
 use Rattle.gix_traverse_topo.proofs.Meeting.{row_met, met_held, asked_held}
 use Rattle.gix_traverse_topo.proofs.known.Known.visit.Goals as goal
 
-pub returns-clause-rowed : goal.returns-clause-rowed
-returns-clause-rowed g c = λ holds held.
+pub returns-clause-held : goal.returns-clause-held
+returns-clause-held g c = λ holds held.
     let rows : List Row = rows_of c.args.source.now.rows in
     let keys : List ObjectId = c.args.self.now.ids.keys in
     let names : List ObjectId = c.asked_of.result.now in
     let all : c.as_slice.result.now ≡ c.in_ok-facts.facts.parents.items = search rules in
     let names_held : AllHeld rows names = subst (λ (zs : List ObjectId). AllHeld rows zs) (sym (c.asked_of.ensures ∙ ap (asked c.args.along) all)) (asked_held rows c.args.along c.in_ok-facts.facts.parents.items (c.in_ok-facts.ensures.closed holds)) in
-    (met_held rows names keys c.name_all.new.self.ids.keys (row_met keys c.name_all.new.self.ids.keys names c.in_ok-name_all.ensures.meets.met) held names_held, c.in_ok-facts.ensures.rowed holds)
+    met_held rows names keys c.name_all.new.self.ids.keys (row_met keys c.name_all.new.self.ids.keys names c.in_ok-name_all.ensures.meets.met) held names_held
 
 pub returns-clause-visited : goal.returns-clause-visited
 returns-clause-visited g c =

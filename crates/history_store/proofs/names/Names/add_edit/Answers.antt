@@ -9,15 +9,15 @@ use Rattle.history_store.proofs.NamesPacked.{one_asked, one_left}
 use Rattle.history_store.proofs.names.Names.add_edit.Goals as goal
 
 pub returns-then-branch-clause-asks : goal.returns-then-branch-clause-asks
-returns-then-branch-clause-asks g c = λ honest none wanted so_far.
+returns-then-branch-clause-asks g c = λ honest wanted so_far.
     let tree = (g.F.Files.history c.args.self.now.store.files).tree in
-    let records = unwrap_or (option_map kept c.args.self.now.packed.read) [] in
-    one_left tree records wanted c.args.edits.now.items (record_of_name c.args.named.now) so_far (c.in_ok-is_packed.ensures.packed honest none c.if-branch.true)
+    let records = unwrap_or (option_map kept c.args.self.now.packed) [] in
+    one_left tree records wanted c.args.edits.now.items (record_of_name c.args.named.now) so_far (c.in_ok-is_packed.ensures.packed honest c.if-branch.true)
 
 pub returns-clause-asks : goal.returns-clause-asks
-returns-clause-asks g c = λ honest none wanted so_far.
+returns-clause-asks g c = λ honest wanted so_far.
     let tree = (g.F.Files.history c.args.self.now.store.files).tree in
-    let records = unwrap_or (option_map kept c.args.self.now.packed.read) [] in
+    let records = unwrap_or (option_map kept c.args.self.now.packed) [] in
     let last = record_of_name c.args.named.now in
     subst (AsksToPack tree records (wanted ++ last ∷ [])) (sym c.in_ok-push.ensures.items)
     (one_asked tree records wanted c.args.edits.now.items last c.in_ok-edit.edit so_far c.in_ok-edit.ensures.asks)

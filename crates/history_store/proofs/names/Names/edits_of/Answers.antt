@@ -14,10 +14,10 @@ use Rattle.history_store.proofs.EditsAsked.{held_told, all_plain, all_test, and_
 use Rattle.history_store.proofs.names.Names.edits_of.Goals as goal
 
 pub returns-in_err-edits-clause-failed : goal.returns-in_err-edits-clause-failed
-returns-in_err-edits-clause-failed g c = λ r can failed.
+returns-in_err-edits-clause-failed g c = λ r may failed.
     let error = err_from_is_err_and c.from_residual.result c.from_residual.ensures.1 in
     let same : c.updates_of.result ≡ Err Failed = c.in_err-edits.was ∙ ap Err (told_error c.from_residual.result c.in_err-edits.field-0.0 error.0 error.1 error.2 failed) in
-    absurd (c.updates_of.ensures.failed (moved_named c.args.moved.now (option_map (λ (name : Bor (List ℕ)). name.now) c.args.taken) can.may.fit.named) same)
+    absurd (c.updates_of.ensures.failed (moved_named c.args.moved.now (option_map (λ (name : Bor (List ℕ)). name.now) c.args.taken) may.fit.named) same)
 
 pub returns-in-None-clause-asks : goal.returns-in-None-clause-asks
 returns-in-None-clause-asks g c =
@@ -29,17 +29,17 @@ pub returns-in-None-clause-plain : goal.returns-in-None-clause-plain
 returns-in-None-clause-plain g c = all_plain (map moved_in c.args.moved.now) c.in_ok-edits.edits.items c.in_ok-edits.ensures.asks
 
 pub returns-in-None-clause-tests : goal.returns-in-None-clause-tests
-returns-in-None-clause-tests g c = λ r can. all_test r can.may.whole.set (map moved_in c.args.moved.now) c.in_ok-edits.edits.items can.may.fit.each c.in_ok-edits.ensures.asks
+returns-in-None-clause-tests g c = λ r may. all_test r may.whole.set (map moved_in c.args.moved.now) c.in_ok-edits.edits.items may.fit.each c.in_ok-edits.ensures.asks
 
 pub returns-in_err-last-in-Some-clause-failed : goal.returns-in_err-last-in-Some-clause-failed
-returns-in_err-last-in-Some-clause-failed g c = λ r can failed.
-    let whole = can.may.whole in
+returns-in_err-last-in-Some-clause-failed g c = λ r may failed.
+    let whole = may.whole in
     let tree = (g.F.Files.history c.args.self.now.store.files).tree in
     let name = c.in-Some.name.now in
     let residual = c.from_residual-in_err-last-in-Some in
     let error = err_from_is_err_and residual.result residual.ensures.1 in
     let same : c.deletion_of.result ≡ Err Failed = c.in_err-last-in-Some.was ∙ ap Err (told_error residual.result c.in_err-last-in-Some.field-0.0 error.0 error.1 error.2 failed) in
-    let stood = subst (MayStand r) (ap (option_map (λ (given : Bor (List ℕ)). given.now)) c.in-Some.is) can.may.fit.gone in
+    let stood = subst (MayStand r) (ap (option_map (λ (given : Bor (List ℕ)). given.now)) c.in-Some.is) may.fit.gone in
     c.deletion_of.ensures.failed whole.honest whole.records (formed r tree whole.holds name stood) (held_told r tree c.args.self.now.kind name whole.kind whole.holds stood)
     (subst (λ result. IsErrOf result Failed) (sym same) refl)
 
@@ -56,10 +56,10 @@ returns-in_ok-push-in-Some-clause-plain g c =
     (and_last (λ (edit : RefEdit). edit.deref ≡ false) c.in_ok-edits.edits.items c.in_ok-last-in-Some.last (all_plain (map moved_in c.args.moved.now) c.in_ok-edits.edits.items c.in_ok-edits.ensures.asks) c.in_ok-last-in-Some.ensures.asks.plain)
 
 pub returns-in_ok-push-in-Some-clause-tests : goal.returns-in_ok-push-in-Some-clause-tests
-returns-in_ok-push-in-Some-clause-tests g c = λ r can.
-    let whole = can.may.whole in
+returns-in_ok-push-in-Some-clause-tests g c = λ r may.
+    let whole = may.whole in
     let tree = (g.F.Files.history c.args.self.now.store.files).tree in
     let asks = c.in_ok-last-in-Some.ensures.asks in
     let last = held_tests r tree c.args.self.now.kind c.in-Some.name.now c.in_ok-last-in-Some.last whole.kind whole.holds asks.deletes.name_is (c.in_ok-last-in-Some.ensures.tests whole.honest whole.records) in
     subst (AllTest r) (sym c.in_ok-push-in-Some.ensures.items)
-    (and_last (λ (edit : RefEdit). Tests (id_at r edit.name) edit.change) c.in_ok-edits.edits.items c.in_ok-last-in-Some.last (all_test r whole.set (map moved_in c.args.moved.now) c.in_ok-edits.edits.items can.may.fit.each c.in_ok-edits.ensures.asks) last)
+    (and_last (λ (edit : RefEdit). Tests (id_at r edit.name) edit.change) c.in_ok-edits.edits.items c.in_ok-last-in-Some.last (all_test r whole.set (map moved_in c.args.moved.now) c.in_ok-edits.edits.items may.fit.each c.in_ok-edits.ensures.asks) last)

@@ -1,24 +1,38 @@
-use Rattle.std.proofs.Common.{◌∙◌, sym, ap, ◌++◌}
-use Rattle.gix_ref_file.specs.Tree.{bytes_at}
-use Rattle.history_store.proofs.NameRead.{file_reads, no_name_reads, record_reads, file_read, none_read}
+use Rattle.std.proofs.Common.{◌≡◌, ◌∙◌, sym, ap, Err}
+use Rattle.std.proofs.lemmas.Result.{err_from_is_err_and}
+use Rattle.gix_ref_file.specs.declared.files.FileError.TheVariants.{Failed}
+use Rattle.history_layout.proofs.FullNames.{full_of}
+use Rattle.history_store.proofs.Beside.{told_error}
+use Rattle.history_store.proofs.NamesRead.{fault_told, no_name_told, none_told, some_told}
 use Rattle.history_store.proofs.names.Names.find.Goals as goal
 
 pub returns-then-not-is_name-clause-found : goal.returns-then-not-is_name-clause-found
-returns-then-not-is_name-clause-found g c = λ honest keeps. no_name_reads c.args.self.now.kind (g.F.Files.history c.args.self.now.store.files).tree c.args.name.now (sym c.is_name.ensures ∙ c.if-not-is_name.true)
+returns-then-not-is_name-clause-found g c = λ honest keeps. no_name_told c.args.self.now.kind (g.F.Files.history c.args.self.now.store.files).tree c.args.name.now (sym c.is_name.ensures ∙ c.if-not-is_name.true)
 
-pub returns-in-Some-clause-found : goal.returns-in-Some-clause-found
-returns-in-Some-clause-found g c = λ honest keeps.
-    let named = sym c.is_name.ensures ∙ c.if-not-is_name.false in
-    let tree = (g.F.Files.history c.args.self.now.store.files).tree in
-    let name = c.args.name.now in
-    let text = c.deref.result.now in
-    file_reads c.args.self.now.kind tree name text c.id_in.result named
-    (file_read tree name text c.in_ok-read.field-0 c.in-Some.field-0 (c.in_ok-read.ensures.count honest) c.in-Some.is (c.deref.ensures.value ∙ c.in_ok-read.ensures.bytes honest ∙ ap (λ before. before ++ bytes_at tree name) c.new-text.ensures.items))
-    c.id_in.ensures
+pub returns-in_err-full-clause-failed : goal.returns-in_err-full-clause-failed
+returns-in_err-full-clause-failed g c = λ failed.
+    let error = err_from_is_err_and c.from_residual.result c.from_residual.ensures.1 in
+    let same : c.full_name.result ≡ Err Failed = c.in_err-full.was ∙ ap Err (told_error c.from_residual.result c.in_err-full.field-0.0 error.0 error.1 error.2 failed) in
+    absurd (c.full_name.ensures.failed (full_of c.args.name.now (sym c.is_name.ensures ∙ c.if-not-is_name.false)) same)
 
-pub returns-clause-found : goal.returns-clause-found
-returns-clause-found g c = λ honest keeps.
-    let named = sym c.is_name.ensures ∙ c.if-not-is_name.false in
-    let tree = (g.F.Files.history c.args.self.now.store.files).tree in
-    let name = c.args.name.now in
-    record_reads c.args.self.now.kind tree name c.packed_id.result c.args.self.now.packed.read c.args.self.now.packed.gone.items named (none_read tree name c.in_ok-read.field-0 (c.in_ok-read.ensures.count honest) c.in-None.is) keeps (c.packed_id.ensures named)
+pub returns-in-Ok-Some-clause-found : goal.returns-in-Ok-Some-clause-found
+returns-in-Ok-Some-clause-found g c = λ honest keeps.
+    let self = c.args.self.now in
+    let tree = (g.F.Files.history self.store.files).tree in
+    c.id_of_target.ensures
+    ∙ some_told self tree c.as_ref.result c.as_ref.ensures.value keeps c.args.name.now c.in_ok-full.full c.in_ok-full.ensures.same (sym c.is_name.ensures ∙ c.if-not-is_name.false)
+    c.in-Ok-Some.field-0 c.in-Ok-Some.field-0-0 c.in-Ok-Some.field-0-is (c.in-Ok-Some.ensures.told honest)
+
+pub returns-in-Ok-None-clause-found : goal.returns-in-Ok-None-clause-found
+returns-in-Ok-None-clause-found g c = λ honest keeps.
+    let self = c.args.self.now in
+    let tree = (g.F.Files.history self.store.files).tree in
+    none_told self tree c.as_ref.result c.as_ref.ensures.value keeps c.args.name.now c.in_ok-full.full c.in_ok-full.ensures.same (sym c.is_name.ensures ∙ c.if-not-is_name.false)
+    c.in-Ok-None.field-0 c.in-Ok-None.field-0-is (c.in-Ok-None.ensures.told honest)
+
+pub returns-in-Err-ReferenceCreation-clause-found : goal.returns-in-Err-ReferenceCreation-clause-found
+returns-in-Err-ReferenceCreation-clause-found g c = λ honest keeps.
+    let self = c.args.self.now in
+    let tree = (g.F.Files.history self.store.files).tree in
+    fault_told self tree c.as_ref.result c.as_ref.ensures.value keeps c.args.name.now c.in_ok-full.full c.in_ok-full.ensures.same (sym c.is_name.ensures ∙ c.if-not-is_name.false)
+    c.in-Err-ReferenceCreation.field-0 c.in-Err-ReferenceCreation.field-0-0 c.in-Err-ReferenceCreation.field-0-is (c.in-Err-ReferenceCreation.ensures.told honest)

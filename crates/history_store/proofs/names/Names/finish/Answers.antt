@@ -3,7 +3,7 @@ use Rattle.history_store.proofs.Transactions.{commit_failed, commit_wants}
 use Rattle.history_store.proofs.names.Names.finish.Goals as goal
 
 pub returns-in-Err-clause-memory : goal.returns-in-Err-clause-memory
-returns-in-Err-clause-memory g c = λ short. c.in-Err.ensures.memory (commit_wants c.in-Err.error (cc (short, c.of_committing.ensures)))
+returns-in-Err-clause-memory g c = λ short. c.in-Err.ensures.keeps.quiet (commit_wants c.in-Err.error (cc (short, c.of_committing.ensures)))
 
 pub returns-in-Err-clause-failed : goal.returns-in-Err-clause-failed
 returns-in-Err-clause-failed g c = λ honest can failed.

@@ -5,8 +5,8 @@ use Rattle.history_word.proofs.PushLemmas.{pushed_zip}
 use Rattle.history_word.proofs.draft.MoveDraft.add_to.Goals as goal
 
 pub returns : goal.returns
-returns c = λ order line d e. record {
-  to = pushed_zip IsTo c.take.result c.pushed.result c.args.to order.to line c.pushed.ensures (subst (λ ts. IfSome ts (λ all. AreTos all.items order.to)) (sym c.take.ensures.value) d.to) e;
+returns c = λ sent line d e. record {
+  to = pushed_zip IsTo c.take.result c.pushed.result c.args.to sent.to line c.pushed.ensures (subst (λ ts. IfSome ts (λ all. AreTos all.items sent.to)) (sym c.take.ensures.value) d.to) e;
   actor = d.actor;
   message = d.message;
 }

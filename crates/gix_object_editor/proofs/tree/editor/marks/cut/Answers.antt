@@ -1,4 +1,4 @@
-use Rattle.std.proofs.Common.{◌≡◌, ◌∙◌, ◌<◌, inl, inr, ap, sym, subst, arith, length}
+use Rattle.std.proofs.Common.{◌∙◌, inl, inr, ap, sym, subst, arith, length}
 use Rattle.gix_object_nodes.specs.Nodes.{slots_of, child_of}
 use Rattle.gix_object_nodes.specs.Marks.{marks_of, IsIdle, AreMarkedBut}
 use Rattle.gix_object_nodes.proofs.Paths.{by_test}
@@ -10,25 +10,22 @@ use Rattle.gix_object_editor.proofs.Growth.{cut_idle, cut_marked}
 use Rattle.gix_object_editor.proofs.tree.editor.marks.cut.Goals as goal
 
 pub is_more-more-requires : goal.is_more-more-requires
-is_more-more-requires c = λ k link.
-    let at = c.args.at.0 in
-    let name = c.args.name.now in
-    subst (λ ns. k < length ns) (sym c.as_slice.ensures.value)
-    (c.requires.tree.forest.within at name k (ap (λ ns. child_of (slots_of ns at name)) (sym c.as_slice-2.ensures.value) ∙ ap child_of (sym c.slot_at.ensures) ∙ link))
+is_more-more-requires c = λ k link. c.requires.tree.forest.within c.args.at.0 c.args.name.now k (ap child_of (sym c.slot_at.ensures) ∙ link)
 
 pub mark_if-requires-clause-tree : goal.mark_if-requires-clause-tree
 mark_if-requires-clause-tree c =
-    let old = c.args.nodes.now.items in
+    let old = c.args.nodes.now in
+    let new = c.take_at.new.nodes in
     let rest = c.take_at.ensures.rest in
     record {
-      forest = less_forest (slots_of old) (slots_of c.take_at.new.nodes.items) (length old) (length c.take_at.new.nodes.items) c.args.at.0 c.args.name.now c.requires.tree.forest (sym rest.len) (ap child_of c.take_at.ensures.here) rest.others;
+      forest = less_forest (slots_of old) (slots_of new) (length old) (length new) c.args.at.0 c.args.name.now c.requires.tree.forest (sym rest.len) (ap child_of c.take_at.ensures.here) rest.others;
       within = omega (arith, c.requires.tree.within, rest.len);
     }
 
 pub mark_if-requires-clause-marked : goal.mark_if-requires-clause-marked
 mark_if-requires-clause-marked c = λ more.
-    let old = c.args.nodes.now.items in
-    let new = c.take_at.new.nodes.items in
+    let old = c.args.nodes.now in
+    let new = c.take_at.new.nodes in
     let rest = c.take_at.ensures.rest in
     subst (AreMarkedBut c.args.at.0 (slots_of new) (marks_of new)) (sym rest.len)
     (fewer_marked c.args.at.0 (slots_of old) (slots_of new) (marks_of old) (marks_of new) (length old) c.requires.marked rest.marks
@@ -36,18 +33,14 @@ mark_if-requires-clause-marked c = λ more.
 
 pub returns : goal.returns
 returns c =
-    let old = c.args.nodes.now.items in
-    let mid = c.take_at.new.nodes.items in
+    let old = c.args.nodes.now in
+    let mid = c.take_at.new.nodes in
     let at = c.args.at.0 in
     let name = c.args.name.now in
-    let here : c.slot_at.result ≡ slots_of old at name = c.slot_at.ensures ∙ ap (λ ns. slots_of ns at name) c.as_slice-2.ensures.value in
     elim (by_test c.is_more-more.result) [
       | inl more ↦
-          cut_marked old mid at name c.take_at.ensures.here c.take_at.ensures.rest c.mark_if.new.nodes.items
-          (λ idle. c.is_more-more.ensures.so more (subst (λ ns. IsIdle (marks_of ns) c.slot_at.result) (sym c.as_slice.ensures.value) (subst (IsIdle (marks_of old)) (sym here) idle)))
-          (c.mark_if.ensures.marked more)
+          cut_marked old mid at name c.take_at.ensures.here c.take_at.ensures.rest c.mark_if.new.nodes (λ idle. c.is_more-more.ensures.so more (subst (IsIdle (marks_of old)) (sym c.slot_at.ensures) idle)) (c.mark_if.ensures.marked more)
       | inr idle ↦
           subst (IsCut old at name) (sym (c.mark_if.ensures.same idle))
-          (cut_idle old mid at name c.take_at.ensures.here c.take_at.ensures.rest c.requires.marked
-          (subst (λ ns. IsIdle (marks_of ns) (slots_of old at name)) c.as_slice.ensures.value (subst (IsIdle (marks_of c.as_slice.result.now)) here (c.is_more-more.ensures.otherwise idle))))
+          (cut_idle old mid at name c.take_at.ensures.here c.take_at.ensures.rest c.requires.marked (subst (IsIdle (marks_of old)) c.slot_at.ensures (c.is_more-more.ensures.otherwise idle)))
     ]

@@ -7,10 +7,10 @@ use Rattle.gix_object_editor.proofs.tree.editor.marks.mark_if.Given as goal
 -- the trees so far are marked, each lying in the next
 abbrev pub invariant-trees : goal.invariant-trees
 invariant-trees l = record {
-  within : l.above.0 < length l.nodes.items;
-  len : length l.nodes.items ≡ length l.initial.nodes.items;
-  slots : HasSlotsOf l.initial.nodes.items l.nodes.items;
-  climb : IsClimbing (slots_of l.initial.nodes.items) (marks_of l.initial.nodes.items) (marks_of l.nodes.items) l.fn.at.0 l.above.0 (length l.initial.nodes.items);
+  within : l.above.0 < length l.nodes;
+  len : length l.nodes ≡ length l.initial.nodes;
+  slots : HasSlotsOf l.initial.nodes l.nodes;
+  climb : IsClimbing (slots_of l.initial.nodes) (marks_of l.initial.nodes) (marks_of l.nodes) l.fn.at.0 l.above.0 (length l.initial.nodes);
 }
 
 abbrev pub decreases-trees : goal.decreases-trees

@@ -1,5 +1,5 @@
 use Rattle.std.proofs.Common.{ℕ, inl, inr, refl, ◌≡◌, ◌≢◌, ◌<◌, ◌∙◌, ◌+◌, ◌-◌, List, [], ◌∷◌, ap, sym, subst, arith, length, drop, take, get_or}
-use Rattle.std.specs.Prelude.{Ok, is_some}
+use Rattle.std.specs.Prelude.{Ok, is_some, IsTrue, IsFalse}
 use Rattle.std.specs.Borrow.{Bor}
 use Rattle.std.specs.List.{All}
 use Rattle.std.proofs.lemmas.List.{get_or-map}
@@ -9,9 +9,9 @@ use Rattle.gix_object_nodes.specs.declared.node.Node.{Node}
 use Rattle.gix_object_nodes.specs.Nodes.{slots_of, child_of, files_of_node, IsNoFolder, LeadsTo}
 use Rattle.gix_object_editor.specs.Editor.{names_of, LeadsInto}
 use Rattle.gix_object_editor.specs.Entries.{MayStandMade}
-use Rattle.gix_object_editor.specs.Grown.{Appends, IsFolderOf, first_of}
+use Rattle.gix_object_editor.specs.Grown.{Appends, HasTree, IsFolderOf, IsMarkedBut, first_of}
 use Rattle.gix_object_editor.proofs.Asking.{into_asked, into_stops, late_opening, some_all, some_names, walk_into_stops}
-use Rattle.gix_object_editor.proofs.Edited.{reach, reach_more}
+use Rattle.gix_object_editor.proofs.Edited.{reach, reach_more, same_given, up_given}
 use Rattle.gix_object_editor.proofs.Edits.{edit_fault, end_tree, leads_into, left_names, stopped_tree}
 use Rattle.gix_object_editor.proofs.FolderMade.{leads_made, leads_there, made_forest, made_keeps_each, made_marked, made_read, made_within, makes_made, makes_there}
 use Rattle.gix_object_editor.proofs.Growth.{grows_same, grows_then, no_files, none_into}
@@ -57,7 +57,7 @@ make_folders-requires-clause-full g c =
 pub mark_if-requires-clause-tree : goal.mark_if-requires-clause-tree
 mark_if-requires-clause-tree g c =
     let appends = c.in_ok-made-in-None.ensures.made.appends in
-    record { forest = appends.forest; within = omega (arith, c.in_ok-at.ensures.within.0, c.folder_below.ensures.grows.opened.longer, appends.longer) }
+    subst (λ ns. HasTree ns c.in_ok-at.at.0) (sym c.as_mut_slice.ensures.value) (record { forest = appends.forest; within = omega (arith, c.in_ok-at.ensures.within.0, c.folder_below.ensures.grows.opened.longer, appends.longer) })
 
 pub mark_if-requires-clause-marked : goal.mark_if-requires-clause-marked
 mark_if-requires-clause-marked g c = λ stood.
@@ -65,7 +65,8 @@ mark_if-requires-clause-marked g c = λ stood.
     let i = c.in_ok-at.depth in
     let grows = grows_then c.walk.ensures.grows c.folder_below.ensures.grows in
     let within : c.in_ok-at.at.0 < length c.folder_below.new.nodes.items = omega (arith, c.in_ok-at.ensures.within.0, c.folder_below.ensures.grows.opened.longer) in
-    laid_but grows within (subst (λ b. Appends b c.folder_below.new.nodes.items c.in_ok-at.at.0 (first_of (take (length path - i) (drop i path))) c.make_folders.new.nodes.items) stood c.in_ok-made-in-None.ensures.made.appends) c.args.self.now.forest c.args.self.now.marked
+    subst (IsMarkedBut c.in_ok-at.at.0) (sym c.as_mut_slice.ensures.value)
+    (laid_but grows within (subst (λ b. Appends b c.folder_below.new.nodes.items c.in_ok-at.at.0 (first_of (take (length path - i) (drop i path))) c.make_folders.new.nodes.items) stood c.in_ok-made-in-None.ensures.made.appends) c.args.self.now.forest c.args.self.now.marked)
 
 pub invariant_of-self-in-None : goal.invariant_of-self-in-None
 invariant_of-self-in-None g c =
@@ -73,10 +74,9 @@ invariant_of-self-in-None g c =
     let within : c.in_ok-at.at.0 < length c.folder_below.new.nodes.items = omega (arith, c.in_ok-at.ensures.within.0, c.folder_below.ensures.grows.opened.longer) in
     let so = c.in_ok-made-in-None.ensures.made in
     let old = c.args.self.now in
-    record {
-      forest = made_forest old.forest old.marked grows within so c.mark_if.ensures.marked c.mark_if.ensures.same;
-      marked = made_marked old.forest old.marked grows within so c.mark_if.ensures.marked c.mark_if.ensures.same;
-    }
+    let up = λ (yes : IsTrue c.is_some-stands.result). up_given c.make_folders.new.nodes c.as_mut_slice.ensures.value c.as_mut_slice.ensures.len (c.mark_if.ensures.marked yes) in
+    let same = λ (no : IsFalse c.is_some-stands.result). same_given c.make_folders.new.nodes c.as_mut_slice.ensures.value c.as_mut_slice.ensures.len (c.mark_if.ensures.same no) in
+    record { forest = made_forest old.forest old.marked grows within so up same; marked = made_marked old.forest old.marked grows within so up same }
 
 -- ---- refusals
 
@@ -225,8 +225,8 @@ returns-in_ok-made-in-None-clause-kept g c =
     let plain : IsNoFolder (slots_of new at (get_or (names path) i [])) = subst (λ p. IsNoFolder (slots_of new at (get_or p 0 []))) is found.0 in
     let r = reach_more (reach old.nodes.items c.walk.new.nodes.items 0 at i path c.walk.ensures.grows walk_so.within.0 walk_so.within.1 walk_so.walked [] refl) c.folder_below.ensures.grows (λ some. plain) in
     let so = c.in_ok-made-in-None.ensures.made in
-    let up = c.mark_if.ensures.marked in
-    let same = c.mark_if.ensures.same in
+    let up = λ (yes : IsTrue c.is_some-stands.result). up_given c.make_folders.new.nodes c.as_mut_slice.ensures.value c.as_mut_slice.ensures.len (c.mark_if.ensures.marked yes) in
+    let same = λ (no : IsFalse c.is_some-stands.result). same_given c.make_folders.new.nodes c.as_mut_slice.ensures.value c.as_mut_slice.ensures.len (c.mark_if.ensures.same no) in
     let slot : c.slot_at.result ≡ slots_of new at (get_or (names path) i []) =
     c.slot_at.ensures ∙ ap (slots_of c.as_slice.result.now at) (sym (get_or-map (λ (x : Bor (List ℕ)). x.now) path i _ [] walk_so.within.1)) ∙ ap (λ (ns : List Node). slots_of ns at (get_or (names path) i [])) c.as_slice.ensures.value in
     let stood : c.is_some-stands.result ≡ is_some (slots_of new at (get_or (names path) i [])) = c.is_some-stands.ensures ∙ ap is_some slot in
@@ -248,8 +248,8 @@ returns-in_ok-made-in-None-clause-leads g c =
     let plain : IsNoFolder (slots_of new at (get_or (names path) i [])) = subst (λ p. IsNoFolder (slots_of new at (get_or p 0 []))) is found.0 in
     let r = reach_more (reach old.nodes.items c.walk.new.nodes.items 0 at i path c.walk.ensures.grows walk_so.within.0 walk_so.within.1 walk_so.walked [] refl) c.folder_below.ensures.grows (λ some. plain) in
     let so = c.in_ok-made-in-None.ensures.made in
-    let up = c.mark_if.ensures.marked in
-    let same = c.mark_if.ensures.same in
+    let up = λ (yes : IsTrue c.is_some-stands.result). up_given c.make_folders.new.nodes c.as_mut_slice.ensures.value c.as_mut_slice.ensures.len (c.mark_if.ensures.marked yes) in
+    let same = λ (no : IsFalse c.is_some-stands.result). same_given c.make_folders.new.nodes c.as_mut_slice.ensures.value c.as_mut_slice.ensures.len (c.mark_if.ensures.same no) in
     leads_made old.forest old.marked r.grows r.within so up same r.leads is
 
 pub returns-in_ok-made-in-None-clause-within : goal.returns-in_ok-made-in-None-clause-within
@@ -257,7 +257,9 @@ returns-in_ok-made-in-None-clause-within g c =
     let old = c.args.self.now in
     let grows = grows_then c.walk.ensures.grows c.folder_below.ensures.grows in
     let within : c.in_ok-at.at.0 < length c.folder_below.new.nodes.items = omega (arith, c.in_ok-at.ensures.within.0, c.folder_below.ensures.grows.opened.longer) in
-    made_within old.forest old.marked grows within c.in_ok-made-in-None.ensures.made c.mark_if.ensures.marked c.mark_if.ensures.same
+    let up = λ (yes : IsTrue c.is_some-stands.result). up_given c.make_folders.new.nodes c.as_mut_slice.ensures.value c.as_mut_slice.ensures.len (c.mark_if.ensures.marked yes) in
+    let same = λ (no : IsFalse c.is_some-stands.result). same_given c.make_folders.new.nodes c.as_mut_slice.ensures.value c.as_mut_slice.ensures.len (c.mark_if.ensures.same no) in
+    made_within old.forest old.marked grows within c.in_ok-made-in-None.ensures.made up same
 
 pub returns-in_ok-made-in-None-clause-made : goal.returns-in_ok-made-in-None-clause-made
 returns-in_ok-made-in-None-clause-made g c =
@@ -272,8 +274,8 @@ returns-in_ok-made-in-None-clause-made g c =
     let plain : IsNoFolder (slots_of new at (get_or (names path) i [])) = subst (λ p. IsNoFolder (slots_of new at (get_or p 0 []))) is found.0 in
     let r = reach_more (reach old.nodes.items c.walk.new.nodes.items 0 at i path c.walk.ensures.grows walk_so.within.0 walk_so.within.1 walk_so.walked [] refl) c.folder_below.ensures.grows (λ some. plain) in
     let so = c.in_ok-made-in-None.ensures.made in
-    let up = c.mark_if.ensures.marked in
-    let same = c.mark_if.ensures.same in
+    let up = λ (yes : IsTrue c.is_some-stands.result). up_given c.make_folders.new.nodes c.as_mut_slice.ensures.value c.as_mut_slice.ensures.len (c.mark_if.ensures.marked yes) in
+    let same = λ (no : IsFalse c.is_some-stands.result). same_given c.make_folders.new.nodes c.as_mut_slice.ensures.value c.as_mut_slice.ensures.len (c.mark_if.ensures.same no) in
     let slot : c.slot_at.result ≡ slots_of new at (get_or (names path) i []) =
     c.slot_at.ensures ∙ ap (slots_of c.as_slice.result.now at) (sym (get_or-map (λ (x : Bor (List ℕ)). x.now) path i _ [] walk_so.within.1)) ∙ ap (λ (ns : List Node). slots_of ns at (get_or (names path) i [])) c.as_slice.ensures.value in
     let stood : c.is_some-stands.result ≡ is_some (slots_of new at (get_or (names path) i [])) = c.is_some-stands.ensures ∙ ap is_some slot in

@@ -3,10 +3,11 @@ use Rattle.std.proofs.lemmas.Result.{err_from_is_err_and}
 use Rattle.gix_object_editor.specs.declared.tree.editor.state.Editor.{Editor}
 use Rattle.gix_object_editor.specs.Asked.{front_of, unopened_into, AsksAll}
 use Rattle.gix_object_editor.specs.Editor.{names_of, LeadsThrough}
+use Rattle.gix_object_editor.specs.Grown.{HasTree, IsMarkedOf}
 use Rattle.gix_object_editor.specs.Outcomes.{KeepsTree, Removes}
 use Rattle.gix_object_nodes.specs.Nodes.{slots_of, files_of_node, onto}
 use Rattle.gix_object_editor.proofs.Asking.{through_asked, through_stops}
-use Rattle.gix_object_editor.proofs.Edited.{cut_forest, cut_keeps_above, cut_keeps_each, cut_marks, cut_named, cut_read, keeps_edited, keeps_grown, reach, removes_cut, removes_nothing_left}
+use Rattle.gix_object_editor.proofs.Edited.{cut_forest, cut_given, cut_keeps_above, cut_keeps_each, cut_marks, cut_named, cut_read, keeps_edited, keeps_grown, reach, removes_cut, removes_nothing_left}
 use Rattle.gix_object_editor.proofs.Edits.{edit_fault, stopped_tree}
 use Rattle.gix_object_editor.proofs.Growth.{grown_marked, none_into}
 use Rattle.gix_object_editor.proofs.Raised.{none_after, some_after}
@@ -18,13 +19,16 @@ pub walk-requires-clause-tree : goal.walk-requires-clause-tree
 walk-requires-clause-tree g c = record { forest = c.args.self.now.forest; within = c.requires }
 
 pub cut-requires-clause-tree : goal.cut-requires-clause-tree
-cut-requires-clause-tree g c = record { forest = c.walk.ensures.grows.opened.forest; within = c.in_ok-at.ensures.within.0 }
+cut-requires-clause-tree g c =
+    subst (λ ns. HasTree ns c.in_ok-at.at.0) (sym c.as_mut_slice.ensures.value) (record { forest = c.walk.ensures.grows.opened.forest; within = c.in_ok-at.ensures.within.0 })
 
 pub cut-requires-clause-marked : goal.cut-requires-clause-marked
-cut-requires-clause-marked g c = grown_marked c.args.self.now.forest c.args.self.now.marked c.walk.ensures.grows
+cut-requires-clause-marked g c = subst IsMarkedOf (sym c.as_mut_slice.ensures.value) (grown_marked c.args.self.now.forest c.args.self.now.marked c.walk.ensures.grows)
 
 pub invariant_of-self-then-depth-path : goal.invariant_of-self-then-depth-path
-invariant_of-self-then-depth-path g c = record { forest = cut_forest c.walk.ensures.grows c.cut.ensures; marked = cut_marks c.walk.ensures.grows c.cut.ensures }
+invariant_of-self-then-depth-path g c =
+    let cut = cut_given c.walk.new.nodes c.as_mut_slice.ensures.value c.as_mut_slice.ensures.len c.cut.ensures in
+    record { forest = cut_forest c.walk.ensures.grows cut; marked = cut_marks c.walk.ensures.grows cut }
 
 pub invariant_of-self-else-depth-path : goal.invariant_of-self-else-depth-path
 invariant_of-self-else-depth-path g c = record { forest = c.walk.ensures.grows.opened.forest; marked = grown_marked c.args.self.now.forest c.args.self.now.marked c.walk.ensures.grows }
@@ -68,8 +72,9 @@ returns-clause-kept g c =
     let grows = c.walk.ensures.grows in
     elim c.if-depth-path.branch [
       | then-depth-path t ↦ Refused.kept_as t.self-is
-          (Refused.made g.S.Lookup.is_honest g.S.Lookup.table c.args.path.now _ c.args.self.now _ refl (omega (arith, c.walk.ensures.counted)) c.in_ok-check_names.ensures.ok _ (cut_read grows t.cut.ensures)
-          (λ h has down may each. cut_keeps_each grows t.cut.ensures h has down each))
+          (let cut = cut_given c.walk.new.nodes t.as_mut_slice.ensures.value t.as_mut_slice.ensures.len t.cut.ensures in
+          Refused.made g.S.Lookup.is_honest g.S.Lookup.table c.args.path.now _ c.args.self.now _ refl (omega (arith, c.walk.ensures.counted)) c.in_ok-check_names.ensures.ok _ (cut_read grows cut)
+          (λ h has down may each. cut_keeps_each grows cut h has down each))
       | else-depth-path t ↦ Refused.kept_as t.self-is
           (Refused.grown g.S.Lookup.is_honest g.S.Lookup.table c.args.path.now _ c.args.self.now _ refl (omega (arith, c.walk.ensures.counted)) c.in_ok-check_names.ensures.ok _ grows)
     ]
@@ -79,7 +84,8 @@ returns-clause-stays g c =
     let grows = c.walk.ensures.grows in
     elim c.if-depth-path.branch [
       | then-depth-path t ↦ subst (λ (e : Editor _). KeepsTree c.args.from.0 c.args.self.now e) (sym t.self-is)
-          (keeps_edited c.walk.new.nodes.items c.args.from.0 c.in_ok-at.at.0 c.requires c.in_ok-at.ensures.walked.below grows (omega (arith, t.cut.ensures.len)) (cut_keeps_above grows t.cut.ensures))
+          (let cut = cut_given c.walk.new.nodes t.as_mut_slice.ensures.value t.as_mut_slice.ensures.len t.cut.ensures in
+          keeps_edited c.walk.new.nodes.items c.args.from.0 c.in_ok-at.at.0 c.requires c.in_ok-at.ensures.walked.below grows (omega (arith, cut.len)) (cut_keeps_above grows cut))
       | else-depth-path t ↦ subst (λ (e : Editor _). KeepsTree c.args.from.0 c.args.self.now e) (sym t.self-is) (keeps_grown c.args.from.0 c.requires grows)
     ]
 
@@ -91,7 +97,7 @@ returns-clause-removed g c = λ way w.
     let r = reach c.args.self.now.nodes.items c.walk.new.nodes.items c.args.from.0 c.in_ok-at.at.0 i path c.walk.ensures.grows so.within.0 so.within.1 so.walked way w in
     elim c.if-depth-path.branch [
       | then-depth-path t ↦ subst (λ (e : Editor _). Removes g.S.Lookup.is_honest g.S.Lookup.table (onto way (names_of path)) c.args.self.now e) (sym t.self-is)
-          (removes_cut g.S.Lookup.is_honest g.S.Lookup.table c.args.self.now _ r (cut_named path i so.within.1 t.cut.ensures) (none_after path i t.if-depth-path.true))
+          (removes_cut g.S.Lookup.is_honest g.S.Lookup.table c.args.self.now _ r (cut_named path i so.within.1 (cut_given c.walk.new.nodes t.as_mut_slice.ensures.value t.as_mut_slice.ensures.len t.cut.ensures)) (none_after path i t.if-depth-path.true))
       | else-depth-path t ↦ subst (λ (e : Editor _). Removes g.S.Lookup.is_honest g.S.Lookup.table (onto way (names_of path)) c.args.self.now e) (sym t.self-is)
           (removes_nothing_left g.S.Lookup.is_honest g.S.Lookup.table c.args.self.now _ r (some_after path i so.within.1 t.if-depth-path.false))
     ]

@@ -4,11 +4,12 @@ use Rattle.std.proofs.lemmas.Result.{err_from_is_err_and}
 use Rattle.gix_object_editor.specs.declared.tree.editor.state.Editor.{Editor}
 use Rattle.gix_object_editor.specs.Asked.{unopened_into, AsksAll}
 use Rattle.gix_object_editor.specs.Editor.{names_of, LeadsInto, IsFolder}
+use Rattle.gix_object_editor.specs.Grown.{HasTree, IsMarkedOf}
 use Rattle.gix_object_editor.specs.Outcomes.{KeepsTree, RemovesLeaf}
 use Rattle.gix_object_nodes.specs.Files.{Path}
 use Rattle.gix_object_nodes.specs.Nodes.{slots_of, files_of_node, onto, AreFilled, IsFolderAt, LeadsTo}
 use Rattle.gix_object_editor.proofs.Asking.{asks_done, asks_same, into_asked, into_stops, late_folder, some_names, walk_into_stops}
-use Rattle.gix_object_editor.proofs.Edited.{cut_forest, cut_keeps_above, cut_keeps_each, cut_marks, cut_named, cut_read, had_none_below, keeps_edited, keeps_grown, name_at, reach, reach_more, removes_cut, removes_nothing_left}
+use Rattle.gix_object_editor.proofs.Edited.{cut_forest, cut_given, cut_keeps_above, cut_keeps_each, cut_marks, cut_named, cut_read, had_none_below, keeps_edited, keeps_grown, name_at, reach, reach_more, removes_cut, removes_nothing_left}
 use Rattle.gix_object_editor.proofs.Edits.{folder_fault, last_split, leads_into, leaf_fault, stopped_tree}
 use Rattle.gix_object_editor.proofs.Growth.{grown_marked, grows_then, no_files, none_into}
 use Rattle.gix_object_editor.proofs.Raised.{none_after, some_after}
@@ -24,15 +25,17 @@ pub refuse_folder-requires : goal.refuse_folder-requires
 refuse_folder-requires g c = record { forest = c.walk.ensures.grows.opened.forest; within = c.in_ok-at.ensures.within.0 }
 
 pub cut-requires-clause-tree : goal.cut-requires-clause-tree
-cut-requires-clause-tree g c = record { forest = c.refuse_folder.ensures.grows.opened.forest; within = omega (arith, c.in_ok-at.ensures.within.0, c.refuse_folder.ensures.grows.opened.longer) }
+cut-requires-clause-tree g c = subst (λ ns. HasTree ns c.in_ok-at.at.0) (sym c.as_mut_slice.ensures.value)
+    (record { forest = c.refuse_folder.ensures.grows.opened.forest; within = omega (arith, c.in_ok-at.ensures.within.0, c.refuse_folder.ensures.grows.opened.longer) })
 
 pub cut-requires-clause-marked : goal.cut-requires-clause-marked
-cut-requires-clause-marked g c = grown_marked c.args.self.now.forest c.args.self.now.marked (grows_then c.walk.ensures.grows c.refuse_folder.ensures.grows)
+cut-requires-clause-marked g c = subst IsMarkedOf (sym c.as_mut_slice.ensures.value) (grown_marked c.args.self.now.forest c.args.self.now.marked (grows_then c.walk.ensures.grows c.refuse_folder.ensures.grows))
 
 pub invariant_of-self-then-depth-path : goal.invariant_of-self-then-depth-path
 invariant_of-self-then-depth-path g c =
     let grows = grows_then c.walk.ensures.grows c.refuse_folder.ensures.grows in
-    record { forest = cut_forest grows c.cut.ensures; marked = cut_marks grows c.cut.ensures }
+    let cut = cut_given c.refuse_folder.new.nodes c.as_mut_slice.ensures.value c.as_mut_slice.ensures.len c.cut.ensures in
+    record { forest = cut_forest grows cut; marked = cut_marks grows cut }
 
 pub invariant_of-self-else-depth-path : goal.invariant_of-self-else-depth-path
 invariant_of-self-else-depth-path g c = record { forest = c.walk.ensures.grows.opened.forest; marked = grown_marked c.args.self.now.forest c.args.self.now.marked c.walk.ensures.grows }
@@ -119,8 +122,9 @@ returns-clause-kept g c =
     elim c.if-depth-path.branch [
       | then-depth-path+in_ok-refuse_folder t ↦ Refused.kept_as t.self-is
           (let grows = grows_then c.walk.ensures.grows t.refuse_folder.ensures.grows in
-          Refused.made g.S.Lookup.is_honest g.S.Lookup.table c.args.path.now _ c.args.self.now _ refl (omega (arith, c.walk.ensures.counted, t.refuse_folder.ensures.counted)) c.in_ok-check_names.ensures.ok _ (cut_read grows t.cut.ensures)
-          (λ h has down may each. cut_keeps_each grows t.cut.ensures h has down each))
+          let cut = cut_given t.refuse_folder.new.nodes t.as_mut_slice.ensures.value t.as_mut_slice.ensures.len t.cut.ensures in
+          Refused.made g.S.Lookup.is_honest g.S.Lookup.table c.args.path.now _ c.args.self.now _ refl (omega (arith, c.walk.ensures.counted, t.refuse_folder.ensures.counted)) c.in_ok-check_names.ensures.ok _ (cut_read grows cut)
+          (λ h has down may each. cut_keeps_each grows cut h has down each))
       | else-depth-path t ↦ Refused.kept_as t.self-is
           (Refused.grown g.S.Lookup.is_honest g.S.Lookup.table c.args.path.now _ c.args.self.now _ refl (omega (arith, c.walk.ensures.counted)) c.in_ok-check_names.ensures.ok _ c.walk.ensures.grows)
     ]
@@ -130,7 +134,8 @@ returns-clause-stays g c =
     elim c.if-depth-path.branch [
       | then-depth-path+in_ok-refuse_folder t ↦ subst (λ (e : Editor _). KeepsTree c.args.from.0 c.args.self.now e) (sym t.self-is)
           (let grows = grows_then c.walk.ensures.grows t.refuse_folder.ensures.grows in
-          keeps_edited t.refuse_folder.new.nodes.items c.args.from.0 c.in_ok-at.at.0 c.requires c.in_ok-at.ensures.walked.below grows (omega (arith, t.cut.ensures.len)) (cut_keeps_above grows t.cut.ensures))
+          let cut = cut_given t.refuse_folder.new.nodes t.as_mut_slice.ensures.value t.as_mut_slice.ensures.len t.cut.ensures in
+          keeps_edited t.refuse_folder.new.nodes.items c.args.from.0 c.in_ok-at.at.0 c.requires c.in_ok-at.ensures.walked.below grows (omega (arith, cut.len)) (cut_keeps_above grows cut))
       | else-depth-path t ↦ subst (λ (e : Editor _). KeepsTree c.args.from.0 c.args.self.now e) (sym t.self-is) (keeps_grown c.args.from.0 c.requires c.walk.ensures.grows)
     ]
 
@@ -145,7 +150,7 @@ returns-clause-removed g c = λ way w.
           (let last = none_after path i t.if-depth-path.true in
           let r = reach_more start t.refuse_folder.ensures.grows (λ some. absurd (some last)) in
           record {
-            removes = removes_cut g.S.Lookup.is_honest g.S.Lookup.table c.args.self.now _ r (cut_named path i so.within.1 t.cut.ensures) last;
+            removes = removes_cut g.S.Lookup.is_honest g.S.Lookup.table c.args.self.now _ r (cut_named path i so.within.1 (cut_given t.refuse_folder.new.nodes t.as_mut_slice.ensures.value t.as_mut_slice.ensures.len t.cut.ensures)) last;
             none_below = had_none_below g.S.Lookup.is_honest g.S.Lookup.table c.args.self.now r
                 (subst (λ m. IsFolderAt (slots_of t.refuse_folder.new.nodes.items) c.in_ok-at.at.0 m None) (name_at path i so.within.1) t.in_ok-refuse_folder.ensures.plain);
           })

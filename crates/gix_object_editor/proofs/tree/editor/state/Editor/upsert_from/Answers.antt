@@ -13,8 +13,9 @@ use Rattle.gix_object_nodes.specs.Nodes.{slots_of, files_of_node, onto, IsEntry,
 use Rattle.gix_object_nodes.proofs.WrittenEntries.{null_test}
 use Rattle.gix_object_editor.specs.Editor.{names_of, leaf_of_kind, LeadsThrough}
 use Rattle.gix_object_editor.specs.Entries.{MayStand}
+use Rattle.gix_object_editor.specs.Grown.{HasTree, IsMarkedBut, IsMarkedOf}
 use Rattle.gix_object_editor.proofs.Asking.{some_all, through_asked, through_stops}
-use Rattle.gix_object_editor.proofs.Edited.{cut_forest, cut_keeps_above, cut_keeps_each, cut_marks, cut_named, cut_read, keeps_edited, keeps_grown, puts_cut, reach}
+use Rattle.gix_object_editor.proofs.Edited.{cut_forest, cut_given, cut_keeps_above, cut_keeps_each, cut_marks, cut_named, cut_read, keeps_edited, keeps_grown, puts_cut, reach, up_given}
 use Rattle.gix_object_editor.proofs.Edits.{edit_fault, left_names, stopped_tree}
 use Rattle.gix_object_editor.proofs.Growth.{grown_marked, grows_same, grows_then, no_files, none_into}
 use Rattle.gix_object_editor.proofs.Kept.{may_drop}
@@ -35,10 +36,11 @@ pub walk-requires-clause-tree : goal.walk-requires-clause-tree
 walk-requires-clause-tree g c = record { forest = c.args.self.now.forest; within = c.requires }
 
 pub cut-requires-clause-tree : goal.cut-requires-clause-tree
-cut-requires-clause-tree g c = record { forest = c.walk.ensures.grows.opened.forest; within = c.in_ok-at.ensures.within.0 }
+cut-requires-clause-tree g c =
+    subst (λ ns. HasTree ns c.in_ok-at.at.0) (sym c.as_mut_slice.ensures.value) (record { forest = c.walk.ensures.grows.opened.forest; within = c.in_ok-at.ensures.within.0 })
 
 pub cut-requires-clause-marked : goal.cut-requires-clause-marked
-cut-requires-clause-marked g c = grown_marked c.args.self.now.forest c.args.self.now.marked c.walk.ensures.grows
+cut-requires-clause-marked g c = subst IsMarkedOf (sym c.as_mut_slice.ensures.value) (grown_marked c.args.self.now.forest c.args.self.now.marked c.walk.ensures.grows)
 
 pub lay_entry-requires-clause-tree : goal.lay_entry-requires-clause-tree
 lay_entry-requires-clause-tree g c = record { forest = c.walk.ensures.grows.opened.forest; within = c.in_ok-at.ensures.within.0 }
@@ -55,10 +57,11 @@ lay_entry-requires-clause-plain g c = λ more.
 pub mark_if-requires-clause-tree : goal.mark_if-requires-clause-tree
 mark_if-requires-clause-tree g c =
     let appends = c.in_ok-lay_entry.ensures.laid.appends in
-    record { forest = appends.forest; within = omega (arith, c.in_ok-at.ensures.within.0, appends.longer) }
+    subst (λ ns. HasTree ns c.in_ok-at.at.0) (sym c.as_mut_slice-2.ensures.value) (record { forest = appends.forest; within = omega (arith, c.in_ok-at.ensures.within.0, appends.longer) })
 
 pub mark_if-requires-clause-marked : goal.mark_if-requires-clause-marked
-mark_if-requires-clause-marked g c = λ yes. laid_but c.walk.ensures.grows c.in_ok-at.ensures.within.0 c.in_ok-lay_entry.ensures.laid.appends c.args.self.now.forest c.args.self.now.marked
+mark_if-requires-clause-marked g c = λ yes. subst (IsMarkedBut c.in_ok-at.at.0) (sym c.as_mut_slice-2.ensures.value)
+    (laid_but c.walk.ensures.grows c.in_ok-at.ensures.within.0 c.in_ok-lay_entry.ensures.laid.appends c.args.self.now.forest c.args.self.now.marked)
 
 pub invariant_of-self : goal.invariant_of-self
 invariant_of-self g c = record { forest = c.walk.ensures.grows.opened.forest; marked = grown_marked c.args.self.now.forest c.args.self.now.marked c.walk.ensures.grows }
@@ -67,11 +70,13 @@ pub invariant_of-self-2 : goal.invariant_of-self-2
 invariant_of-self-2 g c =
     let grows = c.walk.ensures.grows in
     let appends = c.in_ok-lay_entry.ensures.laid.appends in
-    let up = c.mark_if.ensures.marked refl in
+    let up = up_given c.lay_entry.new.nodes c.as_mut_slice-2.ensures.value c.as_mut_slice-2.ensures.len (c.mark_if.ensures.marked refl) in
     record { forest = up_forest grows c.in_ok-at.ensures.within.0 appends up; marked = up_marked grows c.in_ok-at.ensures.within.0 appends up }
 
 pub invariant_of-self-then-is_null : goal.invariant_of-self-then-is_null
-invariant_of-self-then-is_null g c = record { forest = cut_forest c.walk.ensures.grows c.cut.ensures; marked = cut_marks c.walk.ensures.grows c.cut.ensures }
+invariant_of-self-then-is_null g c =
+    let cut = cut_given c.walk.new.nodes c.as_mut_slice.ensures.value c.as_mut_slice.ensures.len c.cut.ensures in
+    record { forest = cut_forest c.walk.ensures.grows cut; marked = cut_marks c.walk.ensures.grows cut }
 
 -- ---- refusals
 
@@ -128,7 +133,7 @@ returns-clause-kept g c =
     let path = c.args.path.now in
     let i = c.in_ok-at.depth in
     let laid = c.in_ok-lay_entry.ensures.laid in
-    let up = c.mark_if.ensures.marked refl in
+    let up = up_given c.lay_entry.new.nodes c.as_mut_slice-2.ensures.value c.as_mut_slice-2.ensures.len (c.mark_if.ensures.marked refl) in
     let leaf = kind_leaf c.from.result c.args.kind c.args.id c.from.ensures.0 c.from.ensures.1 in
     Refused.made g.S.Lookup.is_honest g.S.Lookup.table path _ c.args.self.now _ refl (omega (arith, c.walk.ensures.counted)) c.in_ok-check_names.ensures.ok _ (up_read grows so.within.0 laid.appends up)
     (λ h has down fit each. laid_each grows laid up h has down
@@ -140,7 +145,7 @@ returns-clause-stays g c =
     let grows = c.walk.ensures.grows in
     let so = c.in_ok-at.ensures in
     let appends = c.in_ok-lay_entry.ensures.laid.appends in
-    let up = c.mark_if.ensures.marked refl in
+    let up = up_given c.lay_entry.new.nodes c.as_mut_slice-2.ensures.value c.as_mut_slice-2.ensures.len (c.mark_if.ensures.marked refl) in
     keeps_edited c.walk.new.nodes.items c.args.from.0 c.in_ok-at.at.0 c.requires so.walked.below grows (up_longer grows so.within.0 appends up) (up_above grows so.within.0 appends up)
 
 pub returns-clause-put : goal.returns-clause-put
@@ -151,7 +156,7 @@ returns-clause-put g c = λ way w.
     let r = reach c.args.self.now.nodes.items c.walk.new.nodes.items c.args.from.0 c.in_ok-at.at.0 i path c.walk.ensures.grows so.within.0 so.within.1 so.walked way w in
     let left = left_names path i so.within.1 in
     let leaf = kind_leaf c.from.result c.args.kind c.args.id c.from.ensures.0 c.from.ensures.1 in
-    puts_laid g.S.Lookup.is_honest g.S.Lookup.table c.args.self.now _ r c.in_ok-lay_entry.ensures.laid (c.mark_if.ensures.marked refl) left.1 (leaf_of_kind c.args.kind c.args.id) leaf
+    puts_laid g.S.Lookup.is_honest g.S.Lookup.table c.args.self.now _ r c.in_ok-lay_entry.ensures.laid (up_given c.lay_entry.new.nodes c.as_mut_slice-2.ensures.value c.as_mut_slice-2.ensures.len (c.mark_if.ensures.marked refl)) left.1 (leaf_of_kind c.args.kind c.args.id) leaf
     (null_test (id_of c.args.id) c.is_null.result c.is_null.ensures ∙ c.if-is_null.false)
     (λ last there. c.stands_already.ensures.otherwise c.if-stands_already.false (omega (arith, left.0, last_left path i so.within.1 last))
     (subst (IsEntry (slots_of c.as_slice.result.now c.in_ok-at.at.0 (get_or (names (take (length path - i) (drop i path))) 0 []))) (sym leaf)
@@ -168,13 +173,15 @@ returns-then-is_null-clause-asked g c = λ honest trees has. let so = c.in_ok-at
 pub returns-then-is_null-clause-kept : goal.returns-then-is_null-clause-kept
 returns-then-is_null-clause-kept g c =
     let grows = c.walk.ensures.grows in
-    Refused.made g.S.Lookup.is_honest g.S.Lookup.table c.args.path.now _ c.args.self.now _ refl (omega (arith, c.walk.ensures.counted)) c.in_ok-check_names.ensures.ok _ (cut_read grows c.cut.ensures)
-    (λ h has down may each. cut_keeps_each grows c.cut.ensures h has down each)
+    let cut = cut_given c.walk.new.nodes c.as_mut_slice.ensures.value c.as_mut_slice.ensures.len c.cut.ensures in
+    Refused.made g.S.Lookup.is_honest g.S.Lookup.table c.args.path.now _ c.args.self.now _ refl (omega (arith, c.walk.ensures.counted)) c.in_ok-check_names.ensures.ok _ (cut_read grows cut)
+    (λ h has down may each. cut_keeps_each grows cut h has down each)
 
 pub returns-then-is_null-clause-stays : goal.returns-then-is_null-clause-stays
 returns-then-is_null-clause-stays g c =
     let grows = c.walk.ensures.grows in
-    keeps_edited c.walk.new.nodes.items c.args.from.0 c.in_ok-at.at.0 c.requires c.in_ok-at.ensures.walked.below grows (omega (arith, c.cut.ensures.len)) (cut_keeps_above grows c.cut.ensures)
+    let cut = cut_given c.walk.new.nodes c.as_mut_slice.ensures.value c.as_mut_slice.ensures.len c.cut.ensures in
+    keeps_edited c.walk.new.nodes.items c.args.from.0 c.in_ok-at.at.0 c.requires c.in_ok-at.ensures.walked.below grows (omega (arith, cut.len)) (cut_keeps_above grows cut)
 
 pub returns-then-is_null-clause-put : goal.returns-then-is_null-clause-put
 returns-then-is_null-clause-put g c = λ way w.
@@ -182,7 +189,7 @@ returns-then-is_null-clause-put g c = λ way w.
     let i = c.in_ok-at.depth in
     let so = c.in_ok-at.ensures in
     let r = reach c.args.self.now.nodes.items c.walk.new.nodes.items c.args.from.0 c.in_ok-at.at.0 i path c.walk.ensures.grows so.within.0 so.within.1 so.walked way w in
-    puts_cut g.S.Lookup.is_honest g.S.Lookup.table c.args.self.now _ r (cut_named path i so.within.1 c.cut.ensures) (leaf_of_kind c.args.kind c.args.id) (null_test (id_of c.args.id) c.is_null.result c.is_null.ensures ∙ c.if-is_null.true)
+    puts_cut g.S.Lookup.is_honest g.S.Lookup.table c.args.self.now _ r (cut_named path i so.within.1 (cut_given c.walk.new.nodes c.as_mut_slice.ensures.value c.as_mut_slice.ensures.len c.cut.ensures)) (leaf_of_kind c.args.kind c.args.id) (null_test (id_of c.args.id) c.is_null.result c.is_null.ensures ∙ c.if-is_null.true)
 
 -- ---- an entry that is there already
 
