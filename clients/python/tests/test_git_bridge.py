@@ -16,7 +16,7 @@ from unittest import mock
 
 sys.path.insert(0, os.path.dirname(os.path.dirname(os.path.abspath(__file__))))
 
-from wunthavel import bridge_folder, git_export, git_import
+from wunthavel import bridge_folder, bridge_git, git_export, git_import
 from wunthavel.bridge_forms import Patterns, is_full_name
 from wunthavel.engine import EngineError, act, find_engine
 
@@ -299,6 +299,38 @@ class Increments(Case):
             self.assertIn("another process", self.bring(status=1)["error"])
             self.assertIn("another process", self.give(status=1)["error"])
 
+    def test_a_lock_that_a_stopped_export_left_goes_and_git_s_own_stays(self) -> None:
+        self.init()
+        self.commit("one", a="a")
+        self.bring()
+        self.give()
+        lock = os.path.join(self.dest, "logs/refs/heads/main.lock")
+        os.symlink(bridge_git.MARK, os.fsencode(lock))
+        self.commit("two", b="b")
+        self.bring()
+        self.assertEqual(self.give()["logs"], 1)
+        self.assertFalse(os.path.lexists(lock))
+        self.assertEqual(all_of(self.dest), all_of(self.source))
+        open(lock, "x").close()
+        self.commit("three", c="c")
+        self.bring()
+        self.assertIn("main.lock exists", self.give(status=1)["error"])
+        self.assertTrue(os.path.lexists(lock))
+        os.remove(lock)
+        self.give()
+        self.assertEqual(all_of(self.dest), all_of(self.source))
+
+    def test_one_export_at_a_time(self) -> None:
+        self.init()
+        self.commit("one", a="a")
+        self.bring()
+        self.give()
+        self.commit("two", b="b")
+        self.bring()
+        with mock.patch.object(bridge_folder, "WAIT", 0.1), bridge_folder.held(os.fsencode(self.dest), True):
+            self.assertIn("another process", self.give(status=1)["error"])
+        self.give()
+
     def killed(self, look: Callable[[], None], module: str, *words: str) -> None:
         """Kills the command at moments all along its work, looks at what it left each time, and lets it end at last."""
         call = [sys.executable, "-c", f"import sys; from wunthavel.{module} import main; sys.exit(main(sys.argv[1:]))", *words, "--quiet"]
@@ -330,6 +362,12 @@ class Increments(Case):
                 self.assertEqual(git(self.dest, "fsck", "--strict", "--no-dangling"), "")
 
         self.killed(store_is_whole, "git_import", self.source, self.store)
+        self.killed(dest_is_whole, "git_export", self.store, self.dest)
+        self.assertEqual(all_of(self.dest), all_of(self.source))
+        # Names with logs: git adds its own lines to these before they are written.
+        for number in range(5):
+            self.commit(f"later {number}", **{f"b{number}": str(number)})
+        self.bring()
         self.killed(dest_is_whole, "git_export", self.store, self.dest)
         self.assertEqual(all_of(self.dest), all_of(self.source))
 

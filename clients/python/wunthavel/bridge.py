@@ -100,6 +100,14 @@ class Changes(NamedTuple):
     left: List[str]
 
 
+def without_own_lines(log: bytes) -> bytes:
+    """Returns a log without the lines at its end that have no message. Git adds one whenever a name moves, before an export writes the log."""
+    lines = log.splitlines(keepends=True)
+    while lines and b"\t" not in lines[-1]:
+        lines.pop()
+    return b"".join(lines)
+
+
 def changes(new: "Side", old: "Side", follows: Callable[[bytes, bytes], bool], force: bool, prune: bool, where: str) -> Changes:
     """Returns which names and logs are to be written over the old ones. What was changed there alone is named, and kept unless forced."""
     names = {name: id for name, id in new.names.items() if old.names.get(name) != id}
@@ -111,7 +119,7 @@ def changes(new: "Side", old: "Side", follows: Callable[[bytes, bytes], bool], f
             ids = f"at {old.names[name].hex()}, which {names[name].hex()} doesn't come after"
             problems.append(Problem(shown(name), f"{where} has the name {ids}; --force moves it"))
     for name in sorted(set() if force else logs.keys()):
-        if not logs[name].startswith(old.logs.get(name, b"")):
+        if not logs[name].startswith(without_own_lines(old.logs.get(name, b""))):
             problems.append(Problem(f"log of {shown(name)}", f"{where} has other lines; --force replaces them"))
     problems += collisions({*new.names, *(set() if prune else gone)})
     if problems:

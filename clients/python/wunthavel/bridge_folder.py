@@ -3,7 +3,7 @@ import contextlib
 import fcntl
 import os
 import time
-from typing import Dict, Iterator, List, Optional, Set, Tuple
+from typing import ContextManager, Dict, Iterator, List, Optional, Set, Tuple
 
 from .bridge_forms import SHA1, SHA256, BridgeError, Hashing, Patterns, read_tag, shown
 from .engine import Busy, Unfinished, act
@@ -52,8 +52,32 @@ def read_names(folder: bytes) -> Dict[bytes, bytes]:
 
 
 def read_logs(folder: bytes) -> Dict[bytes, bytes]:
-    """Returns the logs, by their names, of a history's folder or a git repository."""
-    return {it[5:]: read_file(os.path.join(folder, it)) or b"" for it in files_below(folder, b"logs/refs")}
+    """Returns the logs, by their names, of a history's folder or a git repository. A lock is none."""
+    logs = (it for it in files_below(folder, b"logs/refs") if not it.endswith(b".lock"))
+    return {it[5:]: read_file(os.path.join(folder, it)) or b"" for it in logs}
+
+
+@contextlib.contextmanager
+def held(folder: bytes, alone: bool) -> Iterator[None]:
+    """Holds a folder by the system's lock: alone, or with others that only read it. It goes with the process."""
+    at = os.open(folder, os.O_RDONLY)
+    try:
+        _lock(folder, at, fcntl.LOCK_EX if alone else fcntl.LOCK_SH)
+        yield
+    finally:
+        os.close(at)
+
+
+def _lock(folder: bytes, at: int, how: int) -> None:
+    end = time.monotonic() + WAIT
+    while True:
+        try:
+            fcntl.flock(at, how | fcntl.LOCK_NB)
+            return
+        except OSError:
+            if time.monotonic() > end:
+                raise BridgeError(f"{shown(folder)}: another process works there") from None
+            time.sleep(0.02)
 
 
 class Store:
@@ -68,26 +92,9 @@ class Store:
 
     # The whole folder.
 
-    @contextlib.contextmanager
-    def held(self, alone: bool) -> Iterator[None]:
+    def held(self, alone: bool) -> ContextManager[None]:
         """Holds the folder by the lock that engines take too: alone, or with others that only read it."""
-        at = os.open(self.path, os.O_RDONLY)
-        try:
-            self._lock(at, fcntl.LOCK_EX if alone else fcntl.LOCK_SH)
-            yield
-        finally:
-            os.close(at)
-
-    def _lock(self, at: int, how: int) -> None:
-        end = time.monotonic() + WAIT
-        while True:
-            try:
-                fcntl.flock(at, how | fcntl.LOCK_NB)
-                return
-            except OSError:
-                if time.monotonic() > end:
-                    raise BridgeError(f"{self.folder}: another process works there") from None
-                time.sleep(0.02)
+        return held(self.path, alone)
 
     def check(self) -> None:
         """Has the engine say whether the folder is whole; `Refused` and `Fault` say why it isn't."""

@@ -6,9 +6,9 @@ import re
 import subprocess
 import threading
 import zlib
-from typing import Dict, Iterable, Iterator, List, Optional, Tuple
+from typing import ContextManager, Dict, Iterable, Iterator, List, Optional, Tuple
 
-from .bridge_folder import files_below, read_logs, write_file
+from .bridge_folder import files_below, held, read_logs
 from .bridge_forms import SHA1, SHA256, BridgeError, Hashing, Problem, shown
 
 # What would have git look elsewhere than at the repository that is named.
@@ -16,6 +16,24 @@ OWN = ("GIT_DIR", "GIT_WORK_TREE", "GIT_INDEX_FILE", "GIT_OBJECT_DIRECTORY", "GI
 KINDS = {"commit": 1, "tree": 2, "blob": 3, "tag": 4}
 # Git itself keeps fewer objects than these as files of their own.
 FEW = 100
+# What an export's lock of a log is a link to. Git's own locks are files.
+MARK = b"wunthavel git-export"
+
+
+@contextlib.contextmanager
+def locked(path: bytes) -> Iterator[None]:
+    """Makes a lock that git knows, and removes it at the end. One that a stopped export left goes first."""
+    with contextlib.suppress(OSError):
+        if os.readlink(path) == MARK:
+            os.remove(path)
+    try:
+        os.symlink(MARK, path)
+    except FileExistsError:
+        raise BridgeError(f"{shown(path)} exists: another git works there, or one was stopped") from None
+    try:
+        yield
+    finally:
+        os.remove(path)
 
 
 class Git:
@@ -72,6 +90,10 @@ class Git:
         os.makedirs(self.folder, exist_ok=True)
         self.run("init", "--quiet", "--bare", "--template=", *(["--object-format=sha256"] if hashing == SHA256 else []), ".")
 
+    def held(self) -> ContextManager[None]:
+        """Holds the folder against other exports."""
+        return held(self.path, True)
+
     def fsck(self) -> List[str]:
         """Returns what `git fsck --strict` complains of; nothing if the repository is whole."""
         done = self._start(["fsck", "--strict", "--no-dangling", "--no-progress"])
@@ -119,8 +141,13 @@ class Git:
             self.run("update-ref", "--stdin", "-z", "--no-deref", given=b"".join(rows))
 
     def write_log(self, name: bytes, log: bytes) -> None:
-        """Writes a name's log."""
-        write_file(os.path.join(self.path, b"logs", name), log)
+        """Writes a name's log, under the lock under which git rewrites one. Other exports are kept away by `held`."""
+        path, new = os.path.join(self.path, b"logs", name), os.path.join(self.path, b"wunthavel-log")
+        os.makedirs(os.path.dirname(path), exist_ok=True)
+        with locked(path + b".lock"):
+            with open(new, "wb") as it:
+                it.write(log)
+            os.rename(new, path)
 
     def write_head(self, branch: bytes) -> None:
         """Has HEAD name the branch."""

@@ -101,13 +101,14 @@ class Export:
 
     def write(self, git: Git, missing: Sequence[bytes], now: Changes, old: Dict[bytes, bytes]) -> None:
         """Gives git objects, then names, then logs, then HEAD."""
-        if missing:
-            git.add(len(missing), self.objects(missing))
-        git.move_names(now.names, old, now.gone)
-        for name, log in now.logs.items():
-            git.write_log(name, log)
-        if self.head is not None and git.head() != (self.head, True):
-            git.write_head(self.head)
+        with git.held():
+            if missing:
+                git.add(len(missing), self.objects(missing))
+            git.move_names(now.names, old, now.gone)
+            for name, log in now.logs.items():
+                git.write_log(name, log)
+            if self.head is not None and git.head() != (self.head, True):
+                git.write_head(self.head)
 
     def summary(self, missing: Sequence[bytes], now: Changes) -> Dict[str, Any]:
         """Returns what was done."""
