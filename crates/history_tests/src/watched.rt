@@ -33,7 +33,7 @@ impl Watched {
         self.files
     }
 
-    /// Returns how many calls have asked for `packed-refs`.
+    /// Returns how many calls were about `packed-refs`.
     pub fn readings(&self) -> u64 {
         self.readings.get()
     }
