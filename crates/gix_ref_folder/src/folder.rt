@@ -17,14 +17,17 @@ use gix_ref_file::{FileError, Files, Place};
 use std::alloc::Global;
 use std::io::{self, ErrorKind};
 
-// The most bytes that a name may have beside which `.lock` is to fit too.
+// The most bytes that most systems take in a name, and that a name may have beside which `.lock` is to fit too.
+const LONGEST_FILE_NAME: usize = 255;
+
 const LONGEST_NAME: usize = 250;
 
 /// A part of a real folder. What exists at a path is looked up by each call anew, but for the file
 /// that the last change made or wrote: it is renamed without a look.
 ///
 /// A call returns `Failed` also for a path that isn't UTF-8, and if what is there is neither a file nor a folder, as a link. The root always
-/// counts as a folder. Nothing exists at a path that is too long for the system, so that only changes fail there.
+/// counts as a folder. Nothing exists at a path that is too long for the system, so that only changes fail there, and a look at a lock
+/// file, which is for whoever is to make it.
 ///
 /// It does what [`Files`] says where the system does what [`System`] says of this part of what is below the root.
 #[derive(Drop)]
@@ -123,6 +126,9 @@ impl<S: System> Folder<S> {
     {
         if path.is_empty() {
             return Ok(Place::Folder);
+        }
+        if path.ends_with(b".lock") && !has_short_names(path) {
+            return Err(io::Error::new(ErrorKind::InvalidFilename, "File name too long"));
         }
         match self.place(path)? {
             Some(place) => self.found(place.as_str()),
@@ -340,7 +346,12 @@ fn if_written(place: String, done: &io::Result<()>) -> Option<String>
     }
 }
 
-// Whether a lock file can be beside a file: most systems have names of at most 255 bytes. A lock file has none itself.
+fn has_short_names(path: &[u8]) -> bool {
+    path.split(|byte| *byte == b'/')
+        .all(|name| name.len() <= LONGEST_FILE_NAME)
+}
+
+// Whether a lock file can be beside a file. A lock file has none itself.
 fn has_lock_name(path: &[u8]) -> bool {
     if path.ends_with(b".lock") {
         return true;

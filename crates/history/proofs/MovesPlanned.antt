@@ -1,6 +1,6 @@
 -- The moves of a command that stores nothing, and what is reported if there are none.
 use Rattle.std.proofs.Common.{◌≡◌, inr, refl, sym, subst}
-use Rattle.std.specs.Prelude.{Some, Result, Ok, Err, Vec}
+use Rattle.std.specs.Prelude.{Some, Result, Ok, Err, IsErrOf, Vec}
 use Rattle.std.specs.declared.alloc.Global.{Global}
 use Rattle.history_model.specs.Bytes.{Bytes}
 use Rattle.history_model.specs.Causes.{first_cause}
@@ -9,13 +9,17 @@ use Rattle.history_model.specs.declared.Cause.{Cause}
 use Rattle.history_model.specs.declared.Fault.TheVariants.{Memory, File, IdTaken}
 use Rattle.history_store.specs.declared.changing.MovedName.{MovedName}
 use Rattle.history_store.specs.declared.packs.PackedName.{PackedName}
+use Rattle.history_repository.specs.Faults.{file_fault}
 use Rattle.history_repository.specs.Reads.{GivesMeant}
 use Rattle.history_repository.specs.declared.stopped.Stopped.{Stopped}
 use Rattle.history_repository.specs.declared.stopped.Stopped.TheVariants.{Refused, Fault}
 use Rattle.history_plans.specs.Deleting.{TestsAll}
 use Rattle.history_plans.specs.Moving.{PlansMoves}
 use Rattle.history_plans.specs.Renaming.{PlansRename}
+use Rattle.history_plans.proofs.LineLemmas.{file_fails}
 use Rattle.history_model.specs.Meaning.{after}
+use Rattle.gix_ref_file.specs.declared.files.FileError.{FileError}
+use Rattle.gix_ref_file.specs.declared.files.FileError.TheVariants.{Failed}
 use Rattle.gix_ref_file.specs.declared.files.Files.{Ghosts}
 use Rattle.history_repository.specs.Stands.{Stands}
 use Rattle.history_repository.specs.declared.repository.Repository.{Repository}
@@ -58,9 +62,10 @@ module _ (MayFail : Type 0) (r : plain.Repository) where
         by_case (Refused cause) k = absurd k
         by_case (Fault fault) k = k
 
-  -- or no memory is left
-  pub no_memory : (sent : Command) (ends : Result Moves Stopped) → ends ≡ Err (Fault Memory) → GivesMoves MayFail r sent ends
-  no_memory sent ends is_end = subst (GivesMoves MayFail r sent) (sym is_end) tt
+  -- or a lock couldn't be looked up
+  pub unread : {T : Type 0} (sent : Command) (ends : Result Moves Stopped) (result : Result T FileError) (error : FileError) → ends ≡ Err (Fault (file_fault error)) → result ≡ Err error → (IsErrOf result Failed → MayFail)
+      → GivesMoves MayFail r sent ends
+  unread sent ends result error is_end was failed = subst (GivesMoves MayFail r sent) (sym is_end) (file_fails MayFail result error was failed)
 
   -- or for the cause that holds
   pub refused_so : (sent : Command) (cause : Cause) (ends : Result Moves Stopped) → ends ≡ Err (Refused cause) → first_cause r sent ≡ Some cause → GivesMoves MayFail r sent ends

@@ -4,6 +4,7 @@
 //! their names make one of them each.
 
 ghost use Rattle.std.specs.Prelude.{◌≡◌, [], ◌∷◌, Ok, IsOk, IfErr, IfOk, false, IsErrOf};
+ghost use Rattle.gix_ref_file.specs.declared.files.FileError.TheVariants.{Failed};
 ghost use Rattle.history_model.specs.declared.Fault.TheVariants.{File};
 ghost use Rattle.history_repository.specs.Faults.{IsRefusal, file_fault};
 ghost use Rattle.history.specs.Calls.{EditsAsAsked, MovesAlone, MovesAsAsked, StoresAlone, StoresAsAsked};
@@ -28,6 +29,9 @@ use history_repository::{Repository, Stopped};
 use history_store::{MovedName, PackedName};
 use history_word::Command;
 use std::alloc::{AllocError, Global};
+
+// The system has room for the lock of a name of at most so many bytes.
+const SHORT_NAME: usize = 250;
 
 /// The command that changes names, and the id of the commit or tag that it made.
 #[derive(Drop)]
@@ -68,13 +72,37 @@ pub(crate) fn fault_of(error: FileError) -> Fault
     }
 }
 
-/// Returns the moves of one name.
-pub(crate) fn only(alloc: Global, one: MovedName) -> Result<Vec<MovedName>, AllocError>
-    ensures { IfOk result (λ moved. moved.items ≡ one ∷ []) }
+/// Returns the moves of one name, once its lock is looked up. The errors are those of `test_lock`.
+pub(crate) fn only<F: Files>(
+    repository: &Repository<F>,
+    alloc: Global,
+    one: MovedName,
+) -> Result<Vec<MovedName>, FileError>
+    ensures moved { IfOk result (λ moved. moved.items ≡ one ∷ []) }
+    ensures failed { IsErrOf result Failed → F.reading_may_fail }
 {
+    test_lock(repository, alloc, &one.name)?;
     let mut moved = Vec::new(alloc);
     moved.push(one)?;
     Ok(moved)
+}
+
+/// Looks the lock of a long name up: one that the system has no room for is found out before
+/// anything is written. Returns `Failed` if a call of the files failed, and `Memory` if no memory is
+/// left.
+pub(crate) fn test_lock<F: Files>(
+    repository: &Repository<F>,
+    alloc: Global,
+    name: &[u8],
+) -> Result<(), FileError>
+    ensures { IsErrOf result Failed → F.reading_may_fail }
+{
+    if name.len() > SHORT_NAME {
+        let mut lock = Vec::from_slice(alloc, name)?;
+        lock.extend_from_slice(b".lock")?;
+        repository.names.files().kind_of(&lock)?;
+    }
+    Ok(())
 }
 
 /// Puts the objects of a command that changes files, and returns how its names are to move.

@@ -7,7 +7,7 @@ ghost use Rattle.history_repository.specs.Stands.{Stands};
 ghost use Rattle.history_model.specs.Commands as commands;
 ghost use Rattle.history_model.specs.Repository as plain;
 
-use crate::moves::{Done, Moves, only};
+use crate::moves::{Done, Moves, only, test_lock};
 use gix_ref_file::Files;
 use history_plans::plan_rename;
 use history_repository::{Repository, Stopped};
@@ -25,9 +25,10 @@ pub(crate) fn plan_renaming<F: Files>(
         → GivesMoves F.reading_may_fail r (commands.Rename from to) result }
 {
     let to = plan_rename(repository, alloc, &command)?;
+    test_lock(repository, alloc, &command.from)?;
     Ok(Moves::Change {
         done: Done::Rename,
-        moved: only(alloc, to)?,
+        moved: only(repository, alloc, to)?,
         taken: Some(command.from),
     })
 }

@@ -34,7 +34,7 @@ pub(crate) fn store_tag<F: Files>(
 {
     let tagged = plan_tag(repository, alloc, command)?;
     let made = tagged.moves.entry.after;
-    let moved = only(alloc, tagged.moves)?;
+    let moved = only(repository, alloc, tagged.moves)?;
     put(repository, alloc, &tagged.object)?;
     Ok(Moves::Change {
         done: Done::Tag(made),

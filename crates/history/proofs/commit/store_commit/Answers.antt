@@ -6,9 +6,9 @@ use Rattle.history.specs.Acts.{CountsFailure}
 use Rattle.history.specs.Storing.{HasStored}
 use Rattle.history.proofs.NamesPlanned.{made_id, one_moved}
 use Rattle.history.proofs.Puts.{alone_more}
-use Rattle.history.proofs.Storing.{commit_stored, commit_unplanned, has_stored, nothing_stored, stored_stopped}
+use Rattle.history.proofs.Storing.{commit_stored, commit_unplanned, has_stored, lock_unread, nothing_stored, stored_stopped}
 use Rattle.history_repository.specs.declared.stopped.Stopped.TheVariants.{Fault}
-use Rattle.history_model.specs.declared.Fault.TheVariants.{Memory}
+use Rattle.history_repository.specs.Faults.{file_fault}
 use Rattle.history.proofs.commit.store_commit.Goals as goal
 
 pub returns-in_err-plan-clause-stores : goal.returns-in_err-plan-clause-stores
@@ -22,8 +22,12 @@ returns-in_err-plan-clause-stores g c = λ r sent asked.
 
 pub returns-in_err-moved-clause-stores : goal.returns-in_err-moved-clause-stores
 returns-in_err-moved-clause-stores g c = λ r sent asked.
+    let F = g.F.Files in
+    let old = c.args.repository.now in
     let stopped = err_from_is_err_and c.from_residual-in_err-moved.result c.from_residual-in_err-moved.ensures.1 in
-    nothing_stored g.F.Files c.args.repository.now r (Commit sent) (Fault Memory) c.from_residual-in_err-moved.result (stopped.1 ∙ ap Err stopped.2) tt
+    nothing_stored F old r (Commit sent) (Fault (file_fault c.in_err-moved.field-0.0)) c.from_residual-in_err-moved.result (stopped.1 ∙ ap Err stopped.2)
+    (lock_unread F.reading_may_fail (CountsFailure F.failures F.reading_may_fail old old) (HasStored F.is_honest F.history old r (Commit sent)) (λ may. inr (inr may))
+    r (Commit sent) c.only.result c.in_err-moved.field-0.0 c.in_err-moved.was c.only.ensures.failed)
 
 pub returns-in_err-put_all-clause-stores : goal.returns-in_err-put_all-clause-stores
 returns-in_err-put_all-clause-stores g c = λ r sent asked.
@@ -43,7 +47,7 @@ returns-clause-stores g c = λ r sent asked.
           free = stored.stores.0;
           told = record {
             is = made_id r (commit_move r sent) c.in_ok-plan.plan.moves plan.1.moves;
-            moves = one_moved r (commit_move r sent) c.in_ok-plan.plan.moves c.in_ok-moved.moved.items c.in_ok-moved.ensures plan.1.moves;
+            moves = one_moved r (commit_move r sent) c.in_ok-plan.plan.moves c.in_ok-moved.moved.items c.in_ok-moved.ensures.moved plan.1.moves;
             takes = refl;
           };
         },

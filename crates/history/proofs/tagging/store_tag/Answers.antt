@@ -6,9 +6,9 @@ use Rattle.history.specs.Acts.{CountsFailure}
 use Rattle.history.specs.Storing.{HasStored}
 use Rattle.history.proofs.NamesPlanned.{made_id, one_moved}
 use Rattle.history.proofs.Puts.{alone_more}
-use Rattle.history.proofs.Storing.{has_stored, nothing_stored, stored_stopped, tag_stored, tag_unplanned}
+use Rattle.history.proofs.Storing.{has_stored, lock_unread, nothing_stored, stored_stopped, tag_stored, tag_unplanned}
 use Rattle.history_repository.specs.declared.stopped.Stopped.TheVariants.{Fault}
-use Rattle.history_model.specs.declared.Fault.TheVariants.{Memory}
+use Rattle.history_repository.specs.Faults.{file_fault}
 use Rattle.history.proofs.tagging.store_tag.Goals as goal
 
 pub returns-in_err-tagged-clause-stores : goal.returns-in_err-tagged-clause-stores
@@ -22,8 +22,12 @@ returns-in_err-tagged-clause-stores g c = λ r sent h is.
 
 pub returns-in_err-moved-clause-stores : goal.returns-in_err-moved-clause-stores
 returns-in_err-moved-clause-stores g c = λ r sent h is.
+    let F = g.F.Files in
+    let old = c.args.repository.now in
     let stopped = err_from_is_err_and c.from_residual-in_err-moved.result c.from_residual-in_err-moved.ensures.1 in
-    nothing_stored g.F.Files c.args.repository.now r (Tag sent) (Fault Memory) c.from_residual-in_err-moved.result (stopped.1 ∙ ap Err stopped.2) tt
+    nothing_stored F old r (Tag sent) (Fault (file_fault c.in_err-moved.field-0.0)) c.from_residual-in_err-moved.result (stopped.1 ∙ ap Err stopped.2)
+    (lock_unread F.reading_may_fail (CountsFailure F.failures F.reading_may_fail old old) (HasStored F.is_honest F.history old r (Tag sent)) (λ may. inr (inr may))
+    r (Tag sent) c.only.result c.in_err-moved.field-0.0 c.in_err-moved.was c.only.ensures.failed)
 
 pub returns-in_err-put-clause-stores : goal.returns-in_err-put-clause-stores
 returns-in_err-put-clause-stores g c = λ r sent h is.
@@ -43,7 +47,7 @@ returns-clause-stores g c = λ r sent h is.
           free = stored.stores.0;
           told = record {
             is = made_id r (tag_move r sent) c.in_ok-tagged.tagged.moves planned.moves;
-            moves = one_moved r (tag_move r sent) c.in_ok-tagged.tagged.moves c.in_ok-moved.moved.items c.in_ok-moved.ensures planned.moves;
+            moves = one_moved r (tag_move r sent) c.in_ok-tagged.tagged.moves c.in_ok-moved.moved.items c.in_ok-moved.ensures.moved planned.moves;
             takes = refl;
           };
         },
