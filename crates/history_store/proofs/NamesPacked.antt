@@ -1,8 +1,9 @@
 -- Names are packed by a transaction.
-use Rattle.std.proofs.Common.{◌+◌, get_or, is_some, length, take, ◌≡◌, ◌⊎◌, inl, inr, ℕ, zero, suc, true, false, List, [], ◌∷◌, ◌++◌, map, refl, sym, ◌∙◌, ap, subst, Option, Some, None, option_map, unwrap_or, MatchOption, arith, ◌<◌}
+use Rattle.std.proofs.Common.{◌+◌, ◌==◌, get_or, is_some, length, take, ◌≡◌, ◌⊎◌, inl, inr, ℕ, zero, suc, true, false, List, [], ◌∷◌, ◌++◌, map, refl, sym, ◌∙◌, ap, subst, Option, Some, None, option_map, unwrap_or, MatchOption, arith, ◌<◌}
 use Rattle.std.specs.Prelude.{Contains, option_copied}
 use Rattle.std.specs.Borrow.{Bor}
 use Rattle.std.specs.List.{AllByRecursion, AllZip}
+use Rattle.std.proofs.lemmas.Bool.Decides.{nat_tests}
 use Rattle.std.proofs.lemmas.List.{map_more}
 use Rattle.std.proofs.lemmas.Option.{same_Some}
 use Rattle.gix_hash.specs.Id.{Id, id_of}
@@ -27,6 +28,7 @@ use Rattle.gix_ref_lock.specs.Needs.{log_paths}
 use Rattle.gix_ref_store.specs.Lookups.{reads_with}
 use Rattle.gix_ref_store.specs.Peels.{IsLost}
 use Rattle.gix_ref_store.specs.RefStates.{RefState}
+use Rattle.gix_ref_store.specs.RefStates as states
 use Rattle.gix_ref_store.specs.Stores.{base_of}
 use Rattle.gix_ref_store.specs.declared.store.file.Store.{Store}
 use Rattle.gix_ref_store.specs.declared.store.file.find.Error.TheVariants as find
@@ -40,7 +42,7 @@ use Rattle.gix_ref_transaction.specs.Errors.{Counts, IsOfRecords}
 use Rattle.gix_ref_transaction.specs.Locking.{AreRecordsLockable, HaveRoom}
 use Rattle.gix_ref_transaction.specs.LogLines.{AllLined, logging}
 use Rattle.gix_ref_transaction.specs.Plans.{AllHold, AllPlanned, AreSplit, FoldersOfEdits}
-use Rattle.gix_ref_transaction.specs.Repacking.{AreRepacked}
+use Rattle.gix_ref_transaction.specs.Repacking.{AreRepacked, changes_records}
 use Rattle.gix_ref_transaction.specs.Resolving.{ChangeFault, GivesUp, PackFault, ResolveFault, TargetFault}
 use Rattle.gix_ref_transaction.specs.Rollback.{SameFilesBut, all_locks}
 use Rattle.gix_ref_transaction.specs.declared.error.PrepareError.{PrepareError}
@@ -48,20 +50,22 @@ use Rattle.gix_ref_transaction.specs.declared.error.PrepareError.TheVariants as 
 use Rattle.gix_ref_transaction.specs.declared.transaction.Transaction.{Transaction}
 use Rattle.gix_ref_way.specs.Ways.{FoldersOnlyOf}
 use Rattle.history_model.specs.Bytes.{Bytes}
-use Rattle.history_model.specs.PackedNames.{packed_file, packed_with}
+use Rattle.history_model.specs.PackedNames.{is_packed_form, packed_file, packed_with}
 use Rattle.history_model.specs.Places.{file_at, packed_place}
 use Rattle.history_model.specs.Repository.{Repository}
 use Rattle.history_layout.specs.PackSteps.{HasAllNames, HasPacked, PacksAll, PacksNames, PacksOnTheWay}
+use Rattle.history_layout.specs.TreeHalves.{HoldsNames}
 use Rattle.history_edits.specs.Bridges.{root_base}
 use Rattle.history_edits.specs.EditCommits.{HasNameFolders}
 use Rattle.history_edits.specs.EditFaults.{IsExcused}
 use Rattle.history_edits.specs.EditPlans.{IsPrepared, logging_of}
-use Rattle.history_edits.specs.PackPlans.{AsksAll, AsksPack, AsksToPack, IsPackReady, IsPackedSo, LeavesOut, PeelsAlike, record_name, still}
+use Rattle.history_edits.specs.PackPlans.{AsksAll, AsksPack, AsksToPack, IsPackReady, IsPackedSo, IsTableOf, LeavesOut, PeelsAlike, record_name, still}
 use Rattle.history_edits.proofs.EditLocks.{edits_have_room}
 use Rattle.history_edits.proofs.PackExcused.{packs_are_excused}
 use Rattle.history_edits.proofs.PackMoments.{pack_commits, pack_is_made, pack_prepares}
 use Rattle.history_edits.proofs.PackPlanned.{IsAsked, each_asked, pack_is_ready, packs_fit}
 use Rattle.history_edits.proofs.PeelsWhole.{peels_whole}
+use Rattle.history_edits.proofs.RecordTaken.{form_of}
 use Rattle.history_edits.proofs.RecordLocks.{records_are_lockable}
 use Rattle.history_edits.proofs.Unsplit.{unsplit_stay}
 use Rattle.history_store.specs.Changing.{IsReadable}
@@ -209,6 +213,31 @@ module _ {F : Type 0} (IsHonest : F → Type 0) (history : F → History) (Hones
       asks = asks may.whole.honest;
     };
   }
+
+pub no_edits : (edits : List RefEdit) → (length edits == 0) ≡ true → edits ≡ []
+no_edits [] none = refl
+no_edits (edit ∷ edits) none = let z : ⊥ = grind (arith, nat_tests, none) in absurd z
+
+-- no record changes by no lines
+unchanged : (r : Repository) (tree : Tree) → HoldsNames tree r → changes_records (states.records_of r.kind (file_at tree packed_place)) [] ≡ false
+unchanged r tree holds = go (file_at tree packed_place) refl
+  where
+    read : (text : Bytes) → (o : Option (List Record)) → MatchOption (option_map (packed_with text) o) ⊥ (λ packed. is_packed_form packed ≡ true) → changes_records o [] ≡ false
+    read text None formed = absurd formed
+    read text (Some records) formed = refl
+
+    go : (file : Option Bytes) → file_at tree packed_place ≡ file → changes_records (states.records_of r.kind file) [] ≡ false
+    go None at = refl
+    go (Some text) at = read text (packed_records r.kind text) (form_of r tree holds text at)
+
+-- if nothing is asked, all are packed already
+pub packed_already : (r : Repository) (table : Table) (records : Option (List Record)) (wanted : List Record) (edits : List RefEdit) (tree : Tree) → AsksAll r tree records wanted edits → IsTableOf r table → edits ≡ [] → PacksNames r tree tree
+packed_already r table records wanted edits tree all stored none =
+    pack_is_made r (map record_name all.asks.asked) tree tree tree None []
+    (pack_is_ready r table records None wanted edits tree tree None [] all (peels_whole r table all.sound stored)
+    (subst (λ es. IsPrepared r.kind records None true (Some table) es tree tree None []) (sym none)
+    (record { plans = tt; hold = tt; lined = tt; repacked = ([], refl, unchanged r tree all.holds); files = λ path away. refl })))
+    (record { each = tt; packed = tt; unlocked = tt; others = λ path away. refl }) all.holds.folders
 
 -- records of all names are read
 pub packed_readable : (r : Repository) (kind : Kind) (tree : Tree) → kind ≡ r.kind → HasPacked r tree → IsReadable kind tree

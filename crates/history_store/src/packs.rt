@@ -61,7 +61,9 @@ impl<F: Files> Names<F> {
             (O.table objects.now) names.now
             → OnOk result (PacksNames r (F.history self.old.store.files).tree
             (F.history self.new.store.files).tree) }
-        ensures keeps { F.is_honest self.old.store.files
+        ensures keeps { (r : Repository)
+            → MayPack F.is_honest F.history self.old r (O.is_honest objects.now)
+            (O.table objects.now) names.now
             → OnOk result (KeepsRecords self.new (F.history self.new.store.files).tree) }
         ensures later { F.failures self.old.store.files ≤ F.failures self.new.store.files }
         ensures unfailed { OnOk result
@@ -77,6 +79,9 @@ impl<F: Files> Names<F> {
             self.old.store.files self.new.store.files }
     {
         let edits = self.edits_to_pack(alloc, names)?;
+        if edits.as_slice().is_empty() {
+            return Ok(());
+        }
         self.pack(alloc, objects, edits)?;
         self.read_anew(alloc, None)
     }
