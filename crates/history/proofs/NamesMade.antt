@@ -76,7 +76,7 @@ module _ {F : Type 0} (files : Ghosts F) (now new : Repository F) (result : Resu
 
   pub pack_moves : (all : Vec PackedName Global) (given : List PackedName) → given ≡ all.items → (R : Type 0) → MovesAlone files R now new → new.branch ≡ now.branch
       → ((r : plain.Repository) → Stands files.is_honest files.history now r → AreAllNames r given → PacksAll files r now new result)
-      → ((r : plain.Repository) → Stands files.is_honest files.history now r → OnOk result (KeepsRecords new.names (names_tree files.history new)))
+      → ((r : plain.Repository) → Stands files.is_honest files.history now r → AreAllNames r given → OnOk result (KeepsRecords new.names (names_tree files.history new)))
       → (r : plain.Repository) (sent : Command) → HasStored files.is_honest files.history now r sent → AreMovesOf r sent (move.Pack all) → MovesAsAsked files r sent now new result
   pack_moves all given same R alone branch packed records r Pack s are =
       let h = all_still files.is_honest files.history now r Pack s refl in
@@ -85,7 +85,7 @@ module _ {F : Type 0} (files : Ghosts F) (now new : Repository F) (result : Resu
       let Packs = PacksNames r (names_tree files.history now) (names_tree files.history new) in
       record {
         ends = leaves_so C C Packs (Stands files.is_honest files.history new (after r Pack)) (KeepsRecords new.names (names_tree files.history new)) result
-            (λ failed. failed) (records r h)
+            (λ failed. failed) (records r h (ap records_of same ∙ are.told))
             (λ packs_all kept_records. names_serve files.is_honest files.history now new r Pack Packed h (packs.names_only r) kept (alone.names.honest h.honest_names)
             (packs.stands_after files.is_honest files.history now r h new kept packs_all) kept_records alone.kind)
             done.ends;

@@ -43,6 +43,7 @@ pub(crate) fn pack_names<F: Files>(
         → AreAllNames r names.now
         → PacksAll F.Files r repository.old repository.new result }
     ensures records { (r : plain.Repository) → Stands F.is_honest F.history repository.old r
+        → AreAllNames r names.now
         → OnOk result (KeepsRecords repository.new.names (names_tree F.history repository.new)) }
 {
     match repository

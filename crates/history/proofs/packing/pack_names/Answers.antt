@@ -45,4 +45,5 @@ returns-in-Ok-clause-packs g c = λ r s are.
     record { ends = c.in-Ok.ensures.packed r may; passes = c.pack_names.ensures.moments r may }
 
 pub returns-in-Ok-clause-records : goal.returns-in-Ok-clause-records
-returns-in-Ok-clause-records g c = λ r s. c.in-Ok.ensures.keeps s.honest_names
+returns-in-Ok-clause-records g c = λ r s are.
+    c.in-Ok.ensures.keeps r (may_pack g.F.Files.is_honest g.F.Files.history c.args.repository.now r s c.args.names.now are)
