@@ -16,7 +16,7 @@ use Rattle.history_model.specs.declared.Fault.{Fault}
 use Rattle.history_model.specs.declared.Fault.TheVariants.{Memory, File, IdTaken}
 use Rattle.history_layout.specs.OneNameSteps.{commit_move, tag_move}
 use Rattle.history_layout.specs.PackSteps.{PacksNames}
-use Rattle.history_store.specs.declared.packs.PackedName.{PackedName}
+use Rattle.history_plans.specs.declared.packing.Packing.{Packing}
 use Rattle.history_repository.specs.declared.stopped.Stopped.{Stopped}
 use Rattle.gix_ref_file.specs.declared.files.Files.{Ghosts}
 use Rattle.history_model.specs.Stops.{is_changing}
@@ -78,8 +78,8 @@ pub switch_told : (r : plain.Repository) (sent : Command) (branch : Vec ℕ Glob
 switch_told r (Switch name) branch text are said = (Switched, refl, said)
 switch_told r sent branch text are said = absurd are.told
 
-pub pack_told : (r : plain.Repository) (sent : Command) (names : Vec PackedName Global) (text : Bytes) → AreMovesOf r sent (move.Pack names) → text ≡ parts_text (Line (codes "ok" ∷ codes "pack" ∷ []) ∷ []) → TellsDone r sent text
-pack_told r Pack names text are said = (Packed, refl, said)
+pub pack_told : (r : plain.Repository) (sent : Command) (packing : Packing) (text : Bytes) → AreMovesOf r sent (move.Pack packing) → text ≡ parts_text (Line (codes "ok" ∷ codes "pack" ∷ []) ∷ []) → TellsDone r sent text
+pack_told r Pack packing text are said = (Packed, refl, said)
 pack_told r sent names text are said = absurd are.told
 
 -- ---- what it leaves

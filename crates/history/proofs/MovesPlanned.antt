@@ -8,8 +8,8 @@ use Rattle.history_model.specs.Commands.{Command, Move, MoveCommand, Pack, Renam
 use Rattle.history_model.specs.declared.Cause.{Cause}
 use Rattle.history_model.specs.declared.Fault.TheVariants.{Memory, File, IdTaken}
 use Rattle.history_store.specs.declared.changing.MovedName.{MovedName}
-use Rattle.history_store.specs.declared.packs.PackedName.{PackedName}
 use Rattle.history_repository.specs.Faults.{file_fault}
+use Rattle.history_plans.specs.declared.packing.Packing.{Packing}
 use Rattle.history_repository.specs.Reads.{GivesMeant}
 use Rattle.history_repository.specs.declared.stopped.Stopped.{Stopped}
 use Rattle.history_repository.specs.declared.stopped.Stopped.TheVariants.{Refused, Fault}
@@ -55,7 +55,7 @@ module _ (MayFail : Type 0) (r : plain.Repository) where
         by_case (Refused cause) k = k
         by_case (Fault fault) k = k
 
-    pub names_unread : (IsMeant : Vec PackedName Global → Type 0) (result : Result (Vec PackedName Global) Stopped) → result ≡ Err stopped → GivesMeant MayFail IsMeant result → GivesMoves MayFail r Pack ends
+    pub names_unread : (IsMeant : Packing → Type 0) (result : Result Packing Stopped) → result ≡ Err stopped → GivesMeant MayFail IsMeant result → GivesMoves MayFail r Pack ends
     names_unread IsMeant result was h = subst (GivesMoves MayFail r Pack) (sym is_end) (by_case stopped (subst (GivesMeant MayFail IsMeant) was h))
       where
         by_case : (stopped : Stopped) → GivesMeant MayFail IsMeant (Err stopped) → GivesMoves MayFail r Pack (Err stopped)

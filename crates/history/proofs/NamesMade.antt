@@ -11,15 +11,14 @@ use Rattle.history_model.specs.Replies.{Packed}
 use Rattle.history_model.specs.declared.Fault.{Fault}
 use Rattle.history_layout.specs.EditSteps.{EditsMade}
 use Rattle.history_layout.specs.PackSteps.{PacksNames}
-use Rattle.history_store.specs.Packed.{records_of}
 use Rattle.history_store.specs.Packing.{KeepsRecords}
 use Rattle.history_store.specs.declared.changing.MovedName.{MovedName}
-use Rattle.history_store.specs.declared.packs.PackedName.{PackedName}
 use Rattle.history_repository.specs.Face.{KeepsAllButNames}
 use Rattle.history_repository.specs.Stands.{Stands}
 use Rattle.history_repository.specs.declared.repository.Repository.{Repository}
 use Rattle.history_plans.specs.Halves.{NamesStand, names_tree}
-use Rattle.history_plans.specs.Packing.{AreAllNames}
+use Rattle.history_plans.specs.Packing.{IsPacking}
+use Rattle.history_plans.specs.declared.packing.Packing.{Packing}
 use Rattle.history.specs.Acts.{CountsFailure}
 use Rattle.history.specs.Calls.{EditsAsAsked, MovesAlone, MovesAsAsked, PacksAll}
 use Rattle.history.specs.Moving.{AskedEdits, edits_of, gone_of}
@@ -74,25 +73,25 @@ module _ {F : Type 0} (files : Ghosts F) (now new : Repository F) (result : Resu
 
   -- ---- a pack
 
-  pub pack_moves : (all : Vec PackedName Global) (given : List PackedName) → given ≡ all.items → (R : Type 0) → MovesAlone files R now new → new.branch ≡ now.branch
-      → ((r : plain.Repository) → Stands files.is_honest files.history now r → AreAllNames r given → PacksAll files r now new result)
-      → ((r : plain.Repository) → Stands files.is_honest files.history now r → AreAllNames r given → OnOk result (KeepsRecords new.names (names_tree files.history new)))
-      → (r : plain.Repository) (sent : Command) → HasStored files.is_honest files.history now r sent → AreMovesOf r sent (move.Pack all) → MovesAsAsked files r sent now new result
-  pack_moves all given same R alone branch packed records r Pack s are =
+  pub pack_moves : (packing : Packing) (R : Type 0) → MovesAlone files R now new → new.branch ≡ now.branch
+      → ((r : plain.Repository) → Stands files.is_honest files.history now r → IsPacking r packing → PacksAll files r now new result)
+      → ((r : plain.Repository) → Stands files.is_honest files.history now r → IsPacking r packing → OnOk result (KeepsRecords new.names (names_tree files.history new)))
+      → (r : plain.Repository) (sent : Command) → HasStored files.is_honest files.history now r sent → AreMovesOf r sent (move.Pack packing) → MovesAsAsked files r sent now new result
+  pack_moves packing R alone branch packed records r Pack s are =
       let h = all_still files.is_honest files.history now r Pack s refl in
       let kept = kept_so R alone branch in
-      let done = packed r h (ap records_of same ∙ are.told) in
+      let done = packed r h are.told in
       let Packs = PacksNames r (names_tree files.history now) (names_tree files.history new) in
       record {
         ends = leaves_so C C Packs (Stands files.is_honest files.history new (after r Pack)) (KeepsRecords new.names (names_tree files.history new)) result
-            (λ failed. failed) (records r h (ap records_of same ∙ are.told))
+            (λ failed. failed) (records r h are.told)
             (λ packs_all kept_records. names_serve files.is_honest files.history now new r Pack Packed h (packs.names_only r) kept (alone.names.honest h.honest_names)
             (packs.stands_after files.is_honest files.history now r h new kept packs_all) kept_records alone.kind)
             done.ends;
         passes = packs.passes_names files.is_honest files.history now r h new done.passes;
         leaves = where_moved C Packs result done.ends;
       }
-  pack_moves all given same R alone branch packed records r sent s are = absurd are.told
+  pack_moves packing R alone branch packed records r sent s are = absurd are.told
 
 -- Nothing is done to names by a command that changes no file alone.
 pub moves_something : {X : Type 0} (r : plain.Repository) (sent : Command) → AreMovesOf r sent move.Nothing → X

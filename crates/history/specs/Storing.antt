@@ -23,7 +23,7 @@ use Rattle.history_repository.specs.declared.repository.Repository.{Repository}
 use Rattle.history_repository.specs.declared.stopped.Stopped.{Stopped}
 use Rattle.history_repository.specs.declared.stopped.Stopped.TheVariants.{Refused, Fault}
 use Rattle.history_plans.specs.Halves.{KnowsIds, objects_tree}
-use Rattle.history_plans.specs.Packing.{AreAllNames}
+use Rattle.history_plans.specs.Packing.{IsPacking}
 use Rattle.history_store.specs.Changing.{moved_in}
 use Rattle.history_store.specs.declared.changing.MovedName.{MovedName}
 use Rattle.history.specs.declared.moves.Done.{Done}
@@ -77,7 +77,7 @@ pub record IsChangeOf (r : plain.Repository) (sent : commands.Command) (made : D
 abbrev pub TellMoves : plain.Repository → commands.Command → Moves → Type 0
 TellMoves r sent (move.Change made moved taken) = IsChangeOf r sent made moved.items taken
 TellMoves r (commands.Switch name) (move.Switch branch) = branch.items ≡ name
-TellMoves r commands.Pack (move.Pack names) = AreAllNames r names.items
+TellMoves r commands.Pack (move.Pack packing) = IsPacking r packing
 TellMoves r _ _ = ⊥
 
 -- These are the moves of a command of which no cause holds, so that no name occurs twice or

@@ -25,8 +25,9 @@ use crate::tagging::store_tag;
 use gix_hash::ObjectId;
 use gix_ref_file::{FileError, Files};
 use history_model::Fault;
+use history_plans::Packing;
 use history_repository::{Repository, Stopped};
-use history_store::{MovedName, PackedName};
+use history_store::MovedName;
 use history_word::Command;
 use std::alloc::{AllocError, Global};
 
@@ -57,7 +58,7 @@ pub enum Moves {
     /// HEAD is to name this branch.
     Switch(Vec<u8>),
     /// All names get records, and their own files go.
-    Pack(Vec<PackedName>),
+    Pack(Packing),
     /// Nothing: the command changes no file.
     Nothing,
 }
@@ -173,7 +174,7 @@ pub(crate) fn move_names<F: Files>(
             change_names(repository, alloc, &moved, taken.as_deref())
         }
         Moves::Switch(branch) => switch_head(repository, alloc, branch),
-        Moves::Pack(names) => pack_names(repository, alloc, &names),
+        Moves::Pack(packing) => pack_names(repository, alloc, &packing),
         Moves::Nothing => Ok(()),
     }
 }

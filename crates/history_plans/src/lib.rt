@@ -9,6 +9,7 @@ mod causes;
 mod deleting;
 mod editing;
 mod grafts;
+mod held_objects;
 mod moving;
 mod needed;
 mod packing;
@@ -18,8 +19,9 @@ mod switching;
 mod tagging;
 
 pub use deleting::test_delete;
+pub use held_objects::{HeldObjects, HeldStore};
 pub use moving::plan_moves;
-pub use packing::names_to_pack;
+pub use packing::{Packing, names_to_pack};
 pub use planning::{Plan, plan_commit};
 pub use renaming::plan_rename;
 pub use switching::test_switch;

@@ -4,17 +4,19 @@ ghost use Rattle.std.specs.Prelude.{◌≡◌, IfNone, IfSome, IsFalse, map};
 ghost use Rattle.gix_object_lines.specs.NameTest.{is_full_name};
 ghost use Rattle.history_store.specs.Packed.{record_of_name, records_of};
 ghost use Rattle.history_repository.specs.Reads.{GivesMeant};
-ghost use Rattle.history_repository.specs.NamesShown.{shown_name};
-ghost use Rattle.history_plans.specs.Packing.{AreAllNames, AreFull, line_record};
+ghost use Rattle.history_repository.specs.NamesShown.{ArePeeled, shown_name, told_name};
+ghost use Rattle.history_plans.specs.HeldObjects.{HoldsMore};
+ghost use Rattle.history_plans.specs.Packing.{AreFull, IsPacking, line_record};
 ghost use Rattle.history_repository.specs.Stands.{Stands};
 ghost use Rattle.history_model.specs.Repository as plain;
 
+use crate::held_objects::HeldObjects;
 use gix_object_lines::ByteString;
 use gix_ref_file::Files;
 use gix_ref_name::FullName;
 use history_model::Fault;
-use history_repository::{ALL_NAMES, Repository, Shown, Stopped, read_shown};
-use history_store::PackedName;
+use history_repository::{ALL_NAMES, Held, PeeledCommit, Repository, Shown, Stopped};
+use history_store::{NamedId, PackedName};
 use std::alloc::Global;
 
 /// Returns the name as it is to be packed: with its id, and of a tag with the commit that it is of.
@@ -44,16 +46,55 @@ fn all_to_pack(alloc: Global, shown: Vec<Shown>) -> Result<Vec<PackedName>, Stop
     Ok(names)
 }
 
-/// Returns all existing names, as they are to be packed. It changes nothing. It is a fault if a
-/// call of the files failed, or if no memory is left.
+/// Returns the names with what they hold. Each object that they hold is held from then on, and so is
+/// each commit that a tag among these is of: it is read, unless it is held. It is a fault if a call
+/// of the files failed, or if no memory is left.
+fn read_all<F: Files>(
+    repository: &Repository<F>,
+    alloc: Global,
+    held: &mut HeldObjects,
+    names: Vec<NamedId>,
+) -> Result<Vec<Shown>, Stopped>
+    ensures { (r : plain.Repository) → Stands F.is_honest F.history repository.now r
+        → ArePeeled r names.items → HoldsMore F.reading_may_fail r held.old held.new
+        (λ shown. map shown_name shown.items ≡ map (told_name r) names.items) result }
+{
+    let mut shown = Vec::new(alloc);
+    for named in names {
+        let id = named.id;
+        let peeled = held.commit_of(repository, alloc, id)?;
+        let commit = PeeledCommit {
+            id: peeled,
+            root: None,
+        };
+        shown.push(Shown {
+            name: named.name,
+            held: Held { id, commit },
+        })?;
+    }
+    Ok(shown)
+}
+
+/// All names as they are to be packed, and the objects that were read for them.
+#[derive(Drop)]
+pub struct Packing {
+    pub names: Vec<PackedName>,
+    pub held: HeldObjects,
+}
+
+/// Returns all existing names, as they are to be packed, with the objects that they hold and the
+/// commits that tags among these are of, each of which is read once. It changes nothing. It is a
+/// fault if a call of the files failed, or if no memory is left.
 pub fn names_to_pack<F: Files>(
     repository: &Repository<F>,
     alloc: Global,
-) -> Result<Vec<PackedName>, Stopped>
+) -> Result<Packing, Stopped>
     ensures { (r : plain.Repository) → Stands F.is_honest F.history repository.now r
-        → GivesMeant F.reading_may_fail (λ names. AreAllNames r names.items) result }
+        → GivesMeant F.reading_may_fail (IsPacking r) result }
 {
-    let names = repository.names.list_all(alloc, ALL_NAMES)?;
-    let shown = read_shown(repository, alloc, names)?;
-    all_to_pack(alloc, shown)
+    let listed = repository.names.list_all(alloc, ALL_NAMES)?;
+    let mut held = HeldObjects::new(alloc);
+    let shown = read_all(repository, alloc, &mut held, listed)?;
+    let names = all_to_pack(alloc, shown)?;
+    Ok(Packing { names, held })
 }

@@ -4,7 +4,7 @@ use crate::common::{KINDS, first_command, parts_after};
 use gix_ref_file::paths::joined;
 use gix_ref_file::{Files, MemoryFiles};
 use gix_ref_fuse::Fuse;
-use history::{Command, Graph, Kind};
+use history::{Bytes, Collected, Command, End, Graph, Kind, Repository as Whole, run};
 use history_plans::{names_to_pack, plan_commit, plan_moves, plan_tag, test_delete};
 use history_queries::{all_rows, list_files, list_names, log, show};
 use history_repository::Repository;
@@ -53,6 +53,11 @@ const LOOSE_NAMES: &[u8] =
 /// A second commit on `main`, a tag of it, and a name that holds the tag's commit.
 const LATER: &[u8] =
     b"commit refs/heads/main any\nput file 5 3\na/b/c\nbye\nauthor 1 3 3 +0000\nA\na@b\ncommitter 1 3 3 +0000\nA\na@b\nmessage 5\nthree\nend\ntag refs/tags/v1 new main\ntagger 1 3 4 +0000\nA\na@b\nmessage 3\ntag\nend\nmove\nto refs/heads/same new main\nactor 1 3 5 +0000\nA\na@b\nmessage 4\nsame\nend\n";
+
+/// All names but the tag's move to the other commit, so that the tag's is held by no name; and a
+/// second tag of it.
+const APART: &[u8] =
+    b"move\nto refs/heads/main any other\nto refs/heads/same any other\nactor 1 3 6 +0000\nA\na@b\nmessage 5\napart\nend\ntag refs/tags/v2 new v1\ntagger 1 3 7 +0000\nA\na@b\nmessage 3\ntag\nend\n";
 
 /// The commit, the root, and the folders `a` and `a/b`.
 const AT_ITS_TIP: (&[u8], u64) = (
@@ -138,6 +143,9 @@ const NAMED: (&[u8], u64) = (b"names\n", 3);
 
 /// The same.
 const PACKED: (&[u8], u64) = (b"pack\n", 3);
+
+/// The two commits, and both tags.
+const PACKED_APART: (&[u8], u64) = (b"pack\n", 4);
 
 /// Both commits of `main`.
 const LOGGED: (&[u8], u64) = (b"log breadth all +main\n", 2);
@@ -288,6 +296,46 @@ fn a_command_reads_each_object_once(rt: HostRuntime) {
         let repository = counted(&rt, alloc, kind, &[BEFORE]);
         for (input, wanted) in [CHANGED, BRANCHED, GRAFTED, SHOWN, SHOWN_COMMIT, LISTED] {
             let met = readings(&rt, &repository, alloc, input);
+            assert!(rt; met == wanted, "{met} for {wanted}");
+        }
+    }
+}
+
+/// Returns the number of calls on the objects part, once a repository is opened after these inputs
+/// and acts on this one.
+fn calls_of_acting(
+    rt: &impl Abort,
+    alloc: Global,
+    kind: Kind,
+    inputs: &[&[u8]],
+    input: &[u8],
+) -> u64 {
+    let (objects, names) = parts_after(rt, alloc, kind, inputs);
+    let objects = Fuse::failing_at(objects, 0, None);
+    let names = Fuse::failing_at(names, 0, None);
+    let Ok(mut repository) = Whole::open(alloc, objects, names, kind) else {
+        panic!(rt; "not opened")
+    };
+    let mut replies = Collected::new(alloc);
+    let ended = run(alloc, &mut Bytes::new(input), &mut replies, &mut repository);
+    assert!(rt; ended == Ok(End::Input));
+    let (objects, _) = repository.into_parts();
+    objects.calls()
+}
+
+// The names are planned and moved: what the plan has read isn't looked up again.
+#[test]
+fn a_pack_reads_each_object_once(rt: HostRuntime) {
+    let alloc = rt.alloc();
+    for kind in KINDS {
+        for (inputs, command) in [
+            ([BEFORE, LATER].as_slice(), PACKED),
+            ([BEFORE, LATER, APART].as_slice(), PACKED_APART),
+        ] {
+            let (input, wanted) = command;
+            let opened = calls_of_acting(&rt, alloc, kind, inputs, b"");
+            let packed = calls_of_acting(&rt, alloc, kind, inputs, input);
+            let met = packed.saturating_sub(opened);
             assert!(rt; met == wanted, "{met} for {wanted}");
         }
     }

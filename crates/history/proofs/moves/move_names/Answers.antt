@@ -17,7 +17,7 @@ returns-in-Switch-clause-moves g c = λ r sent stored are.
 pub returns-in-Pack-clause-moves : goal.returns-in-Pack-clause-moves
 returns-in-Pack-clause-moves g c = λ r sent stored are.
     let pack = c.pack_names.ensures in
-    pack_moves g.F.Files c.args.repository.now c.pack_names.new.repository c.pack_names.result c.in-Pack.names c.deref-in-Pack.result.now c.deref-in-Pack.ensures.value
+    pack_moves g.F.Files c.args.repository.now c.pack_names.new.repository c.pack_names.result c.in-Pack.packing
     _ pack.alone pack.branch pack.packs pack.records r sent stored (subst (AreMovesOf r sent) c.in-Pack.is are)
 
 pub returns-in-Nothing-clause-moves : goal.returns-in-Nothing-clause-moves

@@ -33,7 +33,7 @@ returns-in-Err-clause-packs g c = λ r s are.
     let F = g.F.Files in
     let old = (F.history c.args.repository.now.names.store.files).tree in
     let new = (F.history c.pack_names.new.self.store.files).tree in
-    let may = may_pack F.is_honest F.history c.args.repository.now r s c.args.names.now are in
+    let may = may_pack F.is_honest F.history c.args.repository.now r s c.args.packing.now c.deref.result.now c.deref.ensures.value are in
     record {
       ends = met_fault _ (PacksNames r old new) c.in-Err.error c.fault_of.result c.fault_of.ensures (λ failed. counted (c.pack_names.ensures.failed r may (c.in-Err.is ∙ ap Err failed)));
       passes = c.pack_names.ensures.moments r may;
@@ -41,9 +41,9 @@ returns-in-Err-clause-packs g c = λ r s are.
 
 pub returns-in-Ok-clause-packs : goal.returns-in-Ok-clause-packs
 returns-in-Ok-clause-packs g c = λ r s are.
-    let may = may_pack g.F.Files.is_honest g.F.Files.history c.args.repository.now r s c.args.names.now are in
+    let may = may_pack g.F.Files.is_honest g.F.Files.history c.args.repository.now r s c.args.packing.now c.deref.result.now c.deref.ensures.value are in
     record { ends = c.in-Ok.ensures.packed r may; passes = c.pack_names.ensures.moments r may }
 
 pub returns-in-Ok-clause-records : goal.returns-in-Ok-clause-records
 returns-in-Ok-clause-records g c = λ r s are.
-    c.in-Ok.ensures.keeps r (may_pack g.F.Files.is_honest g.F.Files.history c.args.repository.now r s c.args.names.now are)
+    c.in-Ok.ensures.keeps r (may_pack g.F.Files.is_honest g.F.Files.history c.args.repository.now r s c.args.packing.now c.deref.result.now c.deref.ensures.value are)
