@@ -3,7 +3,8 @@ use Rattle.std.proofs.Common.{◌≡◌, ◌∙◌, inl, inr, ℕ, ◌≤◌, re
 use Rattle.gix_ref_file.specs.History.{HasRisen}
 use Rattle.gix_ref_file.specs.declared.files.Files.{Ghosts}
 use Rattle.history.specs.Acts.{CountsFailure}
-use Rattle.history.specs.Calls.{KeepsBoth, KeepsHonesty, MovesAlone, StoresAlone}
+use Rattle.history.specs.Calls.{KeepsBoth, MovesAlone, StoresAlone}
+use Rattle.history_store.proofs.Honesty.{more_honesty, same_honesty, then_honesty}
 use Rattle.history_repository.specs.Face.{KeepsAllButRows}
 use Rattle.history_repository.specs.declared.repository.Repository.{Repository}
 
@@ -14,45 +15,29 @@ pub risen_before : (a b c : ℕ) → a ≤ b → HasRisen b c → HasRisen a c
 risen_before a b c h k = omega arith
 
 module _ {F : Type 0} (files : Ghosts F) where
-  -- ---- one part
-
-  pub same_honesty : (R : Type 0) (a b : F) → b ≡ a → KeepsHonesty files R a b
-  same_honesty R a b same = subst (KeepsHonesty files R a) (sym same) (record { honest = λ h. h; later = omega arith; unfailed = λ unsaid. refl })
-
-  pub more_honesty : (P R : Type 0) (a b : F) → KeepsHonesty files P a b → (P → R) → KeepsHonesty files R a b
-  more_honesty P R a b h more = record { honest = h.honest; later = h.later; unfailed = λ unsaid. h.unfailed (λ p. unsaid (more p)) }
-
-  -- the first of two calls reports no failed call that both don't report
-  pub then_honesty : (P R : Type 0) (a b c : F) → KeepsHonesty files P a b → KeepsHonesty files R b c → (P → R) → KeepsHonesty files R a c
-  then_honesty P R a b c h k more = record {
-    honest = λ first. k.honest (h.honest first);
-    later = omega (arith, h.later, k.later);
-    unfailed = λ unsaid. k.unfailed unsaid ∙ h.unfailed (λ p. unsaid (more p));
-  }
-
   -- ---- both parts
 
   pub same_both : (R : Type 0) (a : Repository F) → KeepsBoth files R a a
-  same_both R a = record { objects = same_honesty R _ _ refl; names = same_honesty R _ _ refl }
+  same_both R a = record { objects = same_honesty files R _ _ refl; names = same_honesty files R _ _ refl }
 
   pub then_both : (P R : Type 0) (a b c : Repository F) → KeepsBoth files P a b → KeepsBoth files R b c → (P → R) → KeepsBoth files R a c
   then_both P R a b c h k more = record {
-    objects = then_honesty P R _ _ _ h.objects k.objects more;
-    names = then_honesty P R _ _ _ h.names k.names more;
+    objects = then_honesty files P R _ _ _ h.objects k.objects more;
+    names = then_honesty files P R _ _ _ h.names k.names more;
   }
 
   pub more_both : (P R : Type 0) (a b : Repository F) → KeepsBoth files P a b → (P → R) → KeepsBoth files R a b
-  more_both P R a b h more = record { objects = more_honesty P R _ _ h.objects more; names = more_honesty P R _ _ h.names more }
+  more_both P R a b h more = record { objects = more_honesty files P R _ _ h.objects more; names = more_honesty files P R _ _ h.names more }
 
   pub rows_both : (R : Type 0) (a b : Repository F) → KeepsAllButRows a b → KeepsBoth files R a b
-  rows_both R a b kept = subst (KeepsBoth files R a) (sym kept) (record { objects = same_honesty R _ _ refl; names = same_honesty R _ _ refl })
+  rows_both R a b kept = subst (KeepsBoth files R a) (sym kept) (record { objects = same_honesty files R _ _ refl; names = same_honesty files R _ _ refl })
 
   -- objects are put, or names move
   pub stored_both : (R : Type 0) (a b : Repository F) → StoresAlone files R a b → KeepsBoth files R a b
-  stored_both R a b s = record { objects = s.objects; names = same_honesty R _ _ (ap (λ n. n.store.files) s.kept.names) }
+  stored_both R a b s = record { objects = s.objects; names = same_honesty files R _ _ (ap (λ n. n.store.files) s.kept.names) }
 
   pub moved_both : (R : Type 0) (a b : Repository F) → MovesAlone files R a b → KeepsBoth files R a b
-  moved_both R a b m = record { objects = same_honesty R _ _ (ap (λ o. o.files) m.kept.objects); names = m.names }
+  moved_both R a b m = record { objects = same_honesty files R _ _ (ap (λ o. o.files) m.kept.objects); names = m.names }
 
   -- ---- a failed call that was counted
 

@@ -1,5 +1,5 @@
 -- What each call over a repository keeps, and what it does for a plain repository that is represented.
-use Rattle.std.specs.Prelude.{◌≡◌, ◌≤◌, ℕ, List, Option, Result, Vec, OnOk}
+use Rattle.std.specs.Prelude.{◌≡◌, ℕ, List, Option, Result, Vec, OnOk}
 use Rattle.std.specs.Io.KnownBytes.{Appends, Consumes, IsAtEnd}
 use Rattle.std.specs.declared.alloc.Global.{Global}
 use Rattle.gix_ref_file.specs.History.{Adds}
@@ -20,6 +20,7 @@ use Rattle.history_word.specs.declared.streams.Source.{Ghosts as SourceGhosts}
 use Rattle.history_layout.specs.EditSteps.{EditsMade}
 use Rattle.history_layout.specs.PackSteps.{PacksNames, PacksOnTheWay}
 use Rattle.history_layout.specs.Passing.{HoldsBetween, HoldsFirst}
+pub use Rattle.history_store.specs.Calls.{KeepsHonesty}
 use Rattle.history_store.specs.NamesFace.{kind_of_names}
 use Rattle.history_store.specs.ObjectsFace.{kind_of_objects}
 use Rattle.history_repository.specs.Face.{KeepsAllButObjects, has_failed, names_part, objects_part, rows_in}
@@ -41,25 +42,19 @@ use Rattle.history_model.specs.Repository as plain
 
 -- ---- what it keeps, whatever it returns
 
--- Honest files stay honest. The count of their failed calls only rises, and not at all unless the
--- call reports a failed one.
-pub record KeepsHonesty {F : Type 0} (files : Ghosts F) (Reports : Type 0) (old new : F) : Type 0 where
-  pub honest : files.is_honest old → files.is_honest new
-  pub later : files.failures old ≤ files.failures new
-  pub unfailed : ¬ Reports → files.failures new ≡ files.failures old
-
--- So do both parts.
+-- Both parts stay honest. Their counts of failed calls only rise, and not at all unless the call
+-- reports a failed one.
 pub record KeepsBoth {F : Type 0} (files : Ghosts F) (Reports : Type 0) (old new : Repository F) : Type 0 where
   pub objects : KeepsHonesty files Reports (objects_part old) (objects_part new)
   pub names : KeepsHonesty files Reports (names_part old) (names_part new)
 
--- So does the objects part, the kind of its ids stays, and all but the objects is as it was.
+-- The objects part stays so, the kind of its ids stays, and all but the objects is as it was.
 pub record StoresAlone {F : Type 0} (files : Ghosts F) (Reports : Type 0) (old new : Repository F) : Type 0 where
   pub kept : KeepsAllButObjects old new
   pub kind : kind_of_objects new.objects ≡ kind_of_objects old.objects
   pub objects : KeepsHonesty files Reports (objects_part old) (objects_part new)
 
--- So does the names part, the kind of its ids stays, and names alone move.
+-- The names part stays so, the kind of its ids stays, and names alone move.
 pub record MovesAlone {F : Type 0} (files : Ghosts F) (Reports : Type 0) (old new : Repository F) : Type 0 where
   pub kept : MovesNamesAlone old new
   pub kind : kind_of_names new.names ≡ kind_of_names old.names

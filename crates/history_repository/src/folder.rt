@@ -1,14 +1,11 @@
 //! The two parts of a folder, opened.
 
-ghost use Rattle.std.specs.Prelude.{◌≡◌, IfErr, IfOk};
-ghost use Rattle.history_model.specs.Repository.{Repository};
-ghost use Rattle.history_model.specs.StandsFor.{StandsWhole};
+ghost use Rattle.std.specs.Prelude.{◌≡◌, IfOk};
 ghost use Rattle.history_store.specs.NamesFace.{files_of_names, kind_of_names};
 ghost use Rattle.history_store.specs.ObjectsFace.{files_of_objects, ids_of_objects, kind_of_objects};
 ghost use Rattle.history_check_objects.specs.Stored.{facts_in};
 ghost use Rattle.history_store.specs.Opened.{IsOpenedWith};
-ghost use Rattle.history_repository.specs.Causes.{IsOpenCause, IsOpenFault};
-ghost use Rattle.history_repository.specs.Opened.{IsOpenedAs, trees_of};
+ghost use Rattle.history_repository.specs.Opened.{OpensWhole, RefusesParts};
 
 use crate::open_error::OpenRefusal;
 use gix_hash::Kind;
@@ -42,21 +39,8 @@ pub fn open_folder<F: Files>(
         × (files_of_names opened.names ≡ names)) }
     ensures kinds { IfOk result (λ opened. (kind_of_objects opened.objects ≡ kind)
         × (kind_of_names opened.names ≡ kind)) }
-    // The two parts represent a whole repository.
-    ensures stands { F.is_honest objects → F.is_honest names → IfOk result (λ opened.
-        (r : Repository) × IsOpenedAs kind (trees_of F.history objects names) opened r) }
-    // Whichever repository they represent, what is opened is that one.
-    ensures same { (r : Repository) → F.is_honest objects → F.is_honest names
-        → StandsWhole kind (trees_of F.history objects names) r
-        → IfOk result (λ opened. IsOpenedAs kind (trees_of F.history objects names) opened r) }
-    ensures refused { F.is_honest objects → F.is_honest names → IfErr result (λ refusal.
-        IsOpenCause F.reading_may_fail kind (trees_of F.history objects names) refusal.error) }
-    // A repository's parts are refused only for a fault.
-    ensures accepted { (r : Repository) → F.is_honest objects → F.is_honest names
-        → StandsWhole kind (trees_of F.history objects names) r
-        → IfErr result (λ refusal. IsOpenFault refusal.error) }
-    ensures handed_back { IfErr result (λ refusal. (refusal.objects ≡ objects)
-        × (refusal.names ≡ names)) }
+    ensures opens { OpensWhole F.Files kind objects names result }
+    ensures refuses { RefusesParts F.Files kind objects names result }
 {
     match open_objects(alloc, objects, kind) {
         Ok(opened) => open_names(alloc, opened.objects, &opened.stored, names),
@@ -81,24 +65,10 @@ fn open_names<F: Files>(
     ensures parts { IfOk result (λ opened. (opened.objects ≡ objects)
         × (files_of_names opened.names ≡ names)) }
     ensures kind { IfOk result (λ opened. kind_of_names opened.names ≡ kind_of_objects objects) }
-    ensures stands { F.is_honest (files_of_objects objects) → F.is_honest names
-        → IfOk result (λ opened. (r : Repository) × IsOpenedAs (kind_of_objects objects)
-        (trees_of F.history (files_of_objects objects) names) opened r) }
-    ensures same { (r : Repository) → F.is_honest (files_of_objects objects) → F.is_honest names
-        → StandsWhole (kind_of_objects objects)
-        (trees_of F.history (files_of_objects objects) names) r
-        → IfOk result (λ opened. IsOpenedAs (kind_of_objects objects)
-        (trees_of F.history (files_of_objects objects) names) opened r) }
-    ensures refused { F.is_honest (files_of_objects objects) → F.is_honest names
-        → IfErr result (λ refusal. IsOpenCause F.reading_may_fail (kind_of_objects objects)
-        (trees_of F.history (files_of_objects objects) names) refusal.error) }
-    ensures accepted { (r : Repository) → F.is_honest (files_of_objects objects)
-        → F.is_honest names
-        → StandsWhole (kind_of_objects objects)
-        (trees_of F.history (files_of_objects objects) names) r
-        → IfErr result (λ refusal. IsOpenFault refusal.error) }
-    ensures handed_back { IfErr result (λ refusal. (refusal.objects ≡ files_of_objects objects)
-        × (refusal.names ≡ names)) }
+    ensures opens { OpensWhole F.Files (kind_of_objects objects) (files_of_objects objects) names
+        result }
+    ensures refuses { RefusesParts F.Files (kind_of_objects objects) (files_of_objects objects) names
+        result }
 {
     let mut names = Names::new(alloc, names, objects.kind());
     match survey_names(alloc, &mut names, stored) {

@@ -1,9 +1,8 @@
 //! Opening a repository.
 
-ghost use Rattle.std.specs.Prelude.{◌≡◌, false, None, IfOk, IfErr};
+ghost use Rattle.std.specs.Prelude.{◌≡◌, false, None, IfOk};
 ghost use Rattle.history_model.specs.StandsFor.{StandsWhole};
-ghost use Rattle.history_repository.specs.Causes.{IsOpenCause, IsOpenFault};
-ghost use Rattle.history_repository.specs.Opened.{trees_of};
+ghost use Rattle.history_repository.specs.Opened.{RefusesParts, trees_of};
 ghost use Rattle.history_store.specs.Creation.{IsNew};
 ghost use Rattle.history_model.specs.Repository.{fresh};
 ghost use Rattle.history_repository.specs.Face.{objects_part, names_part, has_failed, rows_in};
@@ -47,15 +46,7 @@ impl<F: Files> Repository<F> {
         ensures fresh { F.is_honest objects → F.is_honest names
             → IsNew (F.history objects).tree (F.history names).tree
             → IfOk result (λ opened. Stands F.is_honest F.history opened (fresh kind)) }
-        ensures refused { F.is_honest objects → F.is_honest names → IfErr result (λ refusal.
-            IsOpenCause F.reading_may_fail kind (trees_of F.history objects names)
-            refusal.error) }
-        // A repository's parts are refused only for a fault.
-        ensures accepted { (r : plain.Repository) → F.is_honest objects → F.is_honest names
-            → StandsWhole kind (trees_of F.history objects names) r
-            → IfErr result (λ refusal. IsOpenFault refusal.error) }
-        ensures handed_back { IfErr result (λ refusal. (refusal.objects ≡ objects)
-            × (refusal.names ≡ names)) }
+        ensures refuses { RefusesParts F.Files kind objects names result }
     {
         let OpenedFolder {
             objects,

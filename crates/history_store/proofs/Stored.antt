@@ -7,14 +7,14 @@ use Rattle.std.specs.FinMap.{get, insert, remove}
 use Rattle.gix_ref_file.specs.Tree.{Tree, file, node_at, bytes_of, bytes_at}
 use Rattle.gix_ref_file.specs.Changes.{to_write, to_append, to_rename, allows, after, may_hold_file, is_file_at, MayLeave}
 use Rattle.gix_ref_file.specs.History.{History, Adds}
-use Rattle.gix_ref_file.proofs.Histories.{adds_weaker, adds_joined}
+use Rattle.gix_ref_file.proofs.Histories.{adds_both, adds_joined, adds_weaker}
 use Rattle.gix_ref_file.proofs.Trees.{get-removed, get_inserted, same_path_itself}
 use Rattle.history_model.specs.Bytes.{Bytes}
 use Rattle.gix_hash.specs.Id.{id_of}
 use Rattle.history_model.specs.Places.{file_at, unfinished_place}
 use Rattle.history_texts.specs.ObjectTexts.{is_reserved}
-use Rattle.gix_ref_way.specs.Ways.{ChangesOneFile, SameFiles}
-use Rattle.history_store.specs.Stores.{KeepsFiles, HoldsFile, MayStand, IsTaken, place_of, text_of}
+use Rattle.gix_ref_way.specs.Ways.{ChangesOneFile, FoldersAbove, KeepsFolders, SameFiles}
+use Rattle.history_store.specs.Stores.{KeepsFiles, HoldsFile, MayHold, MayStand, IsTaken, place_of, text_of}
 use Rattle.history_texts.specs.declared.object.NewObject.{NewObject}
 use Rattle.gix_ref_way.proofs.OneFile.{insert-insert, one_files, one_now}
 use Rattle.gix_ref_way.proofs.Stored.{apart_from_inserted, apart_from_removed, now_same}
@@ -129,10 +129,6 @@ untaken object tree reserved told free alone (inr other) = alone other
 
 -- ---- if a failed change changes nothing
 
-pub on_err_any : {T E P : Type 0} (r : Result T E) → P → OnErr r P
-on_err_any (Ok x) p = tt
-on_err_any (Err e) p = p
-
 pub on_err_weaker : {T E P Q : Type 0} (r : Result T E) → (P → Q) → OnErr r P → OnErr r Q
 on_err_weaker (Ok x) f p = tt
 on_err_weaker (Err e) f p = f p
@@ -146,3 +142,9 @@ gone place t new apart is_new =
     ap (λ y. file_at y unfinished_place) is_new
     ∙ apart_from_inserted (remove t unfinished_place) place (file (bytes_at t unfinished_place)) unfinished_place (λ same. apart (sym same))
     ∙ ap bytes_of (get-removed t unfinished_place unfinished_place ∙ ap (λ b. cond b None (get t unfinished_place)) (same_path_itself unfinished_place))
+
+-- ---- files and folders together
+pub may_hold : (place text : Bytes) (old new : History) → Adds (MayStand place text old.tree) old new → Adds (FoldersAbove place old.tree) old new → Adds (KeepsFolders old.tree) old new
+    → Adds (MayHold place text old.tree) old new
+may_hold place text old new may above stay =
+    adds_weaker old new (adds_both old new may (adds_both old new above stay)) (λ tree both. record { files = both.0; above = both.1.0; stay = both.1.1 })

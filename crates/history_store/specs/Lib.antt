@@ -1,4 +1,5 @@
 pub mod AllNames
+pub mod Calls
 pub mod Changing
 pub mod Creation
 pub mod Faults
@@ -20,7 +21,7 @@ pub mod Stores
 pub use Rattle.gix_hash.specs.Id
 pub use Rattle.gix_hash.specs.Run
 pub use Rattle.gix_object_write.specs.Keeping
-pub use Rattle.gix_ref_file.specs.Calls
+pub use Rattle.gix_ref_file.specs.Calls as FileCalls
 pub use Rattle.gix_ref_file.specs.History
 pub use Rattle.gix_ref_file.specs.Tree
 pub use Rattle.gix_ref_format.specs.Packed as FormatPacked

@@ -70,10 +70,6 @@ text_of object = object_text object.kind object.content.items
 abbrev pub place_of : NewObject → Bytes
 place_of object = object_place (id_of object.id)
 
--- its file is stored
-abbrev pub Holds : NewObject → Tree → Type 0
-Holds object tree = file_at tree (place_of object) ≡ Some (text_of object)
-
 -- the tree while the object is put
 abbrev pub MayPut : NewObject → Tree → Tree → Type 0
 MayPut object old tree = MayHold (place_of object) (text_of object) old tree

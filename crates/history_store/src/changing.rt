@@ -1,8 +1,7 @@
 //! Moves and deletions of names: all those of a command are one transaction.
-ghost use Rattle.std.specs.Prelude.{◌≡◌, ◌≤◌, List, Option, None, IsErrOf, IsTrue, OnOk, map, option_map};
+ghost use Rattle.std.specs.Prelude.{◌≡◌, List, Option, None, IsErrOf, IsTrue, OnOk, map, option_map};
 ghost use Rattle.gix_ref_file.specs.Calls.{Achieves, Finds, HasFault, Passes};
-ghost use Rattle.gix_ref_file.specs.History.{Adds};
-ghost use Rattle.gix_ref_file.specs.declared.files.FileError.TheVariants.{Failed, Memory};
+ghost use Rattle.gix_ref_file.specs.declared.files.FileError.TheVariants.{Failed};
 ghost use Rattle.gix_ref_lock.specs.Committing.{IsCommitted, OnTheWay};
 ghost use Rattle.gix_ref_lock.specs.Needs.{CanCommit, log_paths};
 ghost use Rattle.gix_ref_way.specs.Ways.{FoldersOnlyOf};
@@ -10,8 +9,8 @@ ghost use Rattle.history_model.specs.Bytes.{Bytes};
 ghost use Rattle.history_model.specs.Forms.{is_name};
 ghost use Rattle.history_model.specs.Repository.{Repository};
 ghost use Rattle.history_layout.specs.EditSteps as steps;
-ghost use Rattle.history_layout.specs.EditSteps.{EditsMade, EditsOnTheWay};
-ghost use Rattle.history_store.specs.Changing.{AsksChange, IsReadable, MakesChange, MayChange, moved_in};
+ghost use Rattle.history_store.specs.Calls.{ChangesNames, KeepsNames, Transacts};
+ghost use Rattle.history_store.specs.Changing.{AsksChange, IsReadable, MayChange, moved_in};
 ghost use Rattle.history_store.specs.Packing.{KeepsRecords, kept_hit};
 
 use crate::edits::{committer_of, time_of};
@@ -45,33 +44,11 @@ impl<F: Files> Names<F> {
         moved: &[MovedName],
         taken: Option<&[u8]>,
     ) -> Result<(), FileError>
-        ensures honest { F.is_honest self.old.store.files → F.is_honest self.new.store.files }
-        ensures kind { self.new.kind ≡ self.old.kind }
-        // On the way each name is as before or has moved, and none is removed before all have.
-        ensures moments { (r : Repository) → let names = map moved_in moved.now in
+        ensures keeps { KeepsNames F.Files (IsErrOf result Failed) self.old self.new }
+        ensures changes { (r : Repository) → let names = map moved_in moved.now in
             let gone = option_map (λ name. name.now) taken.entry in
             MayChange F.is_honest F.history self.old r names gone
-            → Adds (EditsOnTheWay r.kind names gone (F.history self.old.store.files).tree)
-            (F.history self.old.store.files) (F.history self.new.store.files) }
-        ensures changed { (r : Repository) → let names = map moved_in moved.now in
-            let gone = option_map (λ name. name.now) taken.entry in
-            MayChange F.is_honest F.history self.old r names gone
-            → OnOk result (EditsMade r.kind names gone (F.history self.old.store.files).tree
-            (F.history self.new.store.files).tree) }
-        ensures keeps { (r : Repository) → let names = map moved_in moved.now in
-            let gone = option_map (λ name. name.now) taken.entry in
-            MayChange F.is_honest F.history self.old r names gone
-            → OnOk result (KeepsRecords self.new (F.history self.new.store.files).tree) }
-        ensures later { F.failures self.old.store.files ≤ F.failures self.new.store.files }
-        ensures unfailed { OnOk result
-            (F.failures self.new.store.files ≡ F.failures self.old.store.files) }
-        ensures memory { IsErrOf result Memory
-            → F.failures self.new.store.files ≡ F.failures self.old.store.files }
-        // `Failed` comes only from a fault of the files.
-        ensures failed { (r : Repository) → let names = map moved_in moved.now in
-            let gone = option_map (λ name. name.now) taken.entry in
-            MayChange F.is_honest F.history self.old r names gone → IsErrOf result Failed
-            → HasFault F.failures F.reading_may_fail self.old.store.files self.new.store.files }
+            → ChangesNames F.Files r.kind names gone self.old self.new result }
     {
         self.make(alloc, moved, taken)?;
         match taken {
@@ -87,28 +64,12 @@ impl<F: Files> Names<F> {
         moved: &[MovedName],
         taken: Option<&[u8]>,
     ) -> Result<(), FileError>
-        ensures honest { F.is_honest self.old.store.files → F.is_honest self.new.store.files }
-        ensures kind { self.new.kind ≡ self.old.kind }
+        ensures keeps { KeepsNames F.Files (IsErrOf result Failed) self.old self.new }
         ensures packed { self.new.packed ≡ self.old.packed }
-        ensures moments { (r : Repository) → let names = map moved_in moved.now in
+        ensures transacts { (r : Repository) → let names = map moved_in moved.now in
             let gone = option_map (λ name. name.now) taken.entry in
             MayChange F.is_honest F.history self.old r names gone
-            → Adds (EditsOnTheWay r.kind names gone (F.history self.old.store.files).tree)
-            (F.history self.old.store.files) (F.history self.new.store.files) }
-        ensures changed { (r : Repository) → let names = map moved_in moved.now in
-            let gone = option_map (λ name. name.now) taken.entry in
-            MayChange F.is_honest F.history self.old r names gone
-            → OnOk result (MakesChange self.old names gone (F.history self.old.store.files).tree
-            (F.history self.new.store.files).tree) }
-        ensures later { F.failures self.old.store.files ≤ F.failures self.new.store.files }
-        ensures unfailed { OnOk result
-            (F.failures self.new.store.files ≡ F.failures self.old.store.files) }
-        ensures memory { IsErrOf result Memory
-            → F.failures self.new.store.files ≡ F.failures self.old.store.files }
-        ensures failed { (r : Repository) → let names = map moved_in moved.now in
-            let gone = option_map (λ name. name.now) taken.entry in
-            MayChange F.is_honest F.history self.old r names gone → IsErrOf result Failed
-            → HasFault F.failures F.reading_may_fail self.old.store.files self.new.store.files }
+            → Transacts F.Files r.kind names gone self.old self.new result }
     {
         let edits = self.edits_of(alloc, moved, taken)?;
         let time = time_of(alloc, moved)?;
@@ -122,26 +83,11 @@ impl<F: Files> Names<F> {
         edits: Vec<RefEdit>,
         committer: Option<ActorRef<'_>>,
     ) -> Result<(), FileError>
-        ensures honest { F.is_honest self.old.store.files → F.is_honest self.new.store.files }
-        ensures kind { self.new.kind ≡ self.old.kind }
+        ensures keeps { KeepsNames F.Files (IsErrOf result Failed) self.old self.new }
         ensures packed { self.new.packed ≡ self.old.packed }
-        ensures moments { (r : Repository) (moved : List steps.MovedName) (gone : Option Bytes)
+        ensures transacts { (r : Repository) (moved : List steps.MovedName) (gone : Option Bytes)
             → AsksChange F.is_honest F.history self.old r moved gone committer.entry edits.items
-            → Adds (EditsOnTheWay r.kind moved gone (F.history self.old.store.files).tree)
-            (F.history self.old.store.files) (F.history self.new.store.files) }
-        ensures changed { (r : Repository) (moved : List steps.MovedName) (gone : Option Bytes)
-            → AsksChange F.is_honest F.history self.old r moved gone committer.entry edits.items
-            → OnOk result (MakesChange self.old moved gone (F.history self.old.store.files).tree
-            (F.history self.new.store.files).tree) }
-        ensures later { F.failures self.old.store.files ≤ F.failures self.new.store.files }
-        ensures unfailed { OnOk result
-            (F.failures self.new.store.files ≡ F.failures self.old.store.files) }
-        ensures memory { IsErrOf result Memory
-            → F.failures self.new.store.files ≡ F.failures self.old.store.files }
-        ensures failed { (r : Repository) (moved : List steps.MovedName) (gone : Option Bytes)
-            → AsksChange F.is_honest F.history self.old r moved gone committer.entry edits.items
-            → IsErrOf result Failed
-            → HasFault F.failures F.reading_may_fail self.old.store.files self.new.store.files }
+            → Transacts F.Files r.kind moved gone self.old self.new result }
     {
         let records = self.packed.as_ref();
         let mode = PackedRefs::<Never>::DeletionsOnly;
@@ -153,8 +99,7 @@ impl<F: Files> Names<F> {
 
     // Commits what is prepared.
     pub(crate) fn finish(&mut self, alloc: Global, made: Transaction) -> Result<(), FileError>
-        ensures honest { F.is_honest self.old.store.files → F.is_honest self.new.store.files }
-        ensures kind { self.new.kind ≡ self.old.kind }
+        ensures keeps { KeepsNames F.Files (IsErrOf result Failed) self.old self.new }
         ensures packed { self.new.packed ≡ self.old.packed }
         ensures moments { Passes F.is_honest F.history self.old.store.files self.new.store.files
             (OnTheWay made.packed made.moves.items) }
@@ -162,11 +107,6 @@ impl<F: Files> Names<F> {
             (FoldersOnlyOf (log_paths made.moves.items)) }
         ensures done { Achieves F.is_honest F.history self.old.store.files self.new.store.files
             result (IsCommitted made.packed made.moves.items) }
-        ensures later { F.failures self.old.store.files ≤ F.failures self.new.store.files }
-        ensures unfailed { OnOk result
-            (F.failures self.new.store.files ≡ F.failures self.old.store.files) }
-        ensures memory { IsErrOf result Memory
-            → F.failures self.new.store.files ≡ F.failures self.old.store.files }
         ensures failed { F.is_honest self.old.store.files
             → CanCommit made.packed made.moves.items (F.history self.old.store.files).tree
             → IsErrOf result Failed

@@ -1,15 +1,12 @@
 //! HEAD of an existing repository: it is changed by a transaction.
-ghost use Rattle.std.specs.Prelude.{◌≡◌, ◌≢◌, ◌≤◌, Err, [], ◌∷◌, IfOk, IsErrOf, IsTrue, OnOk};
+ghost use Rattle.std.specs.Prelude.{◌≡◌, ◌≢◌, Err, [], ◌∷◌, IfOk, IsErrOf, IsTrue};
 ghost use Rattle.gix_ref_edit.specs.declared.change.RefEdit.{RefEdit};
-ghost use Rattle.gix_ref_file.specs.Calls.{HasFault};
-ghost use Rattle.gix_ref_file.specs.History.{Adds};
-ghost use Rattle.gix_ref_file.specs.declared.files.FileError.TheVariants.{Failed, Memory};
+ghost use Rattle.gix_ref_file.specs.declared.files.FileError.TheVariants.{Failed};
 ghost use Rattle.history_model.specs.Forms.{is_name};
 ghost use Rattle.history_model.specs.Repository.{Repository};
-ghost use Rattle.history_layout.specs.SwitchSteps.{HeadOnTheWay, NamesBranch};
 ghost use Rattle.history_edits.specs.SwitchPlans.{AsksHead};
+ghost use Rattle.history_store.specs.Calls.{KeepsNames, SwitchesHead};
 ghost use Rattle.history_store.specs.Changing.{MaySwitch};
-ghost use Rattle.history_store.specs.Packing.{KeepsRecords};
 
 use crate::faults::{full_name, of_preparing};
 use crate::names::Names;
@@ -52,29 +49,10 @@ impl<F: Files> Names<F> {
     /// Returns `Failed` if a file call failed, or if HEAD names another branch or is locked, and
     /// `Memory` if memory ran out. After an error HEAD is as before or names the branch, whole.
     pub fn switch(&mut self, alloc: Global, from: &[u8], to: &[u8]) -> Result<(), FileError>
-        ensures honest { F.is_honest self.old.store.files → F.is_honest self.new.store.files }
-        ensures kind { self.new.kind ≡ self.old.kind }
-        ensures moments { (r : Repository)
+        ensures keeps { KeepsNames F.Files (IsErrOf result Failed) self.old self.new }
+        ensures switches { (r : Repository)
             → MaySwitch F.is_honest F.history self.old r from.now to.now
-            → Adds (HeadOnTheWay to.now (F.history self.old.store.files).tree)
-            (F.history self.old.store.files) (F.history self.new.store.files) }
-        ensures switched { (r : Repository)
-            → MaySwitch F.is_honest F.history self.old r from.now to.now
-            → OnOk result (NamesBranch to.now (F.history self.old.store.files).tree
-            (F.history self.new.store.files).tree) }
-        ensures keeps { (r : Repository)
-            → MaySwitch F.is_honest F.history self.old r from.now to.now
-            → OnOk result (KeepsRecords self.new (F.history self.new.store.files).tree) }
-        ensures later { F.failures self.old.store.files ≤ F.failures self.new.store.files }
-        ensures unfailed { OnOk result
-            (F.failures self.new.store.files ≡ F.failures self.old.store.files) }
-        ensures memory { IsErrOf result Memory
-            → F.failures self.new.store.files ≡ F.failures self.old.store.files }
-        // `Failed` comes only from a fault of the files.
-        ensures failed { (r : Repository)
-            → MaySwitch F.is_honest F.history self.old r from.now to.now
-            → IsErrOf result Failed
-            → HasFault F.failures F.reading_may_fail self.old.store.files self.new.store.files }
+            → SwitchesHead F.Files to.now self.old self.new result }
     {
         let edits = head_edit(alloc, from, to)?;
         let records = self.packed.as_ref();

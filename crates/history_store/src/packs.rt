@@ -1,14 +1,13 @@
 //! Packing of names: all those that aren't packed yet are packed by one transaction.
-ghost use Rattle.std.specs.Prelude.{◌≡◌, ◌≢◌, ◌≤◌, ◌⊎◌, ◌++◌, ◌∷◌, Err, [], List, Some, IfOk, IsErrOf, IsTrue, OnOk, option_map, unwrap_or};
+ghost use Rattle.std.specs.Prelude.{◌≡◌, ◌≢◌, ◌++◌, ◌∷◌, Err, [], List, Some, IfOk, IsErrOf, IsTrue, OnOk, option_map, unwrap_or};
 ghost use Rattle.gix_hash.specs.Id.{id_of};
-ghost use Rattle.gix_ref_file.specs.Calls.{Finds, HasFault};
-ghost use Rattle.gix_ref_file.specs.History.{Adds};
-ghost use Rattle.gix_ref_file.specs.declared.files.FileError.TheVariants.{Failed, Memory};
+ghost use Rattle.gix_ref_file.specs.Calls.{Finds};
+ghost use Rattle.gix_ref_file.specs.declared.files.FileError.TheVariants.{Failed};
 ghost use Rattle.gix_ref_format.specs.Packed.{Record, record_of};
 ghost use Rattle.gix_ref_format.specs.PackedKept.{kept};
 ghost use Rattle.history_model.specs.Repository.{Repository};
-ghost use Rattle.history_layout.specs.PackSteps.{PacksNames, PacksOnTheWay};
 ghost use Rattle.history_edits.specs.PackPlans.{AsksPack, AsksToPack, IsPackedSo};
+ghost use Rattle.history_store.specs.Calls.{KeepsNames, PacksNamesOf};
 ghost use Rattle.history_store.specs.Packing.{KeepsRecords};
 ghost use Rattle.history_store.specs.Packed.{AsksPacks, MayPack, record_of_name, records_of};
 
@@ -48,35 +47,15 @@ impl<F: Files> Names<F> {
         objects: &O,
         names: &[PackedName],
     ) -> Result<(), FileError>
-        ensures honest { F.is_honest self.old.store.files → F.is_honest self.new.store.files }
-        ensures kind { self.new.kind ≡ self.old.kind }
-        // On the way each name has its own file, or its record.
-        ensures moments { (r : Repository)
+        ensures keeps { KeepsNames F.Files (IsErrOf result Failed) self.old self.new }
+        ensures packs { (r : Repository)
             → MayPack F.is_honest F.history self.old r (O.is_honest objects.now)
             (O.table objects.now) names.now
-            → Adds (PacksOnTheWay r (F.history self.old.store.files).tree)
-            (F.history self.old.store.files) (F.history self.new.store.files) }
-        ensures packed { (r : Repository)
-            → MayPack F.is_honest F.history self.old r (O.is_honest objects.now)
-            (O.table objects.now) names.now
-            → OnOk result (PacksNames r (F.history self.old.store.files).tree
-            (F.history self.new.store.files).tree) }
-        ensures keeps { (r : Repository)
+            → PacksNamesOf F.Files r (O.may_fail objects.now) self.old self.new result }
+        ensures records { (r : Repository)
             → MayPack F.is_honest F.history self.old r (O.is_honest objects.now)
             (O.table objects.now) names.now
             → OnOk result (KeepsRecords self.new (F.history self.new.store.files).tree) }
-        ensures later { F.failures self.old.store.files ≤ F.failures self.new.store.files }
-        ensures unfailed { OnOk result
-            (F.failures self.new.store.files ≡ F.failures self.old.store.files) }
-        ensures memory { IsErrOf result Memory
-            → F.failures self.new.store.files ≡ F.failures self.old.store.files }
-        // `Failed` comes only from a fault of the files, or of a lookup.
-        ensures failed { (r : Repository)
-            → MayPack F.is_honest F.history self.old r (O.is_honest objects.now)
-            (O.table objects.now) names.now
-            → IsErrOf result Failed
-            → HasFault F.failures (F.reading_may_fail ⊎ O.may_fail objects.now)
-            self.old.store.files self.new.store.files }
     {
         let edits = self.edits_to_pack(alloc, names)?;
         if edits.as_slice().is_empty() {
@@ -143,29 +122,11 @@ impl<F: Files> Names<F> {
         objects: &O,
         edits: Vec<RefEdit>,
     ) -> Result<(), FileError>
-        ensures honest { F.is_honest self.old.store.files → F.is_honest self.new.store.files }
-        ensures kind { self.new.kind ≡ self.old.kind }
-        ensures moments { (r : Repository) (wanted : List Record)
+        ensures keeps { KeepsNames F.Files (IsErrOf result Failed) self.old self.new }
+        ensures packs { (r : Repository) (wanted : List Record)
             → AsksPacks F.is_honest F.history self.old r (O.is_honest objects.now)
             (O.table objects.now) wanted edits.items
-            → Adds (PacksOnTheWay r (F.history self.old.store.files).tree)
-            (F.history self.old.store.files) (F.history self.new.store.files) }
-        ensures packed { (r : Repository) (wanted : List Record)
-            → AsksPacks F.is_honest F.history self.old r (O.is_honest objects.now)
-            (O.table objects.now) wanted edits.items
-            → OnOk result (PacksNames r (F.history self.old.store.files).tree
-            (F.history self.new.store.files).tree) }
-        ensures later { F.failures self.old.store.files ≤ F.failures self.new.store.files }
-        ensures unfailed { OnOk result
-            (F.failures self.new.store.files ≡ F.failures self.old.store.files) }
-        ensures memory { IsErrOf result Memory
-            → F.failures self.new.store.files ≡ F.failures self.old.store.files }
-        ensures failed { (r : Repository) (wanted : List Record)
-            → AsksPacks F.is_honest F.history self.old r (O.is_honest objects.now)
-            (O.table objects.now) wanted edits.items
-            → IsErrOf result Failed
-            → HasFault F.failures (F.reading_may_fail ⊎ O.may_fail objects.now)
-            self.old.store.files self.new.store.files }
+            → PacksNamesOf F.Files r (O.may_fail objects.now) self.old self.new result }
     {
         let records = self.packed.as_ref();
         let mode = PackedRefs::DeletionsAndNonSymbolicUpdatesRemoveLooseSourceReference(objects);

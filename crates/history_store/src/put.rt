@@ -1,18 +1,17 @@
 //! Putting contents as objects: in written form, and naming only what is stored.
-ghost use Rattle.std.specs.Prelude.{◌≡◌, ◌↔◌, ◌<◌, ◌≤◌, ◌⊎◌, Some, length, map, IfErr, IfOk, IsErrOf, IsFalse, IsTrue, OnErr, OnOk};
+ghost use Rattle.std.specs.Prelude.{◌≡◌, ◌↔◌, ◌<◌, length, map, IfErr, IfOk, IsErrOf, IsTrue, OnOk};
 ghost use Rattle.std.specs.List.{All};
-ghost use Rattle.gix_hash.specs.Id.{id_of};
 ghost use Rattle.gix_object_lookup.specs.declared.find.Error.TheVariants as found;
-ghost use Rattle.gix_object_write.specs.Keeping.{IsAsBefore, Puts};
-ghost use Rattle.gix_ref_file.specs.Calls.{Achieves, HasFault, Passes};
+ghost use Rattle.gix_ref_file.specs.Calls.{HasFault};
 ghost use Rattle.history_model.specs.Forms.{max_content};
 ghost use Rattle.history_model.specs.Objects.{object_text};
-ghost use Rattle.history_model.specs.Places.{file_at, object_place};
+ghost use Rattle.history_model.specs.Places.{object_place};
 ghost use Rattle.history_store.specs.ObjectsFace.{files_of_objects, kind_of_objects};
 ghost use Rattle.history_store.specs.KnownObjects.{HoldsKnown, table_of};
 ghost use Rattle.history_texts.specs.ObjectTexts.{object_id};
-ghost use Rattle.history_store.specs.Puts.{Fits, IsGap, IsRefusal, IsStoredAs, is_fault, of_find, of_made};
-ghost use Rattle.history_store.specs.Stores.{HoldsFile, IsFinished, IsIdTaken, IsObjectPart, KeepsFiles, MayHold};
+ghost use Rattle.history_store.specs.Puts.{Fits, IsGap, IsRefusal, IsStoredAs, of_find, of_made};
+ghost use Rattle.history_store.specs.Calls.{KeepsObjects, PutsContent, RefusesContent, WritesObject};
+ghost use Rattle.history_store.specs.Stores.{IsObjectPart};
 ghost use Rattle.history_texts.specs.Written.{naming_of};
 ghost use Rattle.history_store.specs.declared.put.PutError.TheVariants.{File, Memory, TooLarge};
 
@@ -100,69 +99,17 @@ impl<F: Files> Objects<F> {
         kind: ObjectKind,
         content: Vec<u8>,
     ) -> Result<ObjectId, PutError>
-        ensures honest { F.is_honest (files_of_objects self.old)
-            → F.is_honest (files_of_objects self.new) }
-        ensures kind { kind_of_objects self.new ≡ kind_of_objects self.old }
-        ensures id { IfOk result (λ id.
-            id_of id ≡ object_id (kind_of_objects self.old) kind content.items) }
-
-        // The map of objects gains this one, if it isn't there; otherwise it is as before.
-        ensures holds { HoldsKnown F.is_honest F.history self.old
-            → HoldsKnown F.is_honest F.history self.new }
-        ensures added { HoldsKnown F.is_honest F.history self.old
-            → OnOk result (Puts (table_of F.history self.old) (table_of F.history self.new)
-            (object_id (kind_of_objects self.old) kind content.items)
-            (record { kind = kind; content = content.items })) }
-        ensures kept { HoldsKnown F.is_honest F.history self.old
-            → OnErr result (IsAsBefore (table_of F.history self.old)
-            (table_of F.history self.new)) }
-
-        // What is put is in written form and names only what is stored; each error has its cause,
-        // and those before it have none.
-        ensures fits { HoldsKnown F.is_honest F.history self.old
-            → OnOk result (Fits (kind_of_objects self.old) (table_of F.history self.old) kind
-            content.items) }
-        ensures refused { HoldsKnown F.is_honest F.history self.old
-            → IfErr result (IsRefusal (kind_of_objects self.old) (table_of F.history self.old)
-            (F.history (files_of_objects self.old)).tree kind content.items) }
-        ensures large { IsErrOf result TooLarge ↔ (max_content < length content.items) }
-        ensures free { Achieves F.is_honest F.history
-            (files_of_objects self.old) (files_of_objects self.new) result (λ old new.
-            ¬ IsIdTaken (object_id (kind_of_objects self.old) kind content.items) kind
-            content.items old) }
-
-        // The object's file is there, and each other file is as before; nothing is left unfinished.
-        ensures stored { Achieves F.is_honest F.history
-            (files_of_objects self.old) (files_of_objects self.new) result
-            (HoldsFile (object_place (object_id (kind_of_objects self.old) kind content.items))
-            (object_text kind content.items)) }
-        ensures finished { F.is_honest (files_of_objects self.old)
-            → OnOk result (IsFinished (F.history (files_of_objects self.new)).tree
-            ⊎ (files_of_objects self.new ≡ files_of_objects self.old)) }
-        ensures once { F.is_honest (files_of_objects self.old)
-            → file_at (F.history (files_of_objects self.old)).tree
-            (object_place (object_id (kind_of_objects self.old) kind content.items))
-            ≡ Some (object_text kind content.items)
-            → files_of_objects self.new ≡ files_of_objects self.old }
-        ensures untouched { IfErr result (λ error. IsFalse (is_fault error)
-            → files_of_objects self.new ≡ files_of_objects self.old) }
+        ensures keeps { KeepsObjects F.Files (IsErrOf result File) self.old self.new }
+        ensures puts { PutsContent F.Files kind content.items self.old self.new result }
+        ensures refuses { RefusesContent F.Files kind content.items self.old self.new result }
 
         // At each moment the object's file is as before, or there whole, and so are all others.
-        ensures moments { Passes F.is_honest F.history
-            (files_of_objects self.old) (files_of_objects self.new)
-            (MayHold (object_place (object_id (kind_of_objects self.old) kind content.items))
-            (object_text kind content.items)) }
-        ensures atomic { F.is_atomic → F.is_honest (files_of_objects self.old)
-            → OnErr result (KeepsFiles (F.history (files_of_objects self.old)).tree
-            (F.history (files_of_objects self.new)).tree) }
+        ensures writes { WritesObject F.Files
+            (object_place (object_id (kind_of_objects self.old) kind content.items))
+            (object_text kind content.items)
+            (files_of_objects self.old) (files_of_objects self.new) result }
 
         // In an objects part, `File` is returned only if a call of the files failed by itself.
-        ensures later { F.failures (files_of_objects self.old)
-            ≤ F.failures (files_of_objects self.new) }
-        ensures unfailed { OnOk result (F.failures (files_of_objects self.new)
-            ≡ F.failures (files_of_objects self.old)) }
-        ensures memory { IsErrOf result Memory
-            → F.failures (files_of_objects self.new) ≡ F.failures (files_of_objects self.old) }
         ensures failed { F.is_honest (files_of_objects self.old)
             → IsObjectPart (F.history (files_of_objects self.old)).tree → IsErrOf result File
             → HasFault F.failures F.reading_may_fail

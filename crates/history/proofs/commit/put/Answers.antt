@@ -3,7 +3,10 @@ use Rattle.std.proofs.Common.{◌≡◌, ◌∙◌, refl, Err, [], ◌∷◌, �
 use Rattle.history_store.specs.KeptIds.{kept}
 use Rattle.history.proofs.Puts.{folders_now, value_passes, value_stored, value_free, value_taken, value_known, put_stopped}
 use Rattle.history_store.proofs.ObjectParts.{values_are_objects}
-use Rattle.history.proofs.Told.{put_counts}
+use Rattle.history_repository.specs.Faults.{fault_of_put}
+use Rattle.history_repository.specs.declared.stopped.Stopped.TheVariants as stops
+use Rattle.history_store.proofs.Honesty.{more_honesty}
+use Rattle.history_store.specs.declared.objects.PutMadeError.TheVariants as puts
 use Rattle.history.proofs.commit.put.Goals as goal
 
 unchanged : {F T A : Type 0} (tree : F → T) (new old : F) → A ⊎ (new ≡ old) → A ⊎ (tree new ≡ tree old)
@@ -19,21 +22,16 @@ returns-in_err-put_made-clause-alone g c =
     let stopped = err_from_is_err_and c.from_residual.result c.from_residual.ensures.1 in
     record {
       kept = record { names = refl; branch = refl; rows = refl; failed = refl };
-      kind = c.put_made.ensures.kind;
-      objects = record {
-        honest = c.put_made.ensures.honest;
-        later = c.put_made.ensures.later;
-        unfailed = λ other. put_counts c.in_err-put_made.field-0.0 c.from_residual.result (stopped.1 ∙ ap Err stopped.2) other
-            (λ is. c.put_made.ensures.memory (c.in_err-put_made.was ∙ ap Err is))
-            (λ id is. ap g.F.Files.failures (c.put_made.ensures.unwritten id (c.in_err-put_made.was ∙ ap Err is)));
-      };
+      kind = c.put_made.ensures.keeps.kind;
+      objects = more_honesty g.F.Files _ _ _ _ c.put_made.ensures.keeps.part
+          (λ told. let is : c.in_err-put_made.field-0.0 ≡ puts.File = cc (told, c.in_err-put_made.was) in stopped.1 ∙ ap Err (stopped.2 ∙ ap (λ error. stops.Fault (fault_of_put error)) is));
     }
 
 pub returns-clause-alone : goal.returns-clause-alone
 returns-clause-alone g c = record {
   kept = record { names = refl; branch = refl; rows = refl; failed = refl };
-  kind = c.put_made.ensures.kind;
-  objects = record { honest = c.put_made.ensures.honest; later = c.put_made.ensures.later; unfailed = λ other. c.in_ok-put_made.ensures.unfailed };
+  kind = c.put_made.ensures.keeps.kind;
+  objects = more_honesty g.F.Files _ _ _ _ c.put_made.ensures.keeps.part (λ told. absurd (cc (told, c.in_ok-put_made.was)));
 }
 
 pub returns-in_err-put_made-clause-puts : goal.returns-in_err-put_made-clause-puts
@@ -47,10 +45,10 @@ returns-in_err-put_made-clause-puts g c = λ value is.
       stores = λ values stand.
           put_stopped _ kind values (value ∷ []) new.tree error c.from_residual.result (stopped.1 ∙ ap Err stopped.2)
           (λ failed. counted (c.put_made.ensures.failed stand.honest (values_are_objects kind old.tree values stand.holds stand.own_ids) (c.in_err-put_made.was ∙ ap Err failed)))
-          (λ id taken. value_taken kind old.tree new.tree values value c.args.object.now is stand.holds stand.own_ids (c.put_made.ensures.refused id (c.in_err-put_made.was ∙ ap Err taken) stand.honest));
+          (λ id taken. value_taken kind old.tree new.tree values value c.args.object.now is stand.holds stand.own_ids (c.put_made.ensures.refuses.taken id (c.in_err-put_made.was ∙ ap Err taken) stand.honest));
       passes = λ values stand.
           value_passes kind old new values value c.args.object.now is stand.holds stand.own_ids
-          (λ taken. ap g.F.Files.history (c.put_made.ensures.untouched stand.honest taken)) (c.put_made.ensures.moments stand.honest);
+          (λ taken. ap g.F.Files.history (c.put_made.ensures.refuses.untouched stand.honest taken)) (c.put_made.ensures.writes.moments stand.honest);
       known = λ values known. rw (stopped.1) tt;
     }
 
@@ -62,14 +60,14 @@ returns-clause-puts g c = λ value is.
     let put = c.in_ok-put_made.ensures in
     record {
       stores = λ values stand. (
-        value_free kind old.tree new.tree values value c.args.object.now is stand.holds stand.own_ids (put.free stand.honest),
-        value_stored kind old.tree new.tree values value c.args.object.now is stand.holds stand.own_ids (put.free stand.honest) (put.stored stand.honest)
-            (folders_now c.args.object.now old new (c.put_made.ensures.moments stand.honest))
-            (unchanged (λ files. (g.F.Files.history files).tree) _ _ (put.unfinished stand.honest)),
+        value_free kind old.tree new.tree values value c.args.object.now is stand.holds stand.own_ids (put.refuses.free stand.honest),
+        value_stored kind old.tree new.tree values value c.args.object.now is stand.holds stand.own_ids (put.refuses.free stand.honest) (put.writes.stored stand.honest)
+            (folders_now c.args.object.now old new (c.put_made.ensures.writes.moments stand.honest))
+            (unchanged (λ files. (g.F.Files.history files).tree) _ _ (put.writes.finished stand.honest)),
       );
       passes = λ values stand.
           value_passes kind old new values value c.args.object.now is stand.holds stand.own_ids
-          (λ taken. ap g.F.Files.history (c.put_made.ensures.untouched stand.honest taken)) (c.put_made.ensures.moments stand.honest);
+          (λ taken. ap g.F.Files.history (c.put_made.ensures.refuses.untouched stand.honest taken)) (c.put_made.ensures.writes.moments stand.honest);
       known = λ values known.
           value_known kind (kept c.args.repository.now.objects.ids) (kept c.put_made.new.self.ids) values value _ (sym is.id) c.in_ok-put_made.ensures.known known;
     }

@@ -1,6 +1,6 @@
 use Rattle.std.proofs.Common.{refl, subst}
 use Rattle.history.specs.Storing.{AreMovesOf}
-use Rattle.history.proofs.Counts.{same_honesty}
+use Rattle.history_store.proofs.Honesty.{same_honesty}
 use Rattle.history.proofs.NamesMade.{change_moves, moves_something, pack_moves, switch_moves}
 use Rattle.history.proofs.moves.move_names.Goals as goal
 

@@ -1,10 +1,9 @@
-use Rattle.std.proofs.Common.{IfOk, subst, sym}
+use Rattle.std.proofs.Common.{inl, refl, subst, sym}
 use Rattle.gix_hash.specs.declared.kind.Kind.{Kind}
-use Rattle.history_model.specs.Repository.{Repository}
 use Rattle.history_store.specs.ObjectsFace.{ids_of_objects, kind_of_objects}
 use Rattle.history_check_objects.specs.Stored.{facts_in}
 use Rattle.history_store.specs.Opened.{IsOpenedWith}
-use Rattle.history_repository.specs.Opened.{IsOpenedAs, trees_of}
+use Rattle.history_repository.specs.Opened.{OpensWhole, RefusesParts, trees_of}
 use Rattle.history_repository.proofs.Joined.{fault_of_objects}
 use Rattle.history_repository.proofs.folder.open_folder.Goals as goal
 
@@ -17,13 +16,25 @@ open_names-requires g c = λ honest.
     (subst (λ (kind : Kind). IsOpenedWith kind (g.F.Files.history c.args.objects).tree ids facts) (sym c.in-Ok.ensures.files.1)
     (c.in-Ok.ensures.whole (subst g.F.Files.is_honest files honest)))
 
-pub returns-in-Ok-clause-stands : goal.returns-in-Ok-clause-stands
-returns-in-Ok-clause-stands g c = λ objects names.
+pub returns-in-Ok-clause-opens : goal.returns-in-Ok-clause-opens
+returns-in-Ok-clause-opens g c =
     let files = c.in-Ok.ensures.files.0 in
-    subst (λ (kind : Kind). IfOk c.open_names.result (λ opened. (r : Repository) × IsOpenedAs kind (trees_of g.F.Files.history c.args.objects c.args.names) opened r)) c.in-Ok.ensures.files.1
-    (subst (λ own. IfOk c.open_names.result (λ opened. (r : Repository) × IsOpenedAs (kind_of_objects c.in-Ok.opened.objects) (trees_of g.F.Files.history own c.args.names) opened r)) files
-    (c.open_names.ensures.stands (subst g.F.Files.is_honest (sym files) objects) names))
+    subst (λ (kind : Kind). OpensWhole g.F.Files kind c.args.objects c.args.names c.open_names.result) c.in-Ok.ensures.files.1
+    (subst (λ own. OpensWhole g.F.Files (kind_of_objects c.in-Ok.opened.objects) own c.args.names c.open_names.result) files c.open_names.ensures.opens)
 
-pub returns-in-Err-clause-accepted : goal.returns-in-Err-clause-accepted
-returns-in-Err-clause-accepted g c = λ r objects names stands.
-    fault_of_objects c.args.kind (trees_of g.F.Files.history c.args.objects c.args.names) r stands g.F.Files.reading_may_fail c.in-Err.refusal.error (c.in-Err.ensures.flaw objects)
+pub returns-in-Ok-clause-refuses : goal.returns-in-Ok-clause-refuses
+returns-in-Ok-clause-refuses g c =
+    let files = c.in-Ok.ensures.files.0 in
+    subst (λ (kind : Kind). RefusesParts g.F.Files kind c.args.objects c.args.names c.open_names.result) c.in-Ok.ensures.files.1
+    (subst (λ own. RefusesParts g.F.Files (kind_of_objects c.in-Ok.opened.objects) own c.args.names c.open_names.result) files c.open_names.ensures.refuses)
+
+pub returns-in-Err-clause-opens : goal.returns-in-Err-clause-opens
+returns-in-Err-clause-opens g c = record { stands = λ objects names. tt; same = λ r objects names stands. tt }
+
+pub returns-in-Err-clause-refuses : goal.returns-in-Err-clause-refuses
+returns-in-Err-clause-refuses g c = record {
+  refused = λ objects names. inl (c.in-Err.ensures.flaw objects);
+  accepted = λ r objects names stands.
+      fault_of_objects c.args.kind (trees_of g.F.Files.history c.args.objects c.args.names) r stands g.F.Files.reading_may_fail c.in-Err.refusal.error (c.in-Err.ensures.flaw objects);
+  handed_back = (c.in-Err.ensures.handed_back, refl);
+}
