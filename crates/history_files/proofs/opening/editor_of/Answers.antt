@@ -15,7 +15,7 @@ use Rattle.history_files.proofs.EmptyFiles.{empty_map, empty_trees, empty_unfold
 use Rattle.history_files.proofs.Named.{own_trees}
 use Rattle.history_files.proofs.Standing.{base_standing}
 use Rattle.history_files.proofs.Breaks.{root_broken}
-use Rattle.history_files.proofs.editing.editor_of.Goals as goal
+use Rattle.history_files.proofs.opening.editor_of.Goals as goal
 use Rattle.gix_object_nodes.proofs.WrittenFiles.{no_files}
 
 pub returns-in_ok-open_editor-in-Some-clause-base : goal.returns-in_ok-open_editor-in-Some-clause-base
