@@ -1,7 +1,7 @@
 use Rattle.std.proofs.Common.{inl, inr, refl, sym, ◌∙◌}
 use Rattle.history_store.proofs.Honesty.{unprepared_part}
 use Rattle.history_store.proofs.Transactions.{commit_failed, commit_wants}
-use Rattle.history_store.proofs.names.Names.finish.Goals as goal
+use Rattle.history_store.proofs.names.Names.commit_made.Goals as goal
 
 pub returns-in-Ok-clause-keeps : goal.returns-in-Ok-clause-keeps
 returns-in-Ok-clause-keeps g c = record {
