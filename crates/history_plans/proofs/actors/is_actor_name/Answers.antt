@@ -3,7 +3,7 @@ use Rattle.history_model.specs.Bytes.{is_empty}
 use Rattle.history_model.specs.Forms.{max_actor_part}
 use Rattle.history_word.specs.Fields.{Keeps}
 use Rattle.history_repository.proofs.FieldLemmas.{no_part, never_both}
-use Rattle.history_plans.proofs.actors.is_name.Goals as goal
+use Rattle.history_plans.proofs.actors.is_actor_name.Goals as goal
 
 pub returns-in-TooLong : goal.returns-in-TooLong
 returns-in-TooLong c = λ name keeps.

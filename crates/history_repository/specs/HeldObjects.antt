@@ -7,7 +7,7 @@ use Rattle.gix_hash.specs.declared.object_id.ObjectId.{ObjectId}
 use Rattle.gix_object_lookup.specs.Table.{Table}
 use Rattle.history_files.specs.Laws.{table_of}
 use Rattle.history_store.specs.declared.objects.Object.{Object}
-use Rattle.history_plans.specs.declared.held_objects.HeldObjects.{HeldObjects}
+use Rattle.history_repository.specs.declared.held_objects.HeldObjects.{HeldObjects}
 use Rattle.history_repository.specs.Reads.{GivesMeant}
 use Rattle.history_repository.specs.declared.stopped.Stopped.{Stopped}
 use Rattle.gix_object_lookup.specs.Table as tables

@@ -4,9 +4,9 @@ use Rattle.gix_hash.specs.Views.{viewed_id}
 use Rattle.gix_object_lookup.specs.Table.{content_or_none}
 use Rattle.gix_object_lookup.specs.Table as tables
 use Rattle.std.proofs.Common.{option_map}
-use Rattle.history_plans.specs.HeldObjects.{ids_of, object_in}
-use Rattle.history_plans.proofs.HeldKept.{is_among, held_there, listed_after}
-use Rattle.history_plans.proofs.held_objects.HeldStoreFindInto.find_into.Goals as goal
+use Rattle.history_repository.specs.HeldObjects.{ids_of, object_in}
+use Rattle.history_repository.proofs.HeldKept.{is_among, held_there, listed_after}
+use Rattle.history_repository.proofs.held_objects.HeldStoreFindInto.find_into.Goals as goal
 
 pub returns-in_default-clause-kind : goal.returns-in_default-clause-kind
 returns-in_default-clause-kind g c = λ honest. c.find_into.ensures.kind honest.0

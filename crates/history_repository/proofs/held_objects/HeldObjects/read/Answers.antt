@@ -6,9 +6,9 @@ use Rattle.history_model.specs.Objects.{object_kind}
 use Rattle.history_repository.proofs.HeldLemmas.{peeled_stored}
 use Rattle.history_repository.proofs.ReadingFaults.{fault_told}
 use Rattle.history_repository.proofs.StoredValues.{error_told, object_found, object_told, text_stands}
-use Rattle.history_plans.specs.HeldObjects.{AreOf}
-use Rattle.history_plans.proofs.HeldKept.{held_too, stored_there}
-use Rattle.history_plans.proofs.held_objects.HeldObjects.read.Goals as goal
+use Rattle.history_repository.specs.HeldObjects.{AreOf}
+use Rattle.history_repository.proofs.HeldKept.{held_too, stored_there}
+use Rattle.history_repository.proofs.held_objects.HeldObjects.read.Goals as goal
 
 pub returns-in-Some : goal.returns-in-Some
 returns-in-Some g c = λ r commit stands peels held.

@@ -20,7 +20,7 @@ use Rattle.history_model.specs.Repository.{Repository, peeled, peeled_value}
 use Rattle.history_store.specs.declared.objects.Object.{Object}
 use Rattle.history_repository.specs.Reads.{GivesMeant}
 use Rattle.history_repository.specs.declared.stopped.Stopped.{Stopped}
-use Rattle.history_plans.specs.HeldObjects.{AreAt, Entries, IsAt, ids_of, object_in, table_object}
+use Rattle.history_repository.specs.HeldObjects.{AreAt, Entries, IsAt, ids_of, object_in, table_object}
 use Rattle.gix_object_lines.specs.declared.kind.Kind as kind
 use Rattle.gix_object_lines.specs.declared.kind.Kind.TheVariants as kinds
 use Rattle.gix_object_lookup.specs.Table as tables

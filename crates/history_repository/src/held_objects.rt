@@ -1,22 +1,23 @@
-//! The objects that names hold, and a store in which they aren't looked up again.
+//! Objects that names hold, read once for a `pack`: the commit that each peels to, and a store over them.
 
 ghost use Rattle.std.specs.Prelude.{◌≡◌, ◌++◌, OnOk, Some};
 ghost use Rattle.gix_hash.specs.Id.{Id, id_of};
 ghost use Rattle.gix_object_lookup.specs.Table.{Table};
 ghost use Rattle.history_files.specs.Laws.{table_of};
 ghost use Rattle.history_model.specs.Repository.{peeled};
-ghost use Rattle.history_plans.specs.HeldObjects.{AreOf, HoldsMore, IsAt, commit_or, ids_of};
+ghost use Rattle.history_repository.specs.HeldObjects.{AreOf, HoldsMore, IsAt, commit_or, ids_of};
 ghost use Rattle.history_repository.specs.Reads.{GivesMeant};
 ghost use Rattle.history_repository.specs.Stands.{Stands};
 ghost use Rattle.history_model.specs.Repository as plain;
 
+use crate::repository::Repository;
+use crate::stopped::Stopped;
 use gix_hash::{ObjectId, oid};
 use gix_object_lines::Kind;
 use gix_object_lookup::find::Error;
 use gix_object_lookup::{FindInto, Lookup};
 use gix_ref_file::Files;
 use history_model::Fault;
-use history_repository::{Repository, Stopped};
 use history_store::{Object, tag_target};
 use std::alloc::{AllocError, Global};
 use std::collections::BTreeMap;
@@ -29,7 +30,7 @@ pub struct HeldObjects {
 
 impl HeldObjects {
     /// Returns no objects.
-    pub(crate) fn new(alloc: Global) -> HeldObjects
+    pub fn new(alloc: Global) -> HeldObjects
         ensures { (table : Table) → AreOf table result }
     {
         HeldObjects {
@@ -71,7 +72,7 @@ impl HeldObjects {
     /// Returns the commit that a stored object peels to: a commit itself, a tag's commit. Of both
     /// each is read, unless it is held, and held from then on. It is a fault if a call of the files
     /// failed, or if no memory is left.
-    pub(crate) fn commit_of<F: Files>(
+    pub fn commit_of<F: Files>(
         &mut self,
         repository: &Repository<F>,
         alloc: Global,

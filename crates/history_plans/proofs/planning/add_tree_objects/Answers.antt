@@ -3,7 +3,7 @@ use Rattle.std.proofs.lemmas.Iterator.Adapters.{YieldsList-from_vec}
 use Rattle.std.proofs.lemmas.Iterator.Consumers.{YieldsList-end}
 use Rattle.std.proofs.lemmas.List.{map-append}
 use Rattle.history_plans.specs.Plans.{object_parts, tree_parts}
-use Rattle.history_plans.proofs.planning.add_all.Goals as goal
+use Rattle.history_plans.proofs.planning.add_tree_objects.Goals as goal
 
 pub loop-tree-preserved : goal.loop-tree-preserved
 loop-tree-preserved c =

@@ -12,7 +12,7 @@ use Rattle.history_plans.specs.Files.{TellsRead}
 use Rattle.history_plans.proofs.GraftFound.{fault_told}
 use Rattle.history_plans.proofs.GraftPaths.{by_listed}
 use Rattle.history_plans.proofs.SourcesStand.{source_stands}
-use Rattle.history_plans.proofs.grafts.test_folder.Goals as goal
+use Rattle.history_plans.proofs.grafts.test_grafted_folder.Goals as goal
 
 pub returns-in_err-files-clause-tested : goal.returns-in_err-files-clause-tested
 returns-in_err-files-clause-tested g c = λ r source other h good is stands trees.

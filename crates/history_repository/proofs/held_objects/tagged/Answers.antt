@@ -3,8 +3,8 @@ use Rattle.std.proofs.lemmas.Option.{same_Some}
 use Rattle.history_model.specs.Forms.{is_tag_form}
 use Rattle.history_model.specs.Objects.{StoredTag, content_of}
 use Rattle.history_repository.proofs.HeldLemmas.{peeled_tag}
-use Rattle.history_plans.proofs.HeldKept.{there_stored, untagged}
-use Rattle.history_plans.proofs.held_objects.tagged.Goals as goal
+use Rattle.history_repository.proofs.HeldKept.{there_stored, untagged}
+use Rattle.history_repository.proofs.held_objects.tagged.Goals as goal
 
 pub returns-in_ok-ok_or-in-Tag : goal.returns-in_ok-ok_or-in-Tag
 returns-in_ok-ok_or-in-Tag g c = λ r id commit stands there peels.

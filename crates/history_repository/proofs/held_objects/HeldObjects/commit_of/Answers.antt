@@ -6,8 +6,8 @@ use Rattle.history_model.specs.Repository.{peeled}
 use Rattle.history_repository.proofs.Befores.{peels_to_commit}
 use Rattle.history_repository.proofs.HeldLemmas.{peeled_commit}
 use Rattle.history_repository.proofs.ReadingFaults.{fault_told}
-use Rattle.history_plans.specs.HeldObjects.{commit_or}
-use Rattle.history_plans.proofs.held_objects.HeldObjects.commit_of.Goals as goal
+use Rattle.history_repository.specs.HeldObjects.{commit_or}
+use Rattle.history_repository.proofs.held_objects.HeldObjects.commit_of.Goals as goal
 
 pub returns-in_err-commit : goal.returns-in_err-commit
 returns-in_err-commit g c = λ r commit stands peels held. fault_told g.F.Files.reading_may_fail _ c.from_residual.result _ c.from_residual.ensures.1 (c.in_err-commit.ensures r commit stands peels held)
