@@ -1,10 +1,9 @@
 -- One step further down.
-use Rattle.std.proofs.Common.{ℕ, zero, suc, arith, ◌≡◌, ◌<◌, ◌+◌, List, [], ◌∷◌, refl, Option, Some, sym, ap, subst, ◌∙◌, length, get_or, map, drop, add-one, drop-cons}
+use Rattle.std.proofs.Common.{ℕ, zero, suc, arith, ◌≡◌, ◌<◌, ◌+◌, List, [], ◌∷◌, refl, Option, Some, sym, ap, ◌∙◌, length, get_or, map, drop, add-one, drop-cons}
 use Rattle.std.specs.Borrow.{Bor}
 use Rattle.gix_object_nodes.specs.declared.node.Node.{Node}
-use Rattle.gix_object_nodes.specs.declared.node.NodeId.{NodeId}
 use Rattle.gix_object_nodes.specs.Files.{Bytes, Path, through}
-use Rattle.gix_object_nodes.specs.Nodes.{Slots, slots_of, slot_in, entry_in, child_of, onto, LeadsTo, IsFolderAt, entry_at}
+use Rattle.gix_object_nodes.specs.Nodes.{Slots, slots_of, slot_in, entry_in, child_of, onto, LeadsTo, entry_at}
 use Rattle.gix_object_nodes.proofs.Slots.{node_at}
 use Rattle.gix_object_editor.proofs.SlotChange.{way_kept}
 
@@ -27,9 +26,6 @@ pub leads_on : (old new : Slots) (whole : Path) (path : List (Bor (List ℕ))) (
     → LeadsTo old whole j (names (drop i path)) → LeadsTo new whole c (names (drop (i + 1) path))
 leads_on old new whole path j i d c lt links found way =
     ((get_or path i d).now ∷ way.0, (j, way_kept old new links way.0 j way.1, found), ap (onto way.0) (sym (names_step path i d lt)) ∙ way.2)
-
-pub folder_found : (slots : Slots) (j : ℕ) (name : Bytes) (o : Option NodeId) (c : NodeId) → o ≡ Some c → IsFolderAt slots j name o → child_of (slots j name) ≡ Some c.0
-folder_found slots j name o c is found = subst (IsFolderAt slots j name) is found
 
 pub last_name : (path : List (Bor (List ℕ))) (i : ℕ) (d : Bor (List ℕ)) → i + 1 ≡ length path → names (drop i path) ≡ (get_or path i d).now ∷ []
 last_name [] i d e = absurd (omega arith)

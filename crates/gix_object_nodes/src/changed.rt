@@ -1,4 +1,4 @@
-//! Which opened trees edits changed.
+//! Whether edits changed an opened tree, or the one that an entry names: the mark of each, read.
 
 ghost use Rattle.std.specs.Prelude.{◌≡◌, ◌<◌, ℕ, length, Some};
 ghost use Rattle.gix_object_nodes.specs.Nodes.{child_of};

@@ -1,4 +1,4 @@
-//! Opened trees as numbered nodes.
+//! The types `Node`, an opened tree, and `Slot`, its entry: entries by name, got, put in, taken out; the parent set.
 
 ghost use Rattle.std.specs.Prelude.{◌≡◌, ◌≢◌, ◌<◌, length, IfOk, OnOk, OnErr, Some, None, false};
 ghost use Rattle.gix_object_nodes.specs.Files.{Bytes};

@@ -1,5 +1,5 @@
 -- Edits that are split, step by step.
-use Rattle.std.proofs.Common.{◌≡◌, ◌≢◌, ◌∙◌, refl, sym, ap, ℕ, zero, suc, ◌+◌, ◌-◌, ◌<◌, Bool, true, false, List, [], ◌∷◌, ◌++◌, map, length, get_or, set, take, drop, arith, add-one, drop-cons}
+use Rattle.std.proofs.Common.{◌≡◌, ◌≢◌, ◌∙◌, refl, sym, ap, ℕ, zero, suc, ◌+◌, ◌-◌, ◌<◌, Bool, false, List, [], ◌∷◌, ◌++◌, map, length, get_or, set, take, arith}
 use Rattle.std.specs.Prelude.{min}
 use Rattle.gix_ref_edit.specs.Splits.{Targets, Splits, SplitFault, hops, further, with_hops, behind, leads_on, settled, settled_as, settled_by, marked}
 use Rattle.gix_ref_edit.specs.declared.splits.SplitError.{SplitError}
@@ -7,13 +7,6 @@ use Rattle.gix_ref_edit.specs.declared.splits.SplitError.TheVariants.{Find, Cycl
 use Rattle.gix_ref_edit.specs.declared.change.RefEdit.{RefEdit}
 
 -- ---- rounds
-
-pub further_more : (read : Targets) (rounds : ℕ) (edits : List RefEdit) → rounds ≢ 0
-    → further read rounds edits ≡ hops read edits ++ further read (rounds - 1) (hops read edits)
-further_more read zero edits some = absurd (some refl)
-further_more read (suc rounds) edits some =
-    let less : rounds ≡ suc rounds - 1 = omega arith in
-    ap (λ n. hops read edits ++ further read n (hops read edits)) less
 
 pub behind_more : (read : Targets) (rounds : ℕ) (edits : List RefEdit) → rounds ≢ 0
     → behind read rounds edits ≡ behind read (rounds - 1) (hops read edits)
@@ -23,18 +16,6 @@ behind_more read (suc rounds) edits some =
     ap (λ n. behind read n (hops read edits)) less
 
 -- ---- marks
-
-pub marked_yes : (marks : List Bool) (i : ℕ) → i < length marks → get_or marks i false ≡ true
-    → marked i (drop i marks) ≡ i ∷ marked (i + 1) (drop (i + 1) marks)
-marked_yes marks i inside is =
-    let front : drop i marks ≡ true ∷ drop (i + 1) marks = drop-cons marks i false inside ∙ ap (λ b. b ∷ drop (suc i) marks) is ∙ ap (λ n. true ∷ drop n marks) (sym (add-one i)) in
-    ap (marked i) front
-
-pub marked_no : (marks : List Bool) (i : ℕ) → i < length marks → get_or marks i false ≡ false
-    → marked i (drop i marks) ≡ marked (i + 1) (drop (i + 1) marks)
-marked_no marks i inside is =
-    let front : drop i marks ≡ false ∷ drop (i + 1) marks = drop-cons marks i false inside ∙ ap (λ b. b ∷ drop (suc i) marks) is ∙ ap (λ n. false ∷ drop n marks) (sym (add-one i)) in
-    ap (marked i) front
 
 pub settled_more : (marks : List Bool) (edits : List RefEdit) (i : ℕ) (d : RefEdit) → i < length marks → i < length edits
     → settled_by (take (suc i) marks) edits ≡ set (settled_by (take i marks) edits) i (settled_as (get_or marks i false) (get_or (settled_by (take i marks) edits) i d))

@@ -1,4 +1,4 @@
-//! Edits, and what is expected of a reference before it is changed.
+//! `RefEdit` and `Change`: the value after a change, and the one expected before it (`PreviousValue`).
 
 ghost use Rattle.std.specs.Prelude.{◌≡◌, option_map};
 ghost use Rattle.gix_ref_name.specs.Targets.{target_ref_view};

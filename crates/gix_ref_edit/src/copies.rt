@@ -1,4 +1,4 @@
-//! Copies of edits and of their parts.
+//! Copies of edits and of their parts (`try_clone`).
 
 ghost use Rattle.std.specs.Prelude.{◌≡◌, IfOk};
 

@@ -1,4 +1,4 @@
-//! Lists of edits, made ready for a transaction.
+//! Lists of edits, made ready for a transaction: `RefEditsExt`, which calls the split and the test for names.
 
 ghost use Rattle.std.specs.Prelude.{◌≡◌, List, IfOk, OnOk, OnErr, IfErr};
 ghost use Rattle.gix_ref_edit.specs.Names as names;
@@ -9,7 +9,7 @@ ghost use Rattle.gix_ref_edit.specs.declared.ext.PreProcessError.TheVariants as 
 
 use crate::change::RefEdit;
 use crate::names::{TwiceError, assure_once};
-use crate::splits::{FindTarget, MAX_ROUNDS, SplitError, further, marked, settle_all};
+use crate::splits::{FindTarget, MAX_ROUNDS, SplitError, further, marked_places, settle_all};
 use std::alloc::Global;
 use thiserror::Error;
 
@@ -100,7 +100,7 @@ impl RefEditsExt for Vec<RefEdit> {
     ) -> Result<Vec<usize>, SplitError> {
         let mut marks = Vec::new(alloc);
         let mut added = further(alloc, finder, self.as_slice(), MAX_ROUNDS, &mut marks)?;
-        let places = marked(alloc, marks.as_slice())?;
+        let places = marked_places(alloc, marks.as_slice())?;
         self.append(&mut added)?;
         settle_all(self, marks.as_slice());
         Ok(places)

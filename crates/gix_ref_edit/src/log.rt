@@ -1,4 +1,4 @@
-//! What an edit does with the log of a reference.
+//! What an edit does with the log of a reference: `RefLog`, and `LogChange` with its usual value.
 
 ghost use Rattle.std.specs.Prelude.{[]};
 ghost use Rattle.gix_ref_edit.specs.Edits.{IsUsualLog};

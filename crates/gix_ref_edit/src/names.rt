@@ -1,4 +1,4 @@
-//! Names that several edits of a list have.
+//! Whether each name of a list has one edit: the names are sorted, and the least that is there twice is found.
 
 ghost use Rattle.std.specs.Prelude.{◌≡◌, map, IfOk, OnOk, IfErr};
 ghost use Rattle.std.specs.Option.{option_copied};

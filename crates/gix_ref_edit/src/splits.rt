@@ -1,4 +1,4 @@
-//! Edits of symbolic references, split into one of the log and one of the next reference.
+//! Edits of symbolic references, split into one of the log alone and one of the next reference (`FindTarget`).
 
 ghost use Rattle.std.specs.Prelude.{◌≡◌, ⊤, ℕ, ◌++◌, ◌∷◌, [], List, Option, map, is_some, option_map, if◌then◌else◌, IfOk, OnOk, IfErr, IsErrOf};
 ghost use Rattle.std.specs.Option.{option_to_list};
@@ -242,7 +242,7 @@ pub(crate) fn settle_all(edits: &mut Vec<RefEdit>, marks: &[bool])
 }
 
 // The places that are marked.
-pub(crate) fn marked(alloc: Global, marks: &[bool]) -> Result<Vec<usize>, AllocError>
+pub(crate) fn marked_places(alloc: Global, marks: &[bool]) -> Result<Vec<usize>, AllocError>
     ensures { IfOk result (λ places. places.items ≡ spec.marked 0 marks.now) }
 {
     let mut places = Vec::new(alloc);

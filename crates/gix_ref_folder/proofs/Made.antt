@@ -39,10 +39,6 @@ pub passed_ok : {T : Type 0} (P : Type 0) (told : Result T Error) (result : Resu
 passed_ok P told (Ok value) is says = subst (λ t. OnOk t P) is says
 passed_ok P told (Err e) is says = tt
 
--- a call that isn't made
-pub does_nothing : {T : Type 0} (change : Change) (history : History) (e : Error) → Does {T = T} change history history (Err e)
-does_nothing change history e = record { allowed = tt; made = tt; moments = record { during = []; added = sym (append-nil (trees history)); all = tt } }
-
 -- after an error only what was done on the way is known
 pub does_err : {T U : Type 0} (change : Change) (old new : History) (told : Result U Error) (e : Error) → Does change old new told → Does {T = T} change old new (Err e)
 does_err change old new told e does = record { allowed = tt; made = tt; moments = does.moments }

@@ -1,4 +1,4 @@
-//! The system's own calls.
+//! The real system's calls (`Disk`): files and folders read, made, written, removed, never through a link.
 ghost use Rattle.std.specs.Prelude.{◌≡◌, ◌≤◌, length, IfOk, IfSome};
 
 use crate::part::Part;

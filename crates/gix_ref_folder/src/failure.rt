@@ -1,4 +1,4 @@
-//! The last call that failed.
+//! A call that failed (`Failure`): its path, the system's error, and its text.
 ghost use Rattle.std.specs.Prelude.{◌≡◌, ◌++◌, ◌∷◌, ℕ, List, IfOk};
 ghost use Rattle.gix_ref_folder.specs.Errors.{failed_path, failed_error};
 

@@ -1,4 +1,4 @@
-//! How many changes failed, and why the last call did.
+//! The count of failed changes, and the last call that failed, a change or a reading.
 ghost use Rattle.std.specs.Prelude.{◌≡◌, ◌≤◌, ◌+◌, ◌-◌, ◌^◌, min, IfOk, IfNone, OnOk, Ok, IsErrOf};
 ghost use Rattle.gix_ref_file.specs.Changes.{Change};
 ghost use Rattle.gix_ref_file.specs.History.{HasRisen, History, Makes};

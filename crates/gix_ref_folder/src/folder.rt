@@ -1,4 +1,4 @@
-//! Files of a real folder.
+//! Files of a real folder (`Folder`): the calls of `Files` by the system's; names that are too long, sorted lists.
 ghost use Rattle.std.specs.Prelude.{◌≡◌, ◌↔◌, length, map, option_map, IfOk, IfSome, IfNone, OnOk, ◌≤◌, [], is_none, string_bytes, IsOk, IsTrue};
 ghost use Rattle.gix_ref_file.specs.Tree.{node_at, place_of, bytes_of, bytes_at, names_at, part, overwritten};
 ghost use Rattle.gix_ref_file.specs.Changes.{Change, to_create, to_write, to_append, to_rename, to_remove_file, to_make_folder, to_remove_folder};

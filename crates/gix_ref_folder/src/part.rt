@@ -1,4 +1,4 @@
-//! Which part of a repository's folder is shown.
+//! Which part of a repository's folder is shown (`Part`), and which paths are in it.
 ghost use Rattle.std.specs.Prelude.{◌≡◌};
 ghost use Rattle.gix_ref_folder.specs.Parts.{has};
 

@@ -1,4 +1,4 @@
-//! The system's calls that a folder makes.
+//! The trait of a system's calls (`System`): what each does at a path of the system's own.
 ghost use Rattle.std.specs.Prelude.{◌≡◌, ◌≤◌, ℕ, List, None, length, option_map, IfOk, IfErr, IfSome, OnOk, IsTrue, IsFalse, IsSome};
 ghost use Rattle.std.specs.IoError.{error_kind};
 ghost use Rattle.std.specs.declared.io.ErrorKind.TheVariants.{AlreadyExists};

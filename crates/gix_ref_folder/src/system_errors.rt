@@ -1,4 +1,4 @@
-//! What an error of the system means.
+//! What an error of the system means: no memory, nothing at a path, or a file there already.
 ghost use Rattle.std.specs.Prelude.{◌≡◌};
 ghost use Rattle.std.specs.IoError.{error_kind};
 ghost use Rattle.gix_ref_folder.specs.Errors.{fault_of, means_absent, IsNew};

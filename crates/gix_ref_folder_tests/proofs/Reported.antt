@@ -26,13 +26,6 @@ not_absent Failed is = cc
 pub never_absent : {A T : Type 0} (done : Result T FileError) (error : Error) → IsReport done (Err error) → IsTrue (means_absent (error_kind error)) → A
 never_absent done error report is = absurd (not_absent report.0 (subst (λ (k : ErrorKind). IsTrue (means_absent k)) report.2 is))
 
-not_taken : (why : FileError) → kind_for why ≡ AlreadyExists → ⊥
-not_taken Memory is = cc
-not_taken Failed is = cc
-
-pub never_taken : {A T : Type 0} (done : Result T FileError) (error : Error) → IsReport done (Err error) → error_kind error ≡ AlreadyExists → A
-never_taken done error report is = absurd (not_taken report.0 (sym report.2 ∙ is))
-
 -- ---- changes
 pub does_of : {T : Type 0} (change : Change) (old new : History) (done : Result T FileError) (told : Result T Error) → IsReport done told → Makes change old new done → Does change old new told
 does_of change old new done (Ok value) is makes = record {

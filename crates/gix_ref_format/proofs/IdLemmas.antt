@@ -1,13 +1,11 @@
 -- Texts that spell ids.
 use Rattle.std.proofs.Common.{◌≡◌, ℕ, Bool, true, false, cond, List, [], ◌∷◌, map, length, refl, sym, ◌∙◌, ap, subst, arith, tests, Option, Some, None, option_map, is_some, unwrap_or, ◌==◌}
-use Rattle.std.specs.Prelude.{Any}
 use Rattle.std.specs.List.{list_all}
 use Rattle.hex.specs.Hex.{hex_digit_value}
 use Rattle.gix_hash.specs.declared.kind.Kind.{Kind}
 use Rattle.gix_hash.specs.Kind.{hex_len}
 use Rattle.gix_hash.specs.Id.{Id}
 use Rattle.gix_hash.specs.Spelling.{IsHexOf}
-use Rattle.gix_hash.proofs.ReadBack.{all_values}
 use Rattle.gix_hash.specs.OrderLaws.{same_id}
 use Rattle.gix_ref_format.specs.Ids.{id_from_hex}
 use Rattle.std.proofs.lemmas.Bool.{and_parts, eqb-true}
@@ -76,19 +74,3 @@ module _ (kind : Kind) (text : List ℕ) where
         subst (λ (i : Id). IsHexOf text i.digits) same (all_spelled text parts.1),
         sym (ap (λ (i : Id). i.kind) same),
       )
-
-  -- a text of another length is not read
-  pub id_from_hex-other : (length text ≡ hex_len kind → ⊥) → id_from_hex kind text ≡ None
-  id_from_hex-other other = go (length text == hex_len kind) refl
-    where
-      go : (t : Bool) → (length text == hex_len kind) ≡ t → read_if t (all_read text) ≡ None
-      go true e = absurd (other (eqb-true (length text) (hex_len kind) e))
-      go false e = refl
-
-  -- nor is one with a character that is no digit
-  pub id_from_hex-invalid : Any (λ c. hex_digit_value c ≡ None) text → id_from_hex kind text ≡ None
-  id_from_hex-invalid bad = go (id_from_hex kind text) refl
-    where
-      go : (o : Option Id) → id_from_hex kind text ≡ o → id_from_hex kind text ≡ None
-      go None e = e
-      go (Some id) e = absurd (all_values hex_digit_value text id.digits (id_from_hex-tells id e).1 bad)

@@ -1,5 +1,5 @@
 -- Runs of records that stay, with what edits say between them.
-use Rattle.std.proofs.Common.{◌≡◌, ◌∙◌, ap, refl, sym, subst, ℕ, Bool, true, false, cond, ◌&&◌, List, [], ◌∷◌, ◌++◌, Option, Some, None, append-nil, append_assoc}
+use Rattle.std.proofs.Common.{◌≡◌, ◌∙◌, ap, refl, sym, subst, ℕ, Bool, true, false, cond, ◌&&◌, List, [], ◌∷◌, ◌++◌, Option, Some, None, append_assoc}
 use Rattle.std.specs.Prelude.{bytes_eq, IfSome}
 use Rattle.std.specs.Option.{option_to_list}
 use Rattle.std.specs.Ordering.{is_lt, is_eq, ordering_reverse}
@@ -28,10 +28,6 @@ before_both n (x ∷ xs) ys one other = (one.0, before_both n xs ys one.1 other)
 before_front : (n : List ℕ) (xs ys : List Record) → ComesBefore n (xs ++ ys) → ComesBefore n xs
 before_front n [] ys before = tt
 before_front n (x ∷ xs) ys before = (before.0, before_front n xs ys before.1)
-
-pub before_back : (n : List ℕ) (xs ys : List Record) → ComesBefore n (xs ++ ys) → ComesBefore n ys
-before_back n [] ys before = before
-before_back n (x ∷ xs) ys before = before_back n xs ys before.1
 
 pub ascend_front : (xs ys : List Record) → Ascend (xs ++ ys) → Ascend xs
 ascend_front [] ys up = tt
@@ -246,17 +242,6 @@ pub record OnTheWay (records : List Record) (lines : List Line) (old text : List
   pub stand : AllStand rest
   pub rises : Rises left
   pub falls : Falls last left
-
-pub way_begins : (records : List Record) (lines : List Line) (text : List ℕ) → AllStand records → Rises lines → OnTheWay records lines text text None records lines
-way_begins records lines text stand rises = record {
-  done = [];
-  text_is = sym (append-nil text);
-  goes = λ after is. is;
-  behind = tt;
-  stand = stand;
-  rises = rises;
-  falls = tt;
-}
 
 last_is : (last : Option (List ℕ)) (name : List ℕ) → is_same last name ≡ true → last ≡ Some name
 last_is None name same = clash (sym same)

@@ -36,16 +36,6 @@ module _ (kind : Kind) (text : List ℕ) where
   abbrev id : Option Id
   id = id_from_hex kind (take (hex_len kind) text)
 
-  pub record_spaceless : space ≡ false → None ≡ record_text kind text
-  record_spaceless e = sym (ap (λ t. read t (is_full_name name) id) e)
-
-  pub record_nameless : is_full_name name ≡ false → None ≡ record_text kind text
-  record_nameless e = sym (ap (λ t. read space t id) e ∙ go space)
-    where
-      go : (t : Bool) → read t false id ≡ None
-      go true = refl
-      go false = refl
-
   pub record_idless : id ≡ None → None ≡ record_text kind text
   record_idless e = sym (ap (λ t. read space (is_full_name name) t) e ∙ go (space && is_full_name name))
     where

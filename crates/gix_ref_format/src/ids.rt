@@ -1,4 +1,4 @@
-//! Ids as hexadecimal texts spell them.
+//! The id of a given kind that hexadecimal digits spell (`parse_hex`).
 
 ghost use Rattle.std.specs.Prelude.{◌≡◌};
 ghost use Rattle.std.specs.Option.{option_map};

@@ -1,4 +1,4 @@
-//! What holds of the formats by their definitions: what is written is read back.
+//! Laws of loose texts: what is written of an id or of a name is read back.
 
 ghost use Rattle.std.specs.Prelude.{◌≡◌, Some};
 ghost use Rattle.gix_hash.specs.Id.{id_of};

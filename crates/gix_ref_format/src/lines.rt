@@ -1,4 +1,4 @@
-//! Lines and their ends.
+//! The first line of a text and what follows it, and a line without its line feed or CR LF.
 
 ghost use Rattle.std.specs.Prelude.{◌≡◌, ◌≢◌, ◌∷◌, [], ◌++◌, ◌<◌, length};
 ghost use Rattle.std.specs.Option.{option_map};

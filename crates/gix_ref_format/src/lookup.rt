@@ -1,4 +1,4 @@
-//! Names as they are looked up: which no rule completes, and which each worktree has of its own.
+//! Which names no rule completes, which are per worktree; names after a worktree's front; the keys of records.
 
 ghost use Rattle.std.specs.Prelude.{◌≡◌, Some, option_map};
 ghost use Rattle.gix_ref_format.specs.Lookup as spec;
@@ -19,7 +19,7 @@ pub fn is_complete(word: &[u8]) -> bool
 }
 
 /// Returns whether each worktree has its own reference of this name.
-pub fn is_own(name: &[u8]) -> bool
+pub fn is_per_worktree(name: &[u8]) -> bool
     ensures { result ≡ spec.is_own name.now }
 {
     is_capitals(name)
@@ -32,9 +32,9 @@ pub fn is_own(name: &[u8]) -> bool
 pub fn key_of(name: &[u8]) -> Option<&[u8]>
     ensures { option_map (λ key. key.now) result ≡ packed_key name.now }
 {
-    match rest_in_worktree(name) {
+    match after_worktree_prefix(name) {
         Some(rest) => key_in_worktree(name, rest),
-        None if is_own(name) => None,
+        None if is_per_worktree(name) => None,
         None => Some(name),
     }
 }
@@ -43,7 +43,7 @@ pub fn key_of(name: &[u8]) -> Option<&[u8]>
 fn key_in_worktree<'a>(name: &'a [u8], rest: &'a [u8]) -> Option<&'a [u8]>
     ensures { option_map (λ key. key.now) result ≡ key_by name.now (Some rest.now) }
 {
-    if is_own(rest) {
+    if is_per_worktree(rest) {
         None
     } else if rest.starts_with(b"refs/") {
         Some(rest)
@@ -53,7 +53,7 @@ fn key_in_worktree<'a>(name: &'a [u8], rest: &'a [u8]) -> Option<&'a [u8]>
 }
 
 // What follows the front of a worktree.
-fn rest_in_worktree(name: &[u8]) -> Option<&[u8]>
+fn after_worktree_prefix(name: &[u8]) -> Option<&[u8]>
     ensures { option_map (λ rest. rest.now) result ≡ in_worktree name.now }
 {
     if name.starts_with(b"main-worktree/") {

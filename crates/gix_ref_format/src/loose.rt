@@ -1,4 +1,4 @@
-//! References in files of their own: the texts of such files, both ways.
+//! Loose references: the text of one's file read (`ref: ` and a name, or an id and white space), and written.
 
 ghost use Rattle.std.specs.Prelude.{◌≡◌, ◌++◌, [], ℕ, List, Some, IsTrue, IsFalse, OnOk, MatchResult, drop, codes};
 ghost use Rattle.std.specs.Option.{option_map};
@@ -78,7 +78,7 @@ pub fn decode(alloc: Global, text: &[u8], kind: Kind) -> Result<Target, Error>
         let Ok(name) = FullNameRef::new(name_in(text)) else {
             return Err(Error::RefnameValidation);
         };
-        return owned(alloc, name);
+        return target_of_name(alloc, name);
     }
     match id_in(text, kind) {
         Some(id) => Ok(Target::Object(id)),
@@ -87,7 +87,7 @@ pub fn decode(alloc: Global, text: &[u8], kind: Kind) -> Result<Target, Error>
 }
 
 // A target that is a copy of the name.
-fn owned(alloc: Global, name: FullNameRef<'_>) -> Result<Target, Error>
+fn target_of_name(alloc: Global, name: FullNameRef<'_>) -> Result<Target, Error>
     ensures { MatchResult result (λ t. target_view t ≡ ToName (name_of name.entry))
         (λ e. e ≡ Memory) }
 {

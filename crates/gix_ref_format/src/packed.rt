@@ -1,4 +1,4 @@
-//! The file `packed-refs`: its header, its records, and what finds them.
+//! The file `packed-refs`: the types `Header`, `Peeled` and `Reference`, with a record's target and object.
 
 ghost use Rattle.std.specs.Prelude.{◌≡◌, false, unwrap_or};
 ghost use Rattle.gix_ref_format.specs.declared.packed.Peeled.TheVariants.{Unspecified};

@@ -1,4 +1,4 @@
-//! Files of which one call fails, or all from one on: for tests of what is left then.
+//! Files of which one call fails, or all from one on (`Fuse`): which call, and what is left of a change.
 ghost use Rattle.std.specs.Prelude.{◌≡◌, ◌+◌, ◌-◌, ◌^◌, ◌≤◌, ℕ, min, IsErrOf};
 ghost use Rattle.gix_ref_file.specs.declared.files.FileError.TheVariants.{Failed, Memory};
 ghost use Rattle.gix_ref_file.specs.History.{HasRisen};

@@ -1,4 +1,4 @@
-//! What is done to a reference's file and to its log, and why it fails.
+//! What a move does to a reference's file and log (`Act`, `Move`); its errors, also from a call of the files.
 
 ghost use Rattle.std.specs.Prelude.{◌≡◌, ◌⊎◌, IfErr, IsErrOf, OnOk};
 ghost use Rattle.gix_ref_file.specs.declared.files.FileError.TheVariants as file_case;
@@ -82,7 +82,10 @@ pub enum CommitError {
 
 // Returns the outcome of a call of the files: `why` if the call failed, and `Memory` if memory ran
 // out.
-pub(crate) fn told(outcome: Result<(), FileError>, why: CommitError) -> Result<(), CommitError>
+pub(crate) fn outcome_of_call(
+    outcome: Result<(), FileError>,
+    why: CommitError,
+) -> Result<(), CommitError>
     ensures done { OnOk result (outcome ≡ Ok tt) }
     ensures passed { outcome ≡ Ok tt → result ≡ Ok tt }
     ensures failed { IfErr result (λ error.

@@ -1,4 +1,4 @@
-//! Commits of moves.
+//! Commits of all moves and of `packed-refs`, and giving all locks back (`commit`, `give_back_all`).
 
 ghost use Rattle.std.specs.Prelude.{◌≡◌, ◌≢◌, ◌⊎◌, Err};
 ghost use Rattle.std.specs.List.{AllByRecursion};

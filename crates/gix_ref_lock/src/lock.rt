@@ -1,4 +1,4 @@
-//! A file's lock: a file beside it, which holds its new bytes and is then renamed to its place.
+//! A file's lock, `<path>.lock`: acquired, filled with new bytes, put in the file's place, or given back.
 
 ghost use Rattle.std.specs.Prelude.{◌≡◌, ◌≢◌, ◌⊎◌, false, None, Some, IfOk, IfSome, OnOk, IsErrOf, IsTrue};
 ghost use Rattle.gix_ref_file.specs.Changes.{is_file_at, may_hold_file};

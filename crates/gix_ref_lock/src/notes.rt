@@ -1,4 +1,4 @@
-//! Lines for logs.
+//! Appending a line to a log, whose folders are made first.
 
 ghost use Rattle.std.specs.Prelude.{[], ◌∷◌, Some};
 ghost use Rattle.gix_ref_file.specs.Calls.{Achieves, Passes};
@@ -8,7 +8,7 @@ ghost use Rattle.gix_ref_lock.specs.Contents.{noted};
 ghost use Rattle.gix_ref_lock.specs.Moments.{MayNote, NotesLog};
 ghost use Rattle.gix_ref_lock.specs.Needs.{CanNote, IsOutOfMemory, noted_logs};
 
-use crate::act::{CommitError, LogError, told};
+use crate::act::{CommitError, LogError, outcome_of_call};
 use gix_ref_file::Files;
 use gix_ref_way::make_way;
 use std::alloc::Global;
@@ -52,11 +52,11 @@ fn append<F: Files>(
         → CanNote (Some line.now) log.now (F.history files.old).tree
         → FailsByFault F.Files IsOutOfMemory files.old files.new result }
 {
-    told(
+    outcome_of_call(
         make_way(alloc, files, log),
         CommitError::CreateOrUpdateRefLog(LogError::CreateLeadingDirectories),
     )?;
-    told(
+    outcome_of_call(
         files.append(alloc, log, line),
         CommitError::CreateOrUpdateRefLog(LogError::Append),
     )

@@ -1,4 +1,4 @@
-//! Transactions of `packed-refs`: a held lock gets the new text and is then put in its place.
+//! Transactions of `packed-refs`: lock, new text of edited records, then put in its place or rolled back.
 
 ghost use Rattle.std.specs.Prelude.{◌≡◌, ◌≢◌, ◌⊎◌, [], true, false, Some, None, Err, map, option_map, IfOk, IfErr, IfSome, OnOk, IsTrue};
 ghost use Rattle.gix_ref_file.specs.Tree.{node_at, bytes_at, bytes_of};

@@ -1,4 +1,4 @@
-//! The steps in which moves are made: first all updates, then removals of logs, then of files.
+//! The steps in which moves are made: first all updates, then removals of logs, then of files and locks.
 
 ghost use Rattle.std.specs.Prelude.{IsTrue};
 ghost use Rattle.std.specs.List.{AllByRecursion};
@@ -11,7 +11,7 @@ ghost use Rattle.gix_ref_lock.specs.Moments.{AreApart, Has, IsForgetting, IsGoin
 ghost use Rattle.gix_ref_lock.specs.Moves.{AllHave, AllMay, Once, all_paths, paths_of};
 ghost use Rattle.gix_ref_lock.specs.Needs.{AreBeside, CanMove, IsOutOfMemory, KeepsLock, Needs, log_paths, logs_of};
 
-use crate::act::{Act, CommitError, Move, told};
+use crate::act::{Act, CommitError, Move, outcome_of_call};
 use crate::notes::note;
 use gix_ref_file::{FileError, Files, Place};
 use std::alloc::Global;
@@ -88,11 +88,11 @@ fn update<F: Files>(alloc: Global, files: &mut F, made: &Move) -> Result<(), Com
     match &made.act {
         Act::Put(line) => {
             note(alloc, files, &made.log, line)?;
-            told(made.lock.put(alloc, files), CommitError::LockCommit)
+            outcome_of_call(made.lock.put(alloc, files), CommitError::LockCommit)
         }
         Act::Note(line) => {
             note(alloc, files, &made.log, line)?;
-            told(made.lock.give_back(alloc, files), CommitError::LockCommit)
+            outcome_of_call(made.lock.give_back(alloc, files), CommitError::LockCommit)
         }
         Act::Pack(line) => note(alloc, files, &made.log, line),
         Act::Remove | Act::Forget => Ok(()),
@@ -130,7 +130,7 @@ fn remove<F: Files>(alloc: Global, files: &mut F, made: &Move) -> Result<(), Com
         Act::Put(_) | Act::Note(_) => Ok(()),
         Act::Pack(_) => remove_locked(alloc, files, made),
         Act::Remove => remove_locked(alloc, files, made),
-        Act::Forget => told(made.lock.give_back(alloc, files), CommitError::LockCommit),
+        Act::Forget => outcome_of_call(made.lock.give_back(alloc, files), CommitError::LockCommit),
     }
 }
 
@@ -146,7 +146,7 @@ fn remove_locked<F: Files>(alloc: Global, files: &mut F, made: &Move) -> Result<
         → FailsByFault F.Files IsOutOfMemory files.old files.new result }
 {
     remove_file(alloc, files, &made.lock.place, CommitError::DeleteReference)?;
-    told(made.lock.give_back(alloc, files), CommitError::LockCommit)
+    outcome_of_call(made.lock.give_back(alloc, files), CommitError::LockCommit)
 }
 
 // Removes a file, if it exists.
@@ -164,7 +164,7 @@ fn remove_file<F: Files>(
         → FailsByFault F.Files IsOutOfMemory files.old files.new result }
 {
     match files.kind_of(path) {
-        Ok(Place::File(_)) => told(files.remove_file(alloc, path), why),
+        Ok(Place::File(_)) => outcome_of_call(files.remove_file(alloc, path), why),
         Ok(Place::Absent) | Ok(Place::Folder) => Ok(()),
         Err(FileError::Failed) => Err(why),
         Err(FileError::Memory) => Err(CommitError::Memory),

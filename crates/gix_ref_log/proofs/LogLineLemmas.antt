@@ -42,10 +42,6 @@ one_message_cut line front message front' message' c c' = by_cases c.cut c'.cut
 
 -- ---- the whole line
 
--- its front
-pub front_of : (text : List ℕ) (p : LineParts) → SpellsLine text p → List ℕ
-front_of text p s = front_text p.before p.after s.actor
-
 pub message_cut : (text : List ℕ) (p : LineParts) (s : SpellsLine text p) → IsMessageCut text (front_text p.before p.after s.actor) p.message
 message_cut text p s = record { no_tab = front_lacks p.before p.after s.actor s.before_is_id s.after_is_id s.no_tab; cut = s.spelled }
 

@@ -4,13 +4,11 @@ use Rattle.std.specs.Prelude.{◌==◌, ◌⊎◌, reverse}
 use Rattle.std.specs.Bool.{MatchBool}
 use Rattle.std.specs.List.{slice_split}
 use Rattle.std.proofs.Math.Seq.{drop-append_seam}
-use Rattle.std.proofs.lemmas.Bool.Decides.{Decides-eqb}
 use Rattle.std.proofs.lemmas.List.{drop-take, take-append-drop, take-append-le, take-take, take_all}
 use Rattle.gix_ref_file.specs.Tree.{overwritten, part}
 use Rattle.gix_object_lines.specs.Bytes.{Lacks}
 use Rattle.gix_object_lines.proofs.CutLemmas.{lacks_both}
 use Rattle.gix_ref_log.specs.LogBackward.{Fits, IsAt}
-use Rattle.gix_ref_log.specs.LogFound.{IsLineStart}
 use Rattle.gix_ref_log.specs.LogLine.{is_feed}
 use Rattle.gix_ref_log.specs.LogPlace.{IsWindow, IsLastLine, IsTooLong}
 use Rattle.gix_ref_log.proofs.LogSplitLemmas.{split_none, split_last, reverse_some, last_feed, IsCutLast}
@@ -193,23 +191,6 @@ too_long log done end held buffer left room undone at is = by_feed (last_feed ea
           (live done _ _ undone at).1 ∙ ap (λ t. reverse (slice_split is_feed t)) whole ∙ split_last cut.0 line (lacks_both 10 cut.1 late cut.3 is.unbroken),
           not_fits line (reverse (slice_split is_feed cut.0)) (reverse_some cut.0) (omega (arith, sizes, late_sized)),
         )
-
--- ---- what was found
-
-pub found : (log : List ℕ) (end held start : ℕ) (buffer : List ℕ) (all : Bool) → all ≡ (held == end) → IsWindow log end held buffer → IsLineStart (take held buffer) all start → IsLastLine log end held start buffer
-found log end held start buffer all same window is = record {
-  window = window;
-  front = is.front;
-  line = is.line;
-  cut = is.cut;
-  sized = is.sized;
-  unbroken = is.unbroken;
-  begins = begins is.begins;
-}
-  where
-    begins : ((before : List ℕ) × (is.front ≡ before ++ 10 ∷ [])) ⊎ ((is.front ≡ []) × (all ≡ true)) → ((before : List ℕ) × (is.front ≡ before ++ 10 ∷ [])) ⊎ ((is.front ≡ []) × (held ≡ end))
-    begins (inl cut) = inl cut
-    begins (inr whole) = inr (whole.0, (Decides-eqb held end).0 (sym same ∙ whole.1))
 
 -- ---- what a reading puts in
 

@@ -1,4 +1,4 @@
-//! Reading a log line by line, from its beginning or from its end.
+//! `forward` and `reverse`, which begin the walks over a log's lines from its first and from its last line.
 
 ghost use Rattle.std.specs.Prelude.{◌≡◌, ◌↔◌, [], length, reverse as reversed, IfOk, IsErrOf};
 ghost use Rattle.gix_ref_file.specs.declared.files.FileError.TheVariants.{Failed};

@@ -1,4 +1,4 @@
-//! Laws of logs, each the contract of a function that does nothing.
+//! Laws of logs: a written line is read back, no text spells two lines, and a time's seconds have 64 bits.
 
 ghost use Rattle.std.specs.Prelude.{ℕ, List, ◌≡◌, FitsSigned};
 ghost use Rattle.std.specs.Int.{w64};

@@ -1,4 +1,4 @@
-//! Lines of logs, borrowed and owned.
+//! The types of a log's line, `Line` and `LineRef`, and the ids that a borrowed line's digits spell.
 
 ghost use Rattle.std.specs.Prelude.{◌≡◌, IfOk, IfErr, IsTrue};
 ghost use Rattle.bstr.specs.BStr.{bstr_bytes};

@@ -1,4 +1,4 @@
-//! Categories of full names, by their beginnings.
+//! The type `Category`: what kind of reference a full name is of, by how it begins.
 
 mod find;
 mod made;

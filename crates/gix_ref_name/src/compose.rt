@@ -1,4 +1,4 @@
-//! Names whose characters are composed, for file systems that take them apart.
+//! Names with their characters composed in Unicode's form C, for file systems that take them apart.
 
 ghost use Rattle.std.specs.Prelude.{◌≡◌, IfOk};
 ghost use Rattle.gix_ref_name.specs.Composed.{composed};

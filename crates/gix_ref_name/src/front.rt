@@ -1,4 +1,4 @@
-//! Beginnings of bytes that are put before others, or taken off.
+//! A prefix put before bytes, unless they begin with it, or taken off them.
 
 ghost use Rattle.std.specs.Prelude.{◌≡◌, ◌++◌, IfOk};
 ghost use Rattle.gix_ref_name.specs.Fronts as spec;

@@ -1,4 +1,4 @@
-//! Namespaces: what precedes the names of a part of a repository.
+//! Namespaces: the `refs/namespaces/<name>/` before the names of a part of a repository, made by `expand`.
 
 ghost use Rattle.std.specs.Prelude.{◌≡◌, ◌++◌, ℕ, List, IfOk, OnOk};
 ghost use Rattle.bstr.specs.BStr.{bstr_bytes};

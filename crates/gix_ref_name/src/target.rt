@@ -1,4 +1,4 @@
-//! What references point to.
+//! What references point to: the types `Target`, `TargetRef` and `Kind`.
 
 mod calls;
 

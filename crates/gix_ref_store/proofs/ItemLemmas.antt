@@ -44,10 +44,6 @@ module _ (read : List ℕ → RefState) (records : List Record) (e : List ℕ ×
   is_over : is_there (reads_by read records e) ≡ false → mets_of read records (e ∷ rest) ≡ mets_of read records rest
   is_over is = ap (λ b. cond b (met_by read records e ∷ mets_of read records rest) (mets_of read records rest)) is
 
-  -- an absent one is passed over
-  pub passed_over : TellsName e.0 (read e.0) (reads_by read records e) None → mets_of read records (e ∷ rest) ≡ mets_of read records rest
-  passed_over absent = is_over (ap is_there absent)
-
   -- another is given
   pub given : (item : Result Reference Error) → TellsName e.0 (read e.0) (reads_by read records e) (Some item)
       → GivesNext read (mets_of read records (e ∷ rest)) (Some item) (mets_of read records rest)
@@ -117,8 +113,3 @@ module _ {F : Type 0} (tree : Tree) where
       (subst (λ s. GivesNext (reads_in tree s) (left_in tree now) (Some item) after) same
       (subst (λ (ns : Listed). GivesNext (reads_in tree now.search) (mets_of (reads_in tree now.search) (records_in now.search.packed) ns) (Some item) (mets_of (reads_in tree now.search) (records_in now.search.packed) rest)) (sym names)
       (given (reads_in tree now.search) (records_in now.search.packed) e rest item (subst (λ s. TellsName e.0 (reads_in tree s e.0) (reads_by (reads_in tree s) (records_in s.packed) e) (Some item)) (sym same) told))))
-
-  pub left_on : (now : LooseThenPacked F) (e : List ℕ × OwnFile) (rest : Listed) → now.names ≡ e ∷ rest → TellsName e.0 (reads_in tree now.search e.0) (reads_by (reads_in tree now.search) (records_in now.search.packed) e) None
-      → left_in {F = F} tree (record { search = now.search; names = rest }) ≡ left_in tree now
-  left_on now e rest names told =
-      sym (ap (mets_of (reads_in tree now.search) (records_in now.search.packed)) names ∙ passed_over (reads_in tree now.search) (records_in now.search.packed) e rest told)

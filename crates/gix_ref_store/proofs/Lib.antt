@@ -9,7 +9,6 @@ pub mod WalkSteps
 pub mod GatherLemmas
 pub mod ListingLemmas
 pub mod FaultLemmas
-pub mod LogLemmas
 pub mod ItemLemmas
 pub mod FollowLemmas
 pub mod PeelLemmas

@@ -29,7 +29,3 @@ pub one_name : (read : List ℕ → RefState) (name : List ℕ) (result : Result
 one_name read name (Ok (Some r)) told = found_first read name [] r told
 one_name read name (Ok None) absent = sym (ap (λ x. met_or name x None) absent)
 one_name read name (Err error) told = fault_first read name [] error told
-
--- a search of the first name, or of the others if that is absent
-pub found_here : (read : List ℕ → RefState) (name : List ℕ) (names : List (List ℕ)) (r : Reference) → TellsState name (read name) (Ok (Some r)) → Finds read (name ∷ names) (Ok (Some r))
-found_here read name names r told = found_first read name names r told

@@ -1,5 +1,5 @@
 -- Along tags, from id to id.
-use Rattle.std.proofs.Common.{◌≡◌, ◌∙◌, sym, ap, subst, ℕ, zero, suc, ◌-◌, ◌<◌, ◌≤◌, Bool, true, false, List, [], ◌∷◌, ◌++◌, length, map, Option, Some, None, refl, arith, length-append}
+use Rattle.std.proofs.Common.{◌≡◌, ◌∙◌, sym, ap, subst, ℕ, zero, suc, ◌-◌, ◌<◌, ◌≤◌, Bool, true, false, List, [], ◌∷◌, ◌++◌, length, map, Some, None, refl, arith, length-append}
 use Rattle.std.specs.Prelude.{Contains, ◌||◌, option_map, Result, Ok, Err, MatchResult}
 use Rattle.std.specs.List.{list_any, IsDistinct, slice_get}
 use Rattle.std.proofs.lemmas.List.Folds.{list_any-append}
@@ -15,7 +15,7 @@ use Rattle.gix_ref_file.specs.Tree.{Tree}
 use Rattle.gix_ref_store.specs.Places.{Base}
 use Rattle.gix_ref_store.specs.RefStates.{RefState}
 use Rattle.gix_ref_store.specs.Follows.{EndsBy, IsGiven, CantOpen, follow_from}
-use Rattle.gix_ref_store.specs.Peels.{TagNames, LeadsOver, PeelsTo, PeelsBy, Peels, PeelFault, TagFault, MayTell}
+use Rattle.gix_ref_store.specs.Peels.{TagNames, LeadsOver, PeelFault, TagFault}
 use Rattle.gix_ref_store.specs.declared.reference.Reference.{Reference}
 use Rattle.gix_ref_store.specs.declared.store.file.find.Error.TheVariants as finds
 use Rattle.gix_ref_store.specs.declared.store.file.find.ExistingError.TheVariants as existing
@@ -87,13 +87,6 @@ among_test tags items id b same is = sym (is ∙ ap (list_any (λ other. id_eq i
 
 -- ---- references
 module _ (read : List ℕ → RefState) (table : Table) (r : Reference) where
-  pub peels_told : (id : ObjectId) → r.peeled ≡ Some id → Peels read table r r.name (id_of id)
-  peels_told id is = subst (λ (p : Option ObjectId). PeelsBy (follow_from read r) table r.name (option_map id_of p) r.name (id_of id)) (sym is) (refl, refl)
-
-  pub peels_on : (last : Reference) (first id : ObjectId) → r.peeled ≡ None → EndsBy last first (follow_from read r) → PeelsTo table (id_of first) (id_of id) → Peels read table r last.name (id_of id)
-  peels_on last first id is ends peels =
-      subst (λ (p : Option ObjectId). PeelsBy (follow_from read r) table r.name (option_map id_of p) last.name (id_of id)) (sym is) (id_of first, option_map id_of last.peeled, ends.1, peels)
-
   pub lost_on : (H M : Type 0) (last : Reference) (first : ObjectId) (error : Error) → r.peeled ≡ None → EndsBy last first (follow_from read r) → H → TagFault H M table (id_of first) error
       → PeelFault IsGiven read table r error
   lost_on H M last first (FollowToObject e) is ends honest fault = absurd fault
@@ -114,12 +107,6 @@ module _ (read : List ℕ → RefState) (table : Table) (r : Reference) where
   opened_fault b tree (Find e) fault = fault
   opened_fault b tree (NotFound oid) fault = fault
   opened_fault b tree Memory fault = fault
-
-pub tag_may : (H M P : Type 0) (table : Table) (id : Id) (error : Error) → TagFault H M table id error → MayTell P M error
-tag_may H M P table id (FollowToObject e) fault = absurd fault
-tag_may H M P table id (Find e) fault = fault
-tag_may H M P table id (NotFound oid) fault = tt
-tag_may H M P table id Memory fault = tt
 
 -- the result is the same with packed references that were opened
 pub opened_peels : (b : Base) (tree : Tree) (one other : List ℕ → RefState) (table : Table) (r : Reference) (result : Result ObjectId Error) (P : (List ℕ → RefState) → ObjectId → Type 0) → one ≡ other

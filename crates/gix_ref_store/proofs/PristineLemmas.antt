@@ -21,9 +21,6 @@ pub record Passed (out left : List Met) : Type 0 where
   pub gone : (met : Met) → Contains out met → Contains left met ⊎ CantBeRead met.ref_state
   pub here : (met : Met) → Contains left met → Contains out met
 
-pub passed_none : (out : List Met) → Passed out out
-passed_none out = record { gone = λ met is. inl is; here = λ met is. is }
-
 none_in : (met : Met) → Contains [] met → ⊥
 none_in met (k, below, at) = omega (arith, below)
 

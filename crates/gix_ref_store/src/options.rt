@@ -1,4 +1,4 @@
-//! What a store must know of its repository.
+//! The options of a store: which updates are logged, the hash function, whether names are composed.
 
 ghost use Rattle.gix_ref_store.specs.Stores.{IsUsual};
 

@@ -1,4 +1,4 @@
-//! References that own what they hold.
+//! A reference (`Reference`): name, target and peeled id; made from a packed record or a loose reference.
 
 ghost use Rattle.std.specs.Prelude.{◌≡◌, None, IfOk};
 ghost use Rattle.gix_ref_name.specs.Targets.{kind_of, target_view};

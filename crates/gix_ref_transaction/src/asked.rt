@@ -1,4 +1,4 @@
-//! What an edit expects of its reference.
+//! The test that a reference is as its edit expects (`PreviousValue`, `Refusal`); whether targets are equal.
 
 ghost use Rattle.std.specs.Prelude.{◌≡◌, ◌≢◌, ◌⊎◌, None, Some, IfErr, MatchResult, option_map};
 ghost use Rattle.std.specs.Bool.{Decides};
@@ -18,16 +18,16 @@ use thiserror::Error;
 #[derive(Debug, Clone, Copy, PartialEq, Eq, Error)]
 pub enum Refusal {
     /// A reference that is to be removed doesn't exist.
-    #[error("a reference that is to be removed doesn't stand")]
+    #[error("a reference that is to be removed doesn't exist")]
     DeleteReferenceMustExist,
     /// A reference is to be removed that must not exist.
-    #[error("a reference can't be removed that mustn't stand")]
+    #[error("a reference can't be removed that mustn't exist")]
     DeleteMustNotExist,
     /// The reference doesn't exist.
-    #[error("the reference doesn't stand")]
+    #[error("the reference doesn't exist")]
     MustExist,
     /// The reference exists, and points to something else than the new target.
-    #[error("the reference stands already")]
+    #[error("the reference exists already")]
     MustNotExist,
     /// The reference points to something else.
     #[error("the reference points to something else")]
@@ -60,12 +60,12 @@ fn test_update(
         why ≡ refused_update expected.now (option_map points_of found.now)) }
 {
     match found {
-        Some(found) => test_standing(expected, new, &found.target),
-        None => test_missing(expected, new),
+        Some(found) => test_update_of_existing(expected, new, &found.target),
+        None => test_update_of_missing(expected, new),
     }
 }
 
-fn test_missing(expected: &PreviousValue, new: &Target) -> Result<(), Refusal>
+fn test_update_of_missing(expected: &PreviousValue, new: &Target) -> Result<(), Refusal>
     ensures met { MatchResult result (λ _. Meets expected.now (Some (target_view new.now)) None)
         (λ _. ¬ Meets expected.now (Some (target_view new.now)) None) }
     ensures why { IfErr result (λ why. why ≡ MustExist) }
@@ -80,7 +80,11 @@ fn test_missing(expected: &PreviousValue, new: &Target) -> Result<(), Refusal>
     }
 }
 
-fn test_standing(expected: &PreviousValue, new: &Target, found: &Target) -> Result<(), Refusal>
+fn test_update_of_existing(
+    expected: &PreviousValue,
+    new: &Target,
+    found: &Target,
+) -> Result<(), Refusal>
     ensures met { let new = Some (target_view new.now) in let found = Some (target_view found.now) in
         MatchResult result (λ _. Meets expected.now new found)
         (λ _. ¬ Meets expected.now new found) }
@@ -90,9 +94,9 @@ fn test_standing(expected: &PreviousValue, new: &Target, found: &Target) -> Resu
     match expected {
         PreviousValue::Any => Ok(()),
         PreviousValue::MustExist => Ok(()),
-        PreviousValue::MustNotExist => same(found, new, Refusal::MustNotExist),
-        PreviousValue::MustExistAndMatch(stated) => either(found, stated, new),
-        PreviousValue::ExistingMustMatch(stated) => either(found, stated, new),
+        PreviousValue::MustNotExist => test_equal(found, new, Refusal::MustNotExist),
+        PreviousValue::MustExistAndMatch(stated) => test_equal_to_either(found, stated, new),
+        PreviousValue::ExistingMustMatch(stated) => test_equal_to_either(found, stated, new),
     }
 }
 
@@ -103,12 +107,12 @@ fn test_deletion(expected: &PreviousValue, found: &Option<Reference>) -> Result<
         why ≡ refused_deletion expected.now (option_map points_of found.now)) }
 {
     match found {
-        Some(found) => test_removed(expected, &found.target),
-        None => test_gone(expected),
+        Some(found) => test_deletion_of_existing(expected, &found.target),
+        None => test_deletion_of_missing(expected),
     }
 }
 
-fn test_removed(expected: &PreviousValue, found: &Target) -> Result<(), Refusal>
+fn test_deletion_of_existing(expected: &PreviousValue, found: &Target) -> Result<(), Refusal>
     ensures met { MatchResult result (λ _. Meets expected.now None (Some (target_view found.now)))
         (λ _. ¬ Meets expected.now None (Some (target_view found.now))) }
     ensures why { IfErr result (λ why.
@@ -119,15 +123,15 @@ fn test_removed(expected: &PreviousValue, found: &Target) -> Result<(), Refusal>
         PreviousValue::MustExist => Ok(()),
         PreviousValue::MustNotExist => Err(Refusal::DeleteMustNotExist),
         PreviousValue::MustExistAndMatch(stated) => {
-            same(found, stated, Refusal::ReferenceOutOfDate)
+            test_equal(found, stated, Refusal::ReferenceOutOfDate)
         }
         PreviousValue::ExistingMustMatch(stated) => {
-            same(found, stated, Refusal::ReferenceOutOfDate)
+            test_equal(found, stated, Refusal::ReferenceOutOfDate)
         }
     }
 }
 
-fn test_gone(expected: &PreviousValue) -> Result<(), Refusal>
+fn test_deletion_of_missing(expected: &PreviousValue) -> Result<(), Refusal>
     ensures met { MatchResult result (λ _. Meets expected.now None None)
         (λ _. ¬ Meets expected.now None None) }
     ensures why { IfErr result (λ why. why ≡ refused_deletion expected.now None) }
@@ -142,12 +146,12 @@ fn test_gone(expected: &PreviousValue) -> Result<(), Refusal>
 }
 
 // Tests that the two targets are equal. Otherwise returns `why`.
-fn same(found: &Target, wanted: &Target, why: Refusal) -> Result<(), Refusal>
+fn test_equal(found: &Target, wanted: &Target, why: Refusal) -> Result<(), Refusal>
     ensures met { MatchResult result (λ _. target_view found.now ≡ target_view wanted.now)
         (λ _. target_view found.now ≢ target_view wanted.now) }
     ensures why { IfErr result (λ told. told ≡ why) }
 {
-    if is_one(found, wanted) {
+    if are_equal(found, wanted) {
         Ok(())
     } else {
         Err(why)
@@ -155,42 +159,42 @@ fn same(found: &Target, wanted: &Target, why: Refusal) -> Result<(), Refusal>
 }
 
 // Tests that what was found equals one of the two targets. Otherwise returns `ReferenceOutOfDate`.
-fn either(found: &Target, stated: &Target, new: &Target) -> Result<(), Refusal>
+fn test_equal_to_either(found: &Target, stated: &Target, new: &Target) -> Result<(), Refusal>
     ensures met { MatchResult result (λ _. (target_view found.now ≡ target_view stated.now)
         ⊎ (target_view found.now ≡ target_view new.now))
         (λ _. ¬ ((target_view found.now ≡ target_view stated.now)
         ⊎ (target_view found.now ≡ target_view new.now))) }
     ensures why { IfErr result (λ why. why ≡ ReferenceOutOfDate) }
 {
-    if is_one(found, stated) {
+    if are_equal(found, stated) {
         return Ok(());
     }
-    same(found, new, Refusal::ReferenceOutOfDate)
+    test_equal(found, new, Refusal::ReferenceOutOfDate)
 }
 
 // Returns whether two targets are equal.
-fn is_one(first: &Target, second: &Target) -> bool
+fn are_equal(first: &Target, second: &Target) -> bool
     ensures { Decides result (target_view first.now ≡ target_view second.now) }
 {
     match first {
         Target::Object(first) => match second {
-            Target::Object(second) => is_one_id(first, second),
+            Target::Object(second) => are_equal_ids(first, second),
             Target::Symbolic(_) => false,
         },
         Target::Symbolic(first) => match second {
-            Target::Symbolic(second) => is_one_name(first, second),
+            Target::Symbolic(second) => are_equal_names(first, second),
             Target::Object(_) => false,
         },
     }
 }
 
-fn is_one_id(first: &ObjectId, second: &ObjectId) -> bool
+fn are_equal_ids(first: &ObjectId, second: &ObjectId) -> bool
     ensures { Decides result (id_of first.now ≡ id_of second.now) }
 {
     *first == *second
 }
 
-fn is_one_name(first: &FullName, second: &FullName) -> bool
+fn are_equal_names(first: &FullName, second: &FullName) -> bool
     ensures { Decides result (first.now ≡ second.now) }
 {
     first.to_path() == second.to_path()

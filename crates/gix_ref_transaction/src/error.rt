@@ -1,4 +1,4 @@
-//! Why a transaction isn't prepared.
+//! Why a transaction isn't prepared (`PrepareError`), also from the errors of what it calls.
 
 ghost use Rattle.std.specs.Prelude.{◌≡◌};
 ghost use Rattle.gix_ref_transaction.specs.Errors.{of_file, of_finding, of_splitting, of_opening, of_locking, of_repacking};

@@ -1,4 +1,4 @@
-//! What a store's names point to, for the splitting of edits.
+//! The lookup of a name's target in the store (`FindTarget`), for the splitting of edits.
 
 ghost use Rattle.gix_ref_transaction.specs.Found.{points_at};
 ghost use Rattle.gix_ref_store.specs.Lookups.{reads_with};

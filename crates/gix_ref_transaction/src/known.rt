@@ -1,4 +1,4 @@
-//! Whether names are as the store knows them.
+//! Whether the names in edits are as the store knows them: composed (precomposed Unicode).
 
 ghost use Rattle.std.specs.Prelude.{◌≡◌, IfOk};
 ghost use Rattle.gix_ref_name.specs.Targets.{target_view};

@@ -1,4 +1,4 @@
-//! Lines for the logs of references that are updated.
+//! The line that an edit adds to a log: id before, committer, message; whether updates of a name are logged.
 
 ghost use Rattle.std.specs.Prelude.{◌≡◌, ◌++◌, ◌∷◌, [], None, Ok, Some, IfOk, IfErr, MatchResult};
 ghost use Rattle.bstr.specs.BStr.{bstr_bytes};

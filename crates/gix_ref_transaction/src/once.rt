@@ -1,4 +1,4 @@
-//! The paths that edits concern: whether they are ones, and all different.
+//! The paths that edits concern (files, locks, logs): whether each is one, and none occurs twice.
 
 ghost use Rattle.std.specs.Prelude.{◌≡◌, ◌++◌, IfOk, OnOk, map};
 ghost use Rattle.std.specs.List.{list_all};

@@ -1,4 +1,4 @@
-//! What becomes of one reference: its lock is made, what it is is tested, and its new text is written into the lock.
+//! The plan of one edit: its lock, its test, the new text in the lock; and the error after locks are given back.
 
 ghost use Rattle.std.specs.Prelude.{◌≡◌, ◌≢◌, ◌≤◌, ◌⊎◌, ℕ, [], ◌∷◌, false, Some, IfErr, IfOk, IsTrue, OnOk};
 ghost use Rattle.gix_object_lines.specs.NameTest.{is_full_name};

@@ -1,4 +1,4 @@
-//! Each target of an edit is read back as it is written.
+//! Laws: each target of an edit is read back as it is written.
 
 ghost use Rattle.gix_ref_transaction.specs.Reads.{AllGiveKind, AllReadBack, GivesKind, IsOfKind, IsReadBack};
 ghost use Rattle.gix_ref_name.specs.Targets.{target_view};

@@ -1,4 +1,4 @@
-//! Transactions: prepared, and then committed or rolled back.
+//! Transactions of all edits: `prepare` (paths tested, all locked), `commit`, `rollback` (locks given back).
 
 ghost use Rattle.std.specs.Prelude.{◌≡◌, ◌≤◌, ◌⊎◌, ◌≢◌, ℕ, [], List, false, IfErr, IfOk, IfSome, IsTrue, MatchResult, OnOk};
 ghost use Rattle.std.specs.List.{list_all};

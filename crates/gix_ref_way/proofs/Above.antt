@@ -3,13 +3,13 @@ use Rattle.std.proofs.Common.{◌≡◌, ◌⊎◌, inl, inr, refl, sym, ◌∙�
 use Rattle.std.specs.Prelude.{Some}
 use Rattle.std.specs.FinMap.{get, insert}
 use Rattle.gix_ref_file.specs.Tree.{Tree, folder, same_path}
-use Rattle.gix_ref_file.specs.Changes.{to_make_folder, to_write, to_append, to_rename, MayLeave}
+use Rattle.gix_ref_file.specs.Changes.{to_make_folder, to_rename, MayLeave}
 use Rattle.gix_ref_file.specs.History.{History, Adds}
 use Rattle.gix_ref_file.proofs.Histories.{adds_weaker, adds_joined}
 use Rattle.gix_ref_file.proofs.Rooted.{adds_now}
 use Rattle.gix_ref_file.proofs.Trees.{get-inserted, one_path}
 use Rattle.gix_ref_way.specs.Ways.{Bytes, IsAbove, OneFolderMore, FoldersAbove}
-use Rattle.gix_ref_way.proofs.FoldersStay.{same_stood, while_written, while_appended, while_renamed}
+use Rattle.gix_ref_way.proofs.FoldersStay.{same_stood, while_renamed}
 
 -- ---- one change
 inserted_folder : (t : Tree) (k q : Bytes) → get (insert t k folder) q ≡ Some folder → (get t q ≡ Some folder) ⊎ (q ≡ k)
@@ -57,12 +57,6 @@ above_slash path at below is = (drop (suc at) path, cut path at below is)
 -- no folder comes
 abbrev pub BringsNone : Tree → Tree → Type 0
 BringsNone t x = (q : Bytes) → get x q ≡ Some folder → get t q ≡ Some folder
-
-pub written_brings : (k bytes : Bytes) (t x : Tree) → MayLeave (to_write k bytes) t x → BringsNone t x
-written_brings k bytes t x left = same_stood t x (while_written k bytes t x left)
-
-pub appended_brings : (k bytes : Bytes) (t x : Tree) → MayLeave (to_append k bytes) t x → BringsNone t x
-appended_brings k bytes t x left = same_stood t x (while_appended k bytes t x left)
 
 pub renamed_brings : (from to : Bytes) (t x : Tree) → MayLeave (to_rename from to) t x → BringsNone t x
 renamed_brings from to t x left = same_stood t x (while_renamed from to t x left)

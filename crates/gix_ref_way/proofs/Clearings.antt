@@ -11,12 +11,12 @@ use Rattle.gix_ref_file.specs.declared.files.FileError.{FileError}
 use Rattle.gix_ref_file.specs.declared.files.FileError.TheVariants.{Failed}
 use Rattle.gix_ref_file.specs.declared.files.Place.{Place}
 use Rattle.gix_ref_file.specs.declared.files.Place.TheVariants as places
-use Rattle.gix_ref_file.proofs.Histories.{adds_weaker, adds_joined, adds_nothing}
+use Rattle.gix_ref_file.proofs.Histories.{adds_weaker, adds_joined}
 use Rattle.gix_ref_file.proofs.Rooted.{adds_now, both}
 use Rattle.gix_ref_file.proofs.Trees.{get-removed, one_path, same_path_itself}
 use Rattle.gix_ref_file.proofs.Below.{path_in_folder}
 use Rattle.gix_ref_file.proofs.Listings.{in_folder, found, root_is_no_path, node_is}
-use Rattle.gix_ref_way.specs.Ways.{Bytes, file_at, SameFiles, IsAbove, FoldersAbove, HasFoldersAbove, ClearsWay, NoFileBelow}
+use Rattle.gix_ref_way.specs.Ways.{Bytes, file_at, SameFiles, IsAbove, FoldersAbove, HasFoldersAbove, ClearsWay}
 use Rattle.gix_ref_way.proofs.FoldersMade.{above_above, above_shorter, may_hold, none_there}
 
 -- ---- what is below
@@ -124,12 +124,6 @@ below_now path old new adds = from_now (adds_now _ old new adds)
     from_now : (new.tree ≡ old.tree) ⊎ ClearsBelow path old.tree new.tree → ClearsBelow path old.tree new.tree
     from_now (inl same) = subst (ClearsBelow path old.tree) (sym same) (none_below path old.tree)
     from_now (inr clears) = clears
-
-pub way_stays : (path : Bytes) (old : History) → Adds (ClearsWay path old.tree) old old
-way_stays path old = adds_nothing old
-
-pub below_stays : (path : Bytes) (old : History) → Adds (ClearsBelow path old.tree) old old
-below_stays path old = adds_nothing old
 
 pub below_way : (path : Bytes) (old new : History) → Adds (ClearsBelow path old.tree) old new → Adds (ClearsWay path old.tree) old new
 below_way path old new adds = adds_weaker old new adds (λ x clears. as_way path old.tree x clears)
@@ -246,9 +240,6 @@ folder_there t (b ∷ place) found some is folder_is = by_node (get t (b ∷ pla
     by_node None h = cc
     by_node (Some (file bytes)) h = cc
     by_node (Some folder) h = refl
-
-pub none_deeper : (place k : Bytes) (old now : Tree) → IsAbove place k → SameFiles old now → NoFileBelow place old → NoFileBelow k now
-none_deeper place k old now above same none = λ q below. same q ∙ none q (above_above place k q above below)
 
 pub later_risen : (first mid last : ℕ) {P : Type 0} → first ≤ mid → HasRisen mid last ⊎ P → HasRisen first last ⊎ P
 later_risen first mid last later (inl risen) = inl (omega (arith, later, risen))

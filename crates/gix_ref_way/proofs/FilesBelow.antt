@@ -134,12 +134,6 @@ module _ (tree : Tree) (rooted : IsRooted tree) (place : Bytes) (some : place �
           let over : IsAbove (parent path) path = (after_last is_slash path, path_in_folder path (omega (arith, long))) in
           behind (rest (parent path) (omega (arith, short, above_shorter (parent path) path over)) (folder_stands (parent path) beyond (rooted path there).1) beyond) over
 
-  -- what something is below is a folder
-  pub folder_over : (path : Bytes) → IsSome (get tree path) → IsAbove place path → IsTrue (is_folder (node_at tree place))
-  folder_over path there above =
-      let f = first_part (length path) path (omega arith) there above in
-      subst (λ p. IsTrue (is_folder (node_at tree p))) f.in_place (rooted f.part f.there).1
-
   pub file_there : (path bytes : Bytes) → IsAbove place path → file_at tree path ≡ Some bytes → IsSome (get tree path)
   file_there [] bytes above is = absurd (omega (arith, above_shorter place [] above))
   file_there (b ∷ path) bytes above is = stood (get tree (b ∷ path)) is

@@ -3,7 +3,7 @@ use Rattle.std.proofs.Common.{◌≡◌, ◌⊎◌, inl, inr, refl, sym, ◌∙�
 use Rattle.std.specs.Prelude.{IsTrue, Option, Some, None}
 use Rattle.std.specs.FinMap.{get}
 use Rattle.gix_ref_file.specs.Tree.{Tree, Node, file, folder, node_at, is_folder}
-use Rattle.gix_ref_file.specs.Changes.{to_make_folder, to_write, to_append, to_rename, MayLeave}
+use Rattle.gix_ref_file.specs.Changes.{to_make_folder, to_rename, MayLeave}
 use Rattle.gix_ref_file.specs.History.{History, Adds}
 use Rattle.gix_ref_file.proofs.Histories.{adds_weaker, adds_joined}
 use Rattle.gix_ref_file.proofs.Rooted.{adds_now}
@@ -51,13 +51,6 @@ then_keeps path t u x first second place is = on (first place is)
     on (inl stands) = inl (second place stands)
     on (inr gone) = inr gone
 
-pub others_now : (path : Bytes) (old new : History) → Adds (KeepsOtherFolders path old.tree) old new → KeepsOtherFolders path old.tree new.tree
-others_now path old new adds = from_now (adds_now _ old new adds)
-  where
-    from_now : (new.tree ≡ old.tree) ⊎ KeepsOtherFolders path old.tree new.tree → KeepsOtherFolders path old.tree new.tree
-    from_now (inl same) place is = inl (same_keeps old.tree new.tree same place is)
-    from_now (inr keeps) place is = keeps place is
-
 pub clear_stay : (path : Bytes) (old cleared : History) → Adds (ClearsWay path old.tree) old cleared → Adds (KeepsOtherFolders path old.tree) old cleared
 clear_stay path old cleared first = adds_weaker old cleared first (λ x clears. clears_keeps path old.tree x clears)
 
@@ -72,20 +65,9 @@ while_nothing path t x keeps place is = inl (keeps place is)
 
 -- ---- while files come and go
 
-pub while_appended : (path bytes : Bytes) (t x : Tree) → MayLeave (to_append path bytes) t x → KeepsFolders t x
-while_appended path bytes t x left = stay.same_stay t x (stay.while_appended path bytes t x left)
-
-pub while_written : (path bytes : Bytes) (t x : Tree) → MayLeave (to_write path bytes) t x → KeepsFolders t x
-while_written path bytes t x left = stay.same_stay t x (stay.while_written path bytes t x left)
-
 pub while_renamed : (from to : Bytes) (t x : Tree) → MayLeave (to_rename from to) t x → KeepsFolders t x
 while_renamed from to t x left = stay.same_stay t x (stay.while_renamed from to t x left)
 
 -- a change that keeps the folders, after others that did
 pub then_stay : {P : Tree → Type 0} (old mid new : History) → Adds (KeepsFolders old.tree) old mid → Adds P mid new → ((x : Tree) → P x → KeepsFolders mid.tree x) → Adds (KeepsFolders old.tree) old new
 then_stay old mid new first second keeps = keeps_joined old mid new first (adds_weaker mid new second keeps)
-
-pub file_stay : {P : Tree → Type 0} (path : Bytes) (old made new : History) → Adds (KeepsOtherFolders path old.tree) old made → Adds P made new → ((x : Tree) → P x → KeepsFolders made.tree x)
-    → Adds (KeepsOtherFolders path old.tree) old new
-file_stay path old made new first second keeps =
-    adds_joined old made new first (adds_weaker made new second (λ x p. then_keeps path old.tree made.tree x (others_now path old made first) (keeps x p)))

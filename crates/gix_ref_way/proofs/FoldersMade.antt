@@ -5,7 +5,7 @@ use Rattle.std.specs.List.{list_all, slice_split, onto_first, after_last}
 use Rattle.std.specs.FinMap.{get, insert}
 use Rattle.std.proofs.lemmas.Bool.Decides.{nat_tests}
 use borrow.Author.Tests.{leb-true}
-use Rattle.gix_ref_file.specs.Tree.{Tree, Node, file, folder, same_path, is_slash, is_component, is_path, parent, node_at, place_of, bytes_of, is_folder}
+use Rattle.gix_ref_file.specs.Tree.{Tree, Node, file, folder, same_path, is_slash, is_component, is_path, parent, node_at, place_of, is_folder}
 use Rattle.gix_ref_file.specs.Changes.{to_make_folder, allows, may_hold_file}
 use Rattle.gix_ref_file.specs.History.{HasRisen, HasCause}
 use Rattle.gix_ref_file.specs.declared.files.FileError.{FileError}
@@ -107,17 +107,6 @@ may_make t k path above absent = λ i. is_none (none (node_at t k) absent i) && 
     none (Some (file bytes)) h = cc
     none (Some folder) h = cc
 
--- if there is no file, there is a folder or nothing
-pub not_file : (o : Option Node) (size : ℕ) → bytes_of o ≡ None → place_of o ≡ places.File size → ⊥
-not_file None size none is = cc
-not_file (Some (file bytes)) size none is = cc
-not_file (Some folder) size none is = cc
-
-pub is_a_folder : (o : Option Node) → place_of o ≡ places.Folder → IsTrue (is_folder o)
-is_a_folder None is = cc
-is_a_folder (Some (file bytes)) is = cc
-is_a_folder (Some folder) is = refl
-
 -- ---- all folders above a path
 -- those above that end before this place in the path
 abbrev pub HasFoldersBefore : ℕ → Bytes → Tree → Type 0
@@ -156,9 +145,6 @@ none_made end path tree before other place above below = by_test (nat_le end (le
     by_test false near =
         let less : length place < end = grind (arith, nat_tests) in
         before place above less
-
-pub all_made : (end : ℕ) (path : Bytes) (tree : Tree) → length path ≤ end → HasFoldersBefore end path tree → HasFoldersAbove path tree
-all_made end path tree far before place above = before place above (omega (arith, far, above_shorter place path above))
 
 -- the folder that the next one is to be made in
 pub stands_in_made : (end : ℕ) (path place : Bytes) (tree : Tree) → length place ≤ end → IsAbove place path → HasFoldersBefore end path tree → IsTrue (is_folder (node_at tree (parent place)))

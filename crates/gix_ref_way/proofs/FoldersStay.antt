@@ -87,9 +87,6 @@ folder_so None e = cc
 folder_so (Some (file bytes)) e = cc
 folder_so (Some folder) e = refl
 
-pub same_stands : (t x : Tree) → SameFolders t x → (q : Bytes) → get t q ≡ Some folder → get x q ≡ Some folder
-same_stands t x same q is = folder_so (get x q) (same q ∙ ap is_folder is)
-
 pub same_stood : (t x : Tree) → SameFolders t x → (q : Bytes) → get x q ≡ Some folder → get t q ≡ Some folder
 same_stood t x same q is = folder_so (get t q) (sym (same q) ∙ ap is_folder is)
 

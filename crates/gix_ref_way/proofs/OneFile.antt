@@ -3,7 +3,7 @@ use Rattle.std.proofs.Common.{◌≡◌, ◌≢◌, ◌⊎◌, inl, inr, refl, s
 use Rattle.std.specs.Prelude.{IsTrue, Option, Some, None, is_some, is_none, Result, IsErrOf}
 use Rattle.std.specs.FinMap.{get, insert, remove}
 use Rattle.gix_ref_file.specs.Tree.{Tree, Node, file, same_path, node_at, bytes_of, bytes_at, is_folder}
-use Rattle.gix_ref_file.specs.Changes.{to_create, to_write, to_append, to_rename, to_remove_file, allows, after, may_hold_file, MayLeave}
+use Rattle.gix_ref_file.specs.Changes.{to_create, to_write, to_append, to_remove_file, allows, after, may_hold_file, MayLeave}
 use Rattle.gix_ref_file.specs.History.{History, Adds, HasCause, HasRisen}
 use Rattle.gix_ref_file.specs.declared.files.FileError.{FileError}
 use Rattle.gix_ref_file.specs.declared.files.FileError.TheVariants.{Failed}
@@ -93,14 +93,6 @@ one_stay k t x one = stay.same_stay t x (one_folders k t x one)
 
 pub one_brings : (k : Bytes) (t x : Tree) → ChangesOneFile k t x → BringsNone t x
 one_brings k t x one = stay.same_stood t x (one_folders k t x one)
-
-pub ones_folders : (k : Bytes) (old new : History) → Adds (ChangesOneFile k old.tree) old new → Adds (SameFolders old.tree) old new
-ones_folders k old new adds = adds_weaker old new adds (one_folders k old.tree)
-
-pub renamed_after : (k place : Bytes) (old mid new : History) → Adds (ChangesOneFile k old.tree) old mid → Adds (MayLeave (to_rename k place) mid.tree) mid new → Adds (SameFolders old.tree) old new
-renamed_after k place old mid new first second =
-    adds_joined old mid new (ones_folders k old mid first)
-    (adds_weaker mid new second (λ x left. stay.same_twice old.tree mid.tree x (one_folders k old.tree mid.tree (one_now k old mid first)) (stay.while_renamed k place mid.tree x left)))
 
 -- ---- a file in the place of one that was removed
 no_node : (o : Option Node) → is_none o ≡ true → is_some o ≡ false

@@ -31,9 +31,6 @@ use Rattle.gix_traverse_graph.proofs.Check.{not_from}
 use Rattle.std.proofs.lemmas.Bool.{and_from, and_parts}
 
 module _ (g : Commits ObjectId) (a : Asked) (t : Timing) (is : timing a ≡ Some t) (hides : ObjectId → Bool) (painted : (x : ObjectId) → (hides x ≡ true) ↔ ReachedFrom g a.hidden x) where
-  keep : ObjectId → Bool
-  keep = keep_since t.since g hides a.accepts
-
   pub keeps_since : (y : ObjectId) → Listed g (request_in (Some t) a) y → keep_since t.since g hides a.accepts y ≡ true
   keeps_since y l = and_from (not (hides y)) (a.accepts (id_of y) && in_time t.since (g y).time) (not_from (hides y) (λ h. l.1 ((painted y).0 h))) (passes l.0)
     where

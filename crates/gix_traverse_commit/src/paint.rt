@@ -1,4 +1,4 @@
-//! Painting the commits that hidden commits reach.
+//! Painting: the hidden commits, and all parents that they reach, are marked as hidden.
 
 ghost use Rattle.std.specs.Prelude.{◌≡◌, ℕ, List, true, ◌∷◌, ◌++◌, [], if◌then◌else◌, IfErr, OnOk};
 ghost use Rattle.gix_hash.specs.declared.object_id.ObjectId.{ObjectId};

@@ -1,4 +1,4 @@
-//! A walk over commits, each once.
+//! `Simple`: sets a walk's predicate, order, parents, hidden commits and rows; then `next`, lookups, content.
 
 ghost use Rattle.std.specs.Prelude.{◌≡◌, List, Contains, [], IfOk, IfErr, IsOk, true};
 ghost use Rattle.std.specs.Iterator.{at_most};
@@ -141,8 +141,8 @@ impl<F: FindInto + Drop, P: Accept + Drop> Simple<F, P> {
         ensures still { IsOver self → IfOk result (λ walk. lookups_of walk ≡ lookups_of self) }
         ensures whole { IsOver self → IsOk result }
     {
-        self.turn();
-        self.gather()?;
+        self.begin_anew();
+        self.make_tips()?;
         self.read_tips(sorting)?;
         self.sorting = sorting;
         Ok(self)
@@ -155,7 +155,7 @@ impl<F: FindInto + Drop, P: Accept + Drop> Simple<F, P> {
         ensures made { (a : Asked) → HasAhead P.accepts a self
             → IsMade P.accepts (record a { parents = parents }) result }
     {
-        self.turn();
+        self.begin_anew();
         self.parents = parents;
         self
     }
@@ -169,7 +169,7 @@ impl<F: FindInto + Drop, P: Accept + Drop> Simple<F, P> {
             → IfOk result (IsMade P.accepts (record a { hidden = tips.items })) }
         ensures whole { IsOk result }
     {
-        self.turn();
+        self.begin_anew();
         self.hidden = tips;
         Ok(self)
     }
@@ -223,7 +223,7 @@ impl<F: FindInto + Drop, P: Accept + Drop> Iterator for Simple<F, P> {
     /// The next commit; `None` if all are given, or an error was. Returns an error if the commit
     /// isn't found or isn't read, if the hidden commits aren't painted, and if no memory is left.
     fn next(&mut self) -> Option<Result<Info, Error>> {
-        if let Err(error) = self.ready() {
+        if let Err(error) = self.begin() {
             self.stop();
             return Some(Err(error));
         }

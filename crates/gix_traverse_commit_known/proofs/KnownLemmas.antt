@@ -33,9 +33,6 @@ use Rattle.gix_traverse_commit_known.proofs.Simply.{in_push}
 abbrev pub Keeps : List Node → List Node → Type 0
 Keeps nodes nodes' = (k : ℕ) (x : ObjectId) → At (ids_of nodes) k x → At (ids_of nodes') k x
 
-pub keeps_same : (nodes nodes' : List Node) → nodes' ≡ nodes → Keeps nodes nodes'
-keeps_same nodes nodes' e k x a = subst (λ (ns : List Node). At (ids_of ns) k x) (sym e) a
-
 pub keeps_named : (nodes nodes' : List Node) (id : ObjectId) → ids_of nodes' ≡ cond (list_any (same_id id) (ids_of nodes)) (ids_of nodes) (ids_of nodes ++ id ∷ []) → Keeps nodes nodes'
 keeps_named nodes nodes' id e k x a = subst (λ (xs : List ObjectId). At xs k x) (sym e) (go (list_any (same_id id) (ids_of nodes)))
   where
@@ -74,10 +71,6 @@ ids_kept nodes nodes' (n ∷ ns) w up =
 
 pub ids_push : (nodes : List Node) (ns : List Number) (n : Number) (x : ObjectId) → At (ids_of nodes) n.0 x → ids_at nodes (ns ++ n ∷ []) ≡ ids_at nodes ns ++ x ∷ []
 ids_push nodes ns n x a = map-append (id_at nodes) ns (n ∷ []) ∙ ap (λ (z : ObjectId). ids_at nodes ns ++ z ∷ []) (id_from_at nodes n x a)
-
-pub empty_ids : (nodes : List Node) (ns : List Number) → ids_at nodes ns ≡ [] → ns ≡ []
-empty_ids nodes [] e = refl
-empty_ids nodes (n ∷ ns) e = let z : ⊥ = cc in absurd z
 
 -- ---- what waits
 

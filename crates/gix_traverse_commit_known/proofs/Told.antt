@@ -1,5 +1,5 @@
 -- What the readers' parts say of a commit.
-use Rattle.std.proofs.Common.{◌≡◌, ℕ, List, [], ◌∷◌, ◌++◌, refl, sym, ap, ◌∙◌, subst, inl, inr, Option, Some, None, Result, Ok, Err, map, take, append-nil, ℤ, pos}
+use Rattle.std.proofs.Common.{◌≡◌, ℕ, List, [], ◌∷◌, ◌++◌, refl, sym, ap, ◌∙◌, subst, inl, inr, Option, Some, Result, Ok, Err, map, take, append-nil, ℤ, pos}
 use Rattle.std.specs.Prelude.{filter_map, IfOk, unwrap_or}
 use Rattle.std.specs.Result.{result_ok}
 use Rattle.std.proofs.lemmas.List.{map-append}
@@ -23,7 +23,7 @@ use Rattle.gix_object_lookup.specs.declared.find.existing_iter.Error.TheVariants
 use Rattle.gix_object_lines.specs.declared.kind.Kind.TheVariants as kinds
 use Rattle.gix_object_lines.specs.Person.{Person}
 use Rattle.gix_traverse_graph.specs.Commits.{Commit, Commits, asked, asked_parents}
-use Rattle.gix_traverse_commit_known.specs.Fetching.{ReadsParents, LacksParents, ParentsFault, FetchFault, ReadFault, find_error}
+use Rattle.gix_traverse_commit_known.specs.Fetching.{ReadsParents, LacksParents, ParentsFault, ReadFault, find_error}
 use Rattle.gix_traverse_graph.specs.Rows.{Holds}
 use Rattle.gix_traverse_commit_known.specs.Told.{TellsFront, TellsParents, TellsCommit, TellsSeconds, AreTold, beyond_told}
 use Rattle.gix_traverse_commit_known.specs.declared.fetch.FetchError.{FetchError}
@@ -54,9 +54,6 @@ committer_time here person (there, (parts, r, e)) = read_committer here there pa
 pub reads_more : (here mid there : Place) (parts : List Part) (part : Part) → Reads here parts mid → IsNext mid part there → Reads here (parts ++ part ∷ []) there
 reads_more here mid there [] part reads next = (there, subst (λ (p : Place). IsNext p part there) (sym reads) next, refl)
 reads_more here mid there (first ∷ parts) part reads next = (reads.0, reads.1, reads_more reads.0 mid there parts part reads.2 next)
-
-pub front_none : (here : Place) → TellsFront here [] here
-front_none here = record { parts = []; read = refl; parents = refl; front = refl }
 
 -- a line more of the front
 front_more : (here mid there : Place) (ids told : List Id) (part : Part) → TellsFront here ids mid → IsNext mid part there → filter_map parent_told (part ∷ []) ≡ told → filter_map beyond_told (part ∷ []) ≡ [] → TellsFront here (ids ++ told) there
@@ -94,9 +91,6 @@ module _ (here mid there : Place) (xs : List ObjectId) (given : Result Token dec
       other (token.Encoding x) a b = refl
       other (token.ExtraHeader x) a b = refl
       other (token.Message x) a b = refl
-
-pub past_end : (here mid after : Place) (ids : List Id) → TellsFront here ids mid → GivesToken mid None after → TellsParents here ids
-past_end here mid after ids f gives = (mid, f, inl gives.0)
 
 -- the first parent's line ends what is wanted
 pub first_parent : (here there : Place) (xs xs' : List ObjectId) (id : ObjectId) → xs ≡ [] → xs' ≡ xs ++ id ∷ [] → TellsFront here (map id_of xs') there → ReadsParents First here (map id_of xs')
@@ -170,9 +164,3 @@ pub parents_unread : (along : Parents) (honest may_fail : Type 0) (rows : List R
 parents_unread along honest may_fail rows table id content here (fault.Find error) h s e f = absurd f
 parents_unread along honest may_fail rows table id content here (fault.ObjectDecode error) h s e f = (h, λ t. (content, s t, subst (λ (p : Place). LacksParents along p error) e f))
 parents_unread along honest may_fail rows table id content here fault.Memory h s e f = tt
-
--- what stops a walk along some parents stops one along all
-pub parents_fault : (along : Parents) (honest may_fail : Type 0) (rows : List Row) (table : Table) (id : ObjectId) (content : List ℕ) (here : Place) (e : FetchError) → (¬ Holds rows id) → (honest → Stands table (id_of id) kinds.Commit content) → here ≡ start (id_of id).kind content → ParentsFault along here e → FetchFault honest may_fail rows table id e
-parents_fault along honest may_fail rows table id content here (fault.Find error) h s e f = absurd f
-parents_fault along honest may_fail rows table id content here (fault.ObjectDecode error) h s e (ids, there, after, front, gives, none) = (h, λ t. (content, s t, subst (λ (p : Place). LacksParents All p error) e (ids, there, after, front, gives, (λ (f : All ≡ First). let z : ⊥ = cc in absurd z))))
-parents_fault along honest may_fail rows table id content here fault.Memory h s e f = tt

@@ -23,10 +23,6 @@ IsTaken NewestFirst old turn new =
 IsTaken OldestFirst old turn new =
     (old ≡ turn ∷ new) × ((t : Turn) → Contains new t → (turn.time ≤ℤ t.time) × (t ≢ turn))
 
--- the turn of a commit
-abbrev pub turn_of : Commits ObjectId → ObjectId → Turn
-turn_of g x = record { time = (g x).time; id = x }
-
 -- the time that a commit counts with: its own, and 0 if its lookup failed
 abbrev pub CountsAs : Type 0 → Commits ObjectId → ObjectId → ℤ → Type 0
 CountsAs may_fail g x time = (time ≡ (g x).time) ⊎ ((time ≡ pos 0) × may_fail)

@@ -1,4 +1,4 @@
-//! Which commits a walk accepts.
+//! `Accept`: the predicate, which commits a walk accepts; `All` accepts each.
 
 ghost use Rattle.std.specs.Prelude.{◌≡◌, Bool, true};
 ghost use Rattle.gix_hash.specs.Id.{Id};

@@ -1,4 +1,4 @@
-//! Beginning anew from what is queued.
+//! Beginning anew, over `Known`: takes all hidden marks away, and makes tips of what is queued.
 
 ghost use Rattle.std.specs.Prelude.{◌≡◌, ◌⊎◌, true, false, [], ◌++◌, Contains, OnOk};
 ghost use Rattle.gix_hash.specs.declared.object_id.ObjectId.{ObjectId};
@@ -46,7 +46,7 @@ pub fn take_all(tips: &mut Vec<ObjectId>, known: &mut Known) -> Result<(), Alloc
     ensures unmet { OnOk result ((q : ObjectId) → is_met known.new.nodes q ≡ false
         → (is_met known.old.nodes q ≡ false) ⊎ Contains known.old.queue q) }
 {
-    'queued: while let Some(id) = known.pop() {
+    'queued: while let Some(id) = known.take_queued() {
         let marks = known.marks(&id);
         known.mark(
             id,

@@ -1,4 +1,4 @@
-//! A commit by its row, or by its object.
+//! `find`, `Either`: a commit by its row, or by its object; its tree's id, its committer's time.
 
 ghost use Rattle.std.specs.Prelude.{◌≡◌, Ok, ℤ, IfOk, IfErr, IfSome, IfNone, Contains};
 ghost use Rattle.std.specs.Option.{option_copied};

@@ -1,4 +1,4 @@
-//! Why a walk ends early.
+//! `Error`, `HiddenGraphError`: why `Simple` ends early, and conversions into these errors.
 
 ghost use Rattle.std.specs.Prelude.{◌≡◌};
 ghost use Rattle.gix_traverse_commit_known.specs.Faults.{hidden_error, error_of};

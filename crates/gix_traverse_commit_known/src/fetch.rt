@@ -1,4 +1,4 @@
-//! Reading the commits that a walk comes to.
+//! `Source`: reads times, and the parents that a walk goes along, by row or object; counts lookups; `FetchError`.
 
 ghost use Rattle.std.specs.Prelude.{◌≡◌, ◌≢◌, ◌⊎◌, [], Contains, IfOk, IfErr, IsOk, OnOk, map, unwrap_or, pos};
 ghost use Rattle.gix_hash.specs.Id.{id_of};

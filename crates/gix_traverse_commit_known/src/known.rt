@@ -1,4 +1,4 @@
-//! The commits that a walk knows, and those that are queued or wait, by their numbers.
+//! `Known`: marks commits, queues them or lets them wait, takes the first queued or due, clears; their ids.
 
 ghost use Rattle.std.specs.Prelude.{◌≡◌, ◌↔◌, ◌≤◌, ◌+◌, ◌++◌, ◌∷◌, [], if◌then◌else◌, IfOk, IfSome, IfNone, OnOk, true};
 ghost use Rattle.gix_hash.specs.Id.{Id};
@@ -118,7 +118,7 @@ impl Known {
     }
 
     /// Takes what is queued first.
-    pub fn pop(&mut self) -> Option<ObjectId>
+    pub fn take_queued(&mut self) -> Option<ObjectId>
         ensures nodes { self.new.nodes ≡ self.old.nodes }
         ensures first { IfSome result (λ id. self.old.queue ≡ id ∷ self.new.queue) }
         ensures none { IfNone result (self.old.queue ≡ []) }

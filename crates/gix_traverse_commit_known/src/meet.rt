@@ -1,4 +1,4 @@
-//! Meeting commits: tips and parents, each once.
+//! Meeting commits in breadth order: marks them as met, calls the predicate, queues tips and parents once.
 
 ghost use Rattle.std.specs.Prelude.{◌≡◌, List, true, false, not, ◌&&◌, [], ◌∷◌, ◌++◌, if◌then◌else◌, Contains, OnOk};
 ghost use Rattle.gix_hash.specs.Id.{id_of};

@@ -1,4 +1,4 @@
-//! The commits that a walk knows, by their numbers, and what was marked of each.
+//! `Nodes`, `Marks`: each commit's number and marks (met, hidden), found by its id; ids by number.
 
 ghost use Rattle.std.specs.Prelude.{◌≡◌, ◌++◌, ◌∷◌, ℕ, [], if◌then◌else◌, IfOk, IfSome, IfNone, OnErr, OnOk, slice_get, true};
 ghost use Rattle.std.specs.List.{list_any};

@@ -1,4 +1,4 @@
-//! The commits that wait in a walk by time, by their numbers, in the order of their times.
+//! `Waiting`, `Turn`: commits that wait by time; put in, taken newest or oldest first, or all; by id or number.
 
 ghost use Rattle.std.specs.Prelude.{◌≡◌, ◌⊎◌, ◌≤◌, ◌+◌, ◌↔◌, Bool, [], ◌∷◌, ◌++◌, Contains, IfSome, IfNone, IfOk, OnErr, OnOk, true, if◌then◌else◌};
 ghost use Rattle.std.specs.List.{count_by};

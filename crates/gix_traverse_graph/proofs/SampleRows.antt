@@ -1,10 +1,10 @@
 -- The rows that a table's tests accept are in the orders.
-use Rattle.std.proofs.Common.{◌≡◌, ℕ, zero, suc, List, [], ◌∷◌, refl, sym, ap, subst, Some, Bool, true, false, nat_eq, unwrap_or, T, eqb-true, eq-eqb}
+use Rattle.std.proofs.Common.{◌≡◌, ℕ, zero, suc, List, [], ◌∷◌, refl, sym, ap, subst, Some, Bool, true, false, nat_eq, unwrap_or, eqb-true, eq-eqb}
 use Rattle.std.specs.Prelude.{Contains, not, ⊤}
 use Rattle.std.specs.List.{list_any, list_all}
 use Rattle.std.specs.Int.Signed.{le_z_yes}
 use Rattle.gix_traverse_graph.specs.Order.{At, IsListOf, IsBreadthFirst, IsReady, IsOpen, NewestFirst, OldestFirst, Outranks}
-use Rattle.gix_traverse_graph.specs.Commits.{Commit, Commits, WalkRequest, asked_parents, Reached, tip, parent, Passes, Hides, Listed}
+use Rattle.gix_traverse_graph.specs.Commits.{Commit, WalkRequest, asked_parents, Reached, tip, parent, Passes, Hides, Listed}
 use Rattle.gix_traverse_graph.specs.Walks.{InBreadth, FinishedTopologically, FinishedByDate, ByNewest, ByOldest}
 use Rattle.gix_traverse_graph.specs.Slow.{breadth_list}
 use Rattle.gix_traverse_graph.specs.Sorting.{in_time}
@@ -21,18 +21,11 @@ use Rattle.std.proofs.lemmas.Bool.{and_from, and_parts}
 pub nat_eq_apart : TellsApart nat_eq
 nat_eq_apart = record { same = eqb-true; itself = λ x. eq-eqb x x refl }
 
-true_from_T : (b : Bool) → T b → b ≡ true
-true_from_T true t = refl
-true_from_T false t = absurd t
-
 not_true : (b : Bool) → not b ≡ true → b ≡ true → ⊥
 not_true true e f = cc
 not_true false e f = cc
 
 module _ (commits : List (Commit ℕ)) (q : WalkRequest ℕ) where
-  g : Commits ℕ
-  g = graph_of commits
-
   -- kept, as a fact
   abbrev pub Kept : ℕ → Type 0
   Kept x = Passes (graph_of commits) q x × (¬ Hides (graph_of commits) q x)

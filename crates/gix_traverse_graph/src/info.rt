@@ -1,4 +1,4 @@
-//! What a walk gives of a commit.
+//! `Info`: what a walk gives of a commit (id, parents, generation, time), and copies of it.
 
 ghost use Rattle.std.specs.Prelude.{◌≡◌, IfOk};
 

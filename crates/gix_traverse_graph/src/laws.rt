@@ -1,4 +1,4 @@
-//! Laws over the definitions alone.
+//! Laws: one list alone is in breadth, and one in topological order; all orders list one set.
 
 ghost use Rattle.std.specs.Prelude.{◌≡◌, ◌↔◌, List, Contains, IsTrue};
 ghost use Rattle.gix_traverse_graph.specs.Commits.{Commits, WalkRequest};

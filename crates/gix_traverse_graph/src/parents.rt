@@ -1,4 +1,4 @@
-//! Along which parents a walk goes.
+//! `Parents`: whether a walk goes along all parents of a commit (the default), or the first alone.
 
 ghost use Rattle.std.specs.Prelude.{◌≡◌};
 ghost use Rattle.gix_traverse_graph.specs.declared.parents.Parents.TheVariants.{All as AllParents};

@@ -1,4 +1,4 @@
-//! Rows: what is known of commits without reading them.
+//! `Graph`: rows of commits, numbered, parents and generations checked (`RowsError`); lookups by id, copies.
 
 ghost use Rattle.std.specs.Prelude.{◌≡◌, ◌≢◌, ◌+◌, ◌<◌, ◌≤◌, ℕ, Contains, IfOk, IfErr, IfSome, IfNone, IsSome};
 ghost use Rattle.gix_traverse_graph.specs.Rows.{Holds, HasParents, HasGeneration, IsGreatest, AreRows, IsRowsFault, IsOnce, LacksParent};

@@ -1,4 +1,4 @@
-//! The sample history, by the definitions.
+//! A sample history: lists that the definitions allow and refuse, and that the slow tests find.
 
 ghost use Rattle.std.specs.Prelude.{◌≡◌, ℕ, List, [], ◌∷◌, Some, true, false};
 ghost use Rattle.gix_traverse_graph.specs.Walks.{InBreadth, InTopological, InDate, ByNewest, ByOldest};

@@ -1,4 +1,4 @@
-//! The orders of a walk.
+//! `Sorting`: a walk's order, by breadth or time; the test of a cutoff, and the time that is shown.
 
 ghost use Rattle.std.specs.Prelude.{◌≡◌, unwrap_or, pos};
 ghost use Rattle.gix_hash.specs.declared.object_id.ObjectId.{ObjectId};

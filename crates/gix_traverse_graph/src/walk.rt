@@ -1,4 +1,4 @@
-//! A walk over rows in breadth order.
+//! `breadth_first`: the walk over rows alone; its queue, seen commits, parents and hidden commits; `WalkError`.
 
 ghost use Rattle.std.specs.Prelude.{◌≡◌, List, [], ◌∷◌, ◌++◌, length, IfOk, IfErr, OnOk, OnErr, IfSome, IfNone, IsNone, IsSome, if◌then◌else◌, true};
 ghost use Rattle.std.specs.HashSet.{contains};
@@ -56,7 +56,7 @@ fn parents_along<'g>(rows: &'g Graph, id: &ObjectId, parents: Parents) -> Option
 }
 
 /// Keeps a commit as seen.
-fn see(seen: &mut HashSet<ObjectId>, id: ObjectId) -> Result<(), AllocError>
+fn mark_seen(seen: &mut HashSet<ObjectId>, id: ObjectId) -> Result<(), AllocError>
     ensures { OnOk result ((q : ObjectId) → contains same_id seen.new q
         ≡ (if same_id id q then true else contains same_id seen.old q)) }
 {
@@ -82,7 +82,7 @@ pub(crate) fn meet(
 }
 
 /// Queues the parents of a commit, or says that it has no row.
-fn enter(
+fn queue_parents(
     rows: &Graph,
     parents: Parents,
     seen: &mut HashSet<ObjectId>,
@@ -134,7 +134,7 @@ impl<'g> Walk<'g> {
         let mut seen: HashSet<ObjectId> = HashSet::new(alloc);
         let mut queue: VecDeque<ObjectId> = VecDeque::new(alloc);
         'hides: for id in hides {
-            see(&mut seen, *id)?;
+            mark_seen(&mut seen, *id)?;
         }
         'tips: for tip in tips {
             meet(&mut seen, &mut queue, *tip)?;
@@ -167,7 +167,7 @@ impl<'g> Walk<'g> {
         ensures ended { self.old.queue.items ≡ [] → IsNone result }
     {
         let id = self.queue.pop_front()?;
-        match enter(self.rows, self.parents, &mut self.seen, &mut self.queue, id) {
+        match queue_parents(self.rows, self.parents, &mut self.seen, &mut self.queue, id) {
             Ok(()) => Some(Ok(id)),
             Err(error) => {
                 self.queue.clear();
@@ -177,6 +177,7 @@ impl<'g> Walk<'g> {
     }
 }
 
+/// Appends a commit to those that are listed.
 fn append(listed: &mut Vec<ObjectId>, id: ObjectId) -> Result<(), AllocError>
     ensures { OnOk result (listed.new.items ≡ listed.old.items ++ id ∷ []) }
 {

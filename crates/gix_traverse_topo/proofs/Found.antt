@@ -1,6 +1,6 @@
 -- Which faults were found, and commits as far as they were read.
 use Rattle.std.proofs.Common.{◌≡◌, ℕ, zero, suc, List, [], ◌∷◌, refl, sym, ◌∙◌, ap, subst, arith, Some, None, Option, Bool, true, false, cond}
-use Rattle.std.specs.Prelude.{Contains, IfSome, IsSome, pos}
+use Rattle.std.specs.Prelude.{Contains, IfSome, IsSome}
 use Rattle.gix_hash.specs.declared.object_id.ObjectId.{ObjectId}
 use Rattle.gix_object_lookup.specs.Table.{Table}
 use Rattle.gix_traverse_graph.specs.Commits.{Commit, Commits, tip, parent}
@@ -62,10 +62,6 @@ fault_in keys told x = pick_in (λ (r : Facts). r.fault) None keys told x
 
 pub fault_at : (keys : List ObjectId) (told : List Facts) (n : ℕ) (x : ObjectId) (facts : Facts) → IsOnce keys → At keys n x → At told n facts → fault_in keys told x ≡ facts.fault
 fault_at keys told n x facts once a b = pick_at (λ (r : Facts). r.fault) None keys told n x facts once a b
-
--- the commits by what was read alone
-abbrev pub seen_in : List ObjectId → List Facts → Commits ObjectId
-seen_in keys told x = pick_in (λ (r : Facts). record { parents = r.parents.items; time = r.time }) (record { parents = []; time = pos 0 }) keys told x
 
 pub fault_from : (keys : List ObjectId) (told : List Facts) (x : ObjectId) (error : Error) → fault_in keys told x ≡ Some error → (n : ℕ) × (facts : Facts) × At keys n x × At told n facts × (facts.fault ≡ Some error)
 fault_from [] told x error e = let z : ⊥ = cc in absurd z

@@ -142,9 +142,6 @@ module _ (sorting : Sorting) (rows : List Row) (h : Commits ObjectId) (tips : Li
   x_of = st.numbered p (popped_in ready ready' p popped)
 
   module _ (x : ObjectId) (here : At known.ids.keys p.number.0 x) where
-    low : known.hidden ≤ p.number.0
-    low = x_of.1
-
     pub x_is : id_at known.ids.keys p.number.0 ≡ x
     x_is = at_id known.ids.keys p.number.0 x here
 

@@ -156,9 +156,6 @@ module _ (low : ℕ) (told : List Facts) (cs : List ℕ) where
 pub le_self : (n : ℕ) → n ≤ n
 le_self n = omega arith
 
-pub smaller : (a b : ℕ) → b ≡ a + 1 → a < 2 ^ 64 → 2 ^ 64 - b < 2 ^ 64 - a
-smaller a b e l = omega arith
-
 pub index_smaller : (a : ℕ) → a + 1 < 2 ^ 64 → 2 ^ 64 - (a + 1) < 2 ^ 64 - a
 index_smaller a l = omega arith
 

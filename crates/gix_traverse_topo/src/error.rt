@@ -1,4 +1,4 @@
-//! Why a walk isn't built, or ends early.
+//! `Error`: why `Builder` builds no walk or `Topo` ends early, and conversions into it.
 
 ghost use Rattle.std.specs.Prelude.{◌≡◌};
 ghost use Rattle.gix_traverse_topo.specs.Faults.{error_of};

@@ -1,4 +1,4 @@
-//! The builder of a walk.
+//! `Builder`: sets tips, ends, order, parents, rows, predicate; `build` explores what ends and tips reach.
 
 ghost use Rattle.std.specs.Prelude.{◌≡◌, ◌+◌, ◌≤◌, ◌++◌, [], length, IfOk, IfErr, IfSome, IfNone, IsOk, None};
 ghost use Rattle.gix_hash.specs.declared.object_id.ObjectId.{ObjectId};
@@ -217,7 +217,7 @@ impl<F: FindInto + Drop, P: Accept + Drop> Builder<F, P> {
             self.ends.as_slice(),
             self.parents,
         )?;
-        let ready = Ready::new(self.sorting, known.free(alloc)?)?;
+        let ready = Ready::new(self.sorting, known.without_children(alloc)?)?;
         Ok(Topo {
             predicate: self.predicate,
             known,

@@ -1,4 +1,4 @@
-//! The walk.
+//! `Topo`: gives the next accepted commit, counts it off its parents, of which some get ready; lookups.
 
 ghost use Rattle.std.specs.Prelude.{true, false, ◌≡◌, ◌+◌, ◌<◌, ◌≤◌, [], ℕ, List, OnOk, IfOk, IfErr, OnErr, IfSome, IfNone, IsNone, Option, Some, ◌⊎◌, length};
 ghost use Rattle.std.specs.Iterator.{at_most};

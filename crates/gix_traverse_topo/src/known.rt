@@ -1,4 +1,4 @@
-//! The commits that a walk knows, each by a number.
+//! `Known`: numbers and reads commits, or their faults; counts children not yet given; finds commits without any.
 
 ghost use Rattle.std.specs.Prelude.{◌≡◌, ◌+◌, ◌^◌, ◌<◌, ◌≤◌, ◌==◌, ◌⊎◌, ℕ, [], length, OnOk, IfOk, IfErr, IfSome, IfNone, Some, None, slice_get, slice_set};
 ghost use Rattle.indexmap.specs.IndexSet.{insert_key};
@@ -67,7 +67,7 @@ pub(crate) struct Known {
 }
 
 // What fills the place of a commit until it is read.
-fn unread(alloc: Global) -> Facts
+fn unread_facts(alloc: Global) -> Facts
     ensures { result.parents.items ≡ [] }
 {
     Facts {
@@ -79,7 +79,7 @@ fn unread(alloc: Global) -> Facts
 }
 
 // What fills the place of a commit that isn't read, for this fault.
-fn blank(alloc: Global, fault: FetchError) -> Result<Facts, Error>
+fn failed_facts(alloc: Global, fault: FetchError) -> Result<Facts, Error>
     ensures blank { IfOk result (IsBlank fault) }
     ensures refused { IfErr result (λ error. error ≡ Memory) }
 {
@@ -113,7 +113,7 @@ fn read<F: FindInto>(source: &mut Source<F>, id: &ObjectId) -> Result<Facts, Err
             generation: commit.generation,
             fault: None,
         }),
-        Err(fault) => blank(alloc, fault),
+        Err(fault) => failed_facts(alloc, fault),
     }
 }
 
@@ -227,7 +227,7 @@ impl Known {
         if is_new {
             let alloc: Global = *self.nodes.allocator();
             self.nodes.push(Node {
-                facts: unread(alloc),
+                facts: unread_facts(alloc),
                 names: 0,
             })?;
         }
@@ -380,7 +380,7 @@ impl Known {
     }
 
     // Returns whether no commit that is still to be given names this one.
-    fn is_free(&self, number: Number) -> bool
+    fn has_no_child(&self, number: Number) -> bool
         ensures { (count : ℕ) → At (counts self.now.nodes.items) number.0 count
             → result ≡ (count == 0) }
     {
@@ -392,14 +392,14 @@ impl Known {
 
     /// Those that the tips reach and none names, in the order of their numbers. Returns `Memory` if
     /// no memory is left.
-    pub fn free(&self, alloc: Global) -> Result<Vec<Pending>, Error>
+    pub fn without_children(&self, alloc: Global) -> Result<Vec<Pending>, Error>
         ensures free { IfOk result (λ first. IsFree self.now.hidden (all_facts self.now.nodes.items)
             (counts self.now.nodes.items) first.items) }
         ensures refused { IfErr result (λ error. error ≡ Memory) }
     {
         let mut first: Vec<Pending> = Vec::new(alloc);
         'commits: for place in self.hidden..self.nodes.as_slice().len() {
-            if self.is_free(Number(place)) {
+            if self.has_no_child(Number(place)) {
                 if let Some(pending) = self.pending(Number(place)) {
                     first.push(pending)?;
                 }

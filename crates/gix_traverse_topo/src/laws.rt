@@ -1,4 +1,4 @@
-//! Laws over the definitions alone.
+//! A law: date and topological order list the set that any order lists.
 
 ghost use Rattle.std.specs.Prelude.{◌↔◌, List, Contains, IsTrue};
 ghost use Rattle.gix_hash.specs.declared.object_id.ObjectId.{ObjectId};

@@ -1,4 +1,4 @@
-//! The commits that may be given next, the one whose turn it is first.
+//! `Ready`: commits whose children are all given: added, popped by date or topology, or cleared.
 
 ghost use Rattle.std.specs.Prelude.{◌≡◌, OnOk, IfOk, IfSome, IfNone, [], ◌∷◌, IsPermutation};
 ghost use Rattle.gix_traverse_topo.specs.Waiting.{waiting, Sorted, Joined, Popped};

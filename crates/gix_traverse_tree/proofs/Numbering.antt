@@ -99,11 +99,6 @@ empty_behind [] n none (suc i) name = refl
 empty_behind (k ∷ folders) n none zero name = refl
 empty_behind (k ∷ folders) n none (suc i) name = empty_behind folders n none i name
 
-pub none_past : (folders : List Folder) (i : ℕ) (name : Name) → length folders ≤ i → numbers_of folders i name ≡ None
-none_past [] i name le = refl
-none_past (k ∷ folders) zero name le = absurd (omega arith)
-none_past (k ∷ folders) (suc i) name le = let less : length folders ≤ i = omega arith in none_past folders i name less
-
 pub none_is_some : {A : Type 0} {x : A} {B : Type 0} → None ≡ Some x → B
 none_is_some e = cc
 
@@ -113,17 +108,6 @@ within (k ∷ folders) zero n name e = omega arith
 within (k ∷ folders) (suc i) n name e = let less = within folders i n name e in omega arith
 
 -- ---- one name
-
-pub grows_not : (folders : List Folder) → IsNumbered folders → Grows folders folders
-grows_not folders numbered = record { numbered = numbered; longer = omega arith; kept = λ i n name e. e }
-
-pub named_before : (folders : List Folder) (at number : ℕ) (name : Name) → IsNumbered folders → numbers_of folders at name ≡ Some number → NumbersName at name number folders folders
-named_before folders at number name numbered e = record {
-  grows = grows_not folders numbered;
-  here = e;
-  within = (numbered.later at number name e).1;
-  added = λ i n other k. inl k;
-}
 
 module _ (old new : List Folder) (at : ℕ) (name : Name) (numbered : IsNumbered old) (inside : at < length old)
     (none : numbers_of old at name ≡ None) (longer : length new ≡ suc (length old))
@@ -227,16 +211,6 @@ pub record Along (path : Path) (items : List (Bor Name)) (i at : ℕ) (old new :
   pub added : (k n : ℕ) (name : Name) → numbers_of new k name ≡ Some n
       → (numbers_of old k name ≡ Some n) ⊎ ((before : Path) × Way (numbers_of new) 0 before k × Begins path before)
 
-pub along_start : (path : Path) (items : List (Bor Name)) (folders : List Folder) → texts items ≡ path → IsNumbered folders → 0 < length folders → Along path items 0 0 folders folders
-along_start path items folders same numbered some = record {
-  grows = grows_not folders numbered;
-  within = some;
-  front = [];
-  split = same;
-  way = refl;
-  added = λ k n name e. inl e;
-}
-
 grows_more : (a b c : List Folder) → Grows a b → Grows b c → Grows a c
 grows_more a b c one two = record {
   numbered = two.numbered;
@@ -276,21 +250,6 @@ along_more path items i at number d old mid new inside along step = record {
       | inr is ↦ inr (along.front, subst (Way (numbers_of new) 0 along.front) (sym is.0) way, (name, texts (drop (i + 1) items), cut))
     ]
 
-pub along_all : (path : Path) (items : List (Bor Name)) (i at : ℕ) (old new : List Folder) → texts (drop i items) ≡ [] → Along path items i at old new → NumbersPath path at old new
-along_all path items i at old new end along = record {
-  grows = along.grows;
-  within = along.within;
-  way = subst (λ p. Way (numbers_of new) 0 p at) whole along.way;
-  added = along.added;
-}
-  where
-    none_behind : (p : Path) → p ++ [] ≡ p
-    none_behind [] = refl
-    none_behind (x ∷ p) = ap (λ q. x ∷ q) (none_behind p)
-
-    whole : along.front ≡ path
-    whole = sym (none_behind along.front) ∙ ap (λ rest. along.front ++ rest) (sym end) ∙ along.split
-
 -- ---- all paths
 
 pub have_kept : (a b : List Folder) → Grows a b → (paths : List Path) (numbers : List ℕ) → HaveNumbers a paths numbers → HaveNumbers b paths numbers
@@ -317,18 +276,6 @@ begins_before (p ∷ paths) path front (inr h) = inr (begins_before paths path f
 begins_last : (paths : List Path) (path front : Path) → Begins path front → BeginsOne (paths ++ path ∷ []) front
 begins_last [] path front h = inl h
 begins_last (p ∷ paths) path front h = inr (begins_last paths path front h)
-
-pub paths_start : (folder : Folder) → ((name : Name) → number_in folder name ≡ None) → NumbersPaths [] [] (folder ∷ [])
-paths_start folder none = record {
-  some = omega arith;
-  numbered = record { later = λ i n name e. none_is_some (sym (nothing i name) ∙ e); once = λ i j n a b e f. none_is_some (sym (nothing i a) ∙ e) };
-  have = tt;
-  used = λ i n name e. none_is_some (sym (nothing i name) ∙ e);
-}
-  where
-    nothing : (i : ℕ) (name : Name) → numbers_of (folder ∷ []) i name ≡ None
-    nothing zero name = none name
-    nothing (suc i) name = refl
 
 pub paths_more : (paths : List Path) (numbers : List ℕ) (path : Path) (number : ℕ) (old new : List Folder) → NumbersPaths paths numbers old → NumbersPath path number old new
     → NumbersPaths (paths ++ path ∷ []) (numbers ++ number ∷ []) new

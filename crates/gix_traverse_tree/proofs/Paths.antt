@@ -35,6 +35,3 @@ parent_taken path front back e h =
 
 pub parent_untaken : (path : List ℕ) → Lacks 47 path → take 0 path ≡ parent path
 parent_untaken path h = sym (parent_of_name path h)
-
-joined_nothing : (folder : List ℕ) → joined folder [] ≡ folder
-joined_nothing folder = refl

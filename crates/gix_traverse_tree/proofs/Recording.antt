@@ -16,10 +16,6 @@ use Rattle.gix_traverse_tree.specs.declared.recorder.Location.{Location}
 use Rattle.gix_traverse_tree.specs.declared.recorder.Location.TheVariants.{Path, FileName}
 use Rattle.gix_traverse_tree.proofs.Paths.{parent_of_joined}
 
-pub runs_split : {S : Type 0} (G : S → Call → S → Type 0) (xs ys : List Call) (a b : S) → Runs G a (xs ++ ys) b → (m : S) × Runs G a xs m × Runs G m ys b
-runs_split G [] ys a b h = (a, refl, h)
-runs_split G (x ∷ xs) ys a b (next, step, later) = let r = runs_split G xs ys next b later in (r.0, (next, step, r.1), r.2)
-
 -- ---- lists
 
 pub cons_is_not_nil : {A : Type 0} (x : A) (xs : List A) → (x ∷ xs) ≡ [] → ⊥
@@ -53,9 +49,6 @@ is_after (x ∷ xs) a b (next, (goes, e), later) =
 pub all_split : {A : Type 0} (P : A → Type 0) (xs ys : List A) → AllByRecursion P (xs ++ ys) → AllByRecursion P xs × AllByRecursion P ys
 all_split P [] ys h = (tt, h)
 all_split P (x ∷ xs) ys (p, h) = let r = all_split P xs ys h in ((p, r.0), r.1)
-
-all_head : {A : Type 0} (P : A → Type 0) (x : A) (xs : List A) → AllByRecursion P (x ∷ xs) → P x
-all_head P x xs (p, h) = p
 
 pub all_tail : {A : Type 0} (P : A → Type 0) (x : A) (xs : List A) → AllByRecursion P (x ∷ xs) → AllByRecursion P xs
 all_tail P x xs (p, h) = h
@@ -125,9 +118,6 @@ resumed None above folder queue path entries e = record
 -- an entry is pushed, shown and left
 abbrev pub past : Item → Bool → List Call
 past item answer = shown item (Continue answer) ++ (pop ∷ [])
-
-entry_in : (location : Option Location) (folder path : Bytes) (item : Item) → Recorded
-entry_in location folder path item = recorded_in location folder item
 
 -- showing records the entry, whatever it is
 shows : (a : Recording) (item : Item) (answer : Bool) → after_calls a (visit_of item (Continue answer) ∷ []) ≡ with_entry a item

@@ -1,6 +1,5 @@
 -- The trees of all numbers, read one after another.
-use Rattle.std.proofs.Common.{◌≡◌, ◌≢◌, ◌∙◌, refl, sym, ap, subst, ℕ, zero, suc, ◌+◌, ◌<◌, ◌≤◌, inl, inr, true, false, List, [], ◌∷◌, length, get_or, Option, Some, None, arith}
-use Rattle.std.specs.Prelude.{option_map}
+use Rattle.std.proofs.Common.{◌≡◌, ◌≢◌, ◌∙◌, refl, sym, subst, ℕ, zero, suc, ◌+◌, ◌<◌, ◌≤◌, inl, inr, true, List, [], ◌∷◌, length, get_or, Option, Some, None, arith}
 use Rattle.std.specs.Bool.{MatchBool}
 use Rattle.std.proofs.lemmas.Bool.{cases_eq}
 use Rattle.gix_object_tree.specs.Order.{is_tree}
@@ -26,13 +25,6 @@ module _ (H : Type 0) (table : Table) (folder : Folder) where
       subst (λ b. MatchBool b ((t : Place) × IsNamedBy H table (item_named [] answer) t × FindsFirst t name (told_at name found n)) (told_at name found n ≡ None)) (sym of_tree) (tree, named, told name n e) in
       subst (λ p. StepsTo H table p name (known found n)) (sym is) below
 
-  -- nothing is known below what is no tree
-  pub steps_none : (place : Option Answer) (name : Name) (next : Option Answer) → next ≡ None → ((answer : Answer) → place ≡ Some answer → is_tree (item_named [] answer) ≡ false) → StepsTo H table place name next
-  steps_none None name next none no_tree = none
-  steps_none (Some answer) name next none no_tree =
-      subst (λ b. MatchBool b ((t : Place) × IsNamedBy H table (item_named [] answer) t × FindsFirst t name (option_map (item_named name) next)) (option_map (item_named name) next ≡ None)) (sym (no_tree answer refl))
-      (ap (option_map (item_named name)) none)
-
 -- ---- all trees
 
 counted_few : (folders : List Folder) (found : List (Option Answer)) (n asked : ℕ) → Counted folders found n asked → asked ≤ n
@@ -51,13 +43,6 @@ counted_same folders old new (suc n) asked same (before, counted, inr (is, none)
     (before, counted_same folders old new n before (λ i lt. same i (omega arith)) counted, inr (is, λ here. none (asked_same folders new old n (sym (same n (omega arith))) here)))
 
 module _ (H M : Type 0) (table : Table) (folders : List Folder) (numbered : IsNumbered folders) where
-  pub reads_start : (found : List (Option Answer)) (asked : ℕ) → ((n : ℕ) → 0 < n → known found n ≡ None) → asked ≡ 0 → ReadsBelow H table folders found asked 0
-  reads_start found asked none fresh = record {
-    steps = λ i n name lt e. absurd (omega arith);
-    none = λ i n name le e. none n (let l = (numbered.later i n name e).0 in omega arith);
-    counted = fresh;
-  }
-
   -- the number whose tree is read
   module _ (k : ℕ) (folder : Folder) (there : (name : Name) → numbers_of folders k name ≡ number_in folder name) (old : List (Option Answer)) (asked : ℕ) (so : ReadsBelow H table folders old asked k) where
     child : (name : Name) (n : ℕ) → number_in folder name ≡ Some n → numbers_of folders k name ≡ Some n

@@ -1,4 +1,4 @@
-//! The entries at several paths.
+//! `entries_at`: the entries at several paths; reads each tree once, counts these, records the names found.
 
 ghost use Rattle.std.specs.Prelude.{◌≡◌, ◌<◌, ◌≤◌, ℕ, List, [], length, map, IfOk, IfErr, OnOk, Some, None};
 ghost use Rattle.std.specs.List.{All};
@@ -50,7 +50,11 @@ impl EntriesState {
 }
 
 // Records the entry at its name's number, unless one is there.
-fn tell(entry: &EntryRef<'_>, folder: &Folder<'_>, found: &mut Vec<Option<(EntryMode, ObjectId)>>)
+fn record_found(
+    entry: &EntryRef<'_>,
+    folder: &Folder<'_>,
+    found: &mut Vec<Option<(EntryMode, ObjectId)>>,
+)
     requires { (name : List ℕ) (n : ℕ) → number_in folder.now name ≡ Some n
         → n < length found.old.items }
     ensures here { (n : ℕ) → number_in folder.now (item_of entry.now).name ≡ Some n
@@ -68,7 +72,7 @@ fn tell(entry: &EntryRef<'_>, folder: &Folder<'_>, found: &mut Vec<Option<(Entry
 }
 
 // Records the first entry of each name that has a number.
-fn tell_names(
+fn record_all_found(
     entries: TreeRefIter<'_>,
     folder: &Folder<'_>,
     found: &mut Vec<Option<(EntryMode, ObjectId)>>,
@@ -82,7 +86,7 @@ fn tell_names(
     let mut rest = entries;
     'entries: while let Some(read) = rest.next() {
         let entry = read?;
-        tell(&entry, folder, found);
+        record_found(&entry, folder, found);
     }
     Ok(())
 }
@@ -133,7 +137,7 @@ impl EntriesState {
         self.asked += 1;
         read_tree(objects, &id, &mut self.content)?;
         let entries = TreeRefIter::from_bytes(self.content.as_slice(), id.kind());
-        tell_names(entries, folder, &mut self.found)?;
+        record_all_found(entries, folder, &mut self.found)?;
         Ok(())
     }
 

@@ -1,4 +1,4 @@
-//! Walks in breadth order.
+//! `breadthfirst` and its state: shows a level's entries, queues trees, reads the next level; finds cycles.
 
 ghost use Rattle.std.specs.Prelude.{◌≡◌, ◌↔◌, ◌<◌, ◌≤◌, ◌++◌, ◌∷◌, [], ℕ, List, Option, Some, IfOk, IfErr, IfSome, IsOk, OnOk, length, true, map};
 ghost use Rattle.std.specs.declared.ops.ControlFlow.TheVariants.{Continue, Break};
@@ -131,7 +131,7 @@ fn pass<V: Visit>(
 }
 
 // Shows the entries of a tree, and queues those to go below.
-fn list<V: Visit>(
+fn show_entries<V: Visit>(
     entries: TreeRefIter<'_>,
     above: Option<usize>,
     nodes: &mut Vec<Node>,
@@ -185,7 +185,7 @@ impl State {
         }
         read_tree(objects, &node.id, &mut self.content)?;
         let entries = TreeRefIter::from_bytes(self.content.as_slice(), node.id.kind());
-        list(entries, Some(number), &mut self.nodes, delegate)
+        show_entries(entries, Some(number), &mut self.nodes, delegate)
     }
 
     // Reads the trees of a level.
@@ -235,7 +235,7 @@ impl State {
             (place_of root.entry).input delegate.old delegate.new (failed error))) }
     {
         self.nodes.clear();
-        list(root, None, &mut self.nodes, delegate)?;
+        show_entries(root, None, &mut self.nodes, delegate)?;
         let mut start = 0;
         'levels: while start < self.nodes.len() {
             let end = self.nodes.len();

@@ -1,4 +1,4 @@
-//! What a walk over trees calls.
+//! `Visit`: the trait of a walk's delegate, which builds and queues paths, and is shown entries.
 
 ghost use Rattle.std.specs.Prelude.{IfOk, OnOk};
 ghost use Rattle.bstr.specs.BStr.{bstr_bytes};

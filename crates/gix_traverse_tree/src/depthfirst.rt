@@ -1,4 +1,4 @@
-//! Walks in depth order.
+//! `depthfirst`: shows the next entry of the innermost open tree, enters and leaves trees, finds cycles.
 
 ghost use Rattle.std.specs.Prelude.{◌≡◌, IfOk, IfErr, OnOk, reverse, length};
 ghost use Rattle.std.specs.List.{list_any};
@@ -75,7 +75,7 @@ fn pass<V: Visit>(entry: &EntryRef<'_>, delegate: &mut V) -> Result<Step, visit:
 
 impl Open {
     // What is left of the content.
-    fn left(&self) -> &[u8]
+    fn bytes_left(&self) -> &[u8]
         ensures { result.now ≡ left_of self.now }
     {
         self.content.get(self.offset..).unwrap_or(b"")
@@ -96,7 +96,7 @@ fn show_next<V: Visit>(tree: &mut Open, delegate: &mut V) -> Result<Step, Error>
         (λ step. ShowsNext V.goes delegate.old tree.old delegate.new tree.new step) }
     ensures refused { IfErr result (MemoryOr (HasNoNext delegate.old tree.old delegate.new)) }
 {
-    let mut entries = TreeRefIter::from_bytes(tree.left(), tree.id.kind());
+    let mut entries = TreeRefIter::from_bytes(tree.bytes_left(), tree.id.kind());
     let Some(read) = entries.next() else {
         return Ok(Step::Left);
     };
@@ -149,7 +149,7 @@ fn resume<V: Visit>(trees: &[Open], delegate: &mut V) -> Result<(), visit::Error
 }
 
 // Goes on by one entry, or out of a tree: whether there is more to do.
-fn go_on<F: FindInto, V: Visit>(
+fn take_step<F: FindInto, V: Visit>(
     trees: &mut Vec<Open>,
     state: &mut State,
     objects: &F,
@@ -210,7 +210,7 @@ fn walk<F: FindInto, V: Visit>(
     enter(root, &mut trees, state, objects, delegate)?;
     let mut more = true;
     'steps: while more {
-        more = go_on(&mut trees, state, objects, delegate)?;
+        more = take_step(&mut trees, state, objects, delegate)?;
     }
     Ok(())
 }

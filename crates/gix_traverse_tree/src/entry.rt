@@ -1,4 +1,4 @@
-//! Showing one entry to a delegate.
+//! Shows one entry, with its name, to a delegate, in either order, and returns the reply.
 
 ghost use Rattle.std.specs.Prelude.{IfOk};
 ghost use Rattle.gix_object_tree.specs.Entry.{item_of};

@@ -1,4 +1,4 @@
-//! Why a walk over trees ends early.
+//! `Error`: why a walk over trees ends early, and conversions into it.
 
 ghost use Rattle.std.specs.Prelude.{◌≡◌};
 ghost use Rattle.gix_traverse_tree.specs.declared.error.Error.TheVariants.{Find, ObjectDecode, Memory};

@@ -1,4 +1,4 @@
-//! What begins paths, numbered.
+//! For `entries_at`: splits paths into names, and numbers the folders that begin them.
 
 ghost use Rattle.std.specs.Prelude.{◌≡◌, ◌≢◌, ◌<◌, ◌⊎◌, ⊤, ℕ, List, [], length, map, IfOk, OnOk, Some, None, MatchBool};
 ghost use Rattle.gix_traverse_tree.specs.AtPaths.{names_of as names_between, BeginsOne};

@@ -1,4 +1,4 @@
-//! Laws over the definitions, for each store.
+//! Laws: which entries and paths a recorder records in a whole walk, in depth or breadth order.
 
 ghost use Rattle.std.specs.Prelude.{◌≡◌, [], ◌++◌, List, ℕ};
 ghost use Rattle.gix_hash.specs.Id.{Id};

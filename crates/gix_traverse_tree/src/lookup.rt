@@ -1,4 +1,4 @@
-//! Looking a tree up.
+//! Reads the content of the tree of an id from the store; refuses other kinds of objects.
 
 ghost use Rattle.std.specs.Prelude.{OnOk, IfErr, Contains};
 ghost use Rattle.gix_hash.specs.Id.{id_of};

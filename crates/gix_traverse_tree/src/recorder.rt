@@ -1,4 +1,4 @@
-//! A delegate that records each entry of a walk.
+//! `Recorder`: a delegate that tracks the path and records each entry with it; copies of records.
 
 ghost use Rattle.std.specs.Prelude.{◌≡◌, [], Some, IfOk, IsOk, OnOk, map, take, unwrap_or};
 ghost use Rattle.bstr.specs.BStr.{bstr_bytes};

@@ -1,4 +1,4 @@
-//! What a delegate returns to a walk.
+//! What a delegate returns: the `Action`, to go below, past or end; its `Error`, conversions into it.
 
 ghost use Rattle.std.specs.Prelude.{◌≡◌};
 ghost use Rattle.gix_traverse_tree.specs.declared.visit.Error.TheVariants.{Memory};

@@ -23,11 +23,12 @@ use Rattle.history_model.specs.Stops.{is_changing}
 use Rattle.history_plans.specs.Halves.{names_tree}
 use Rattle.history_repository.specs.Stands.{Stands}
 use Rattle.history_repository.specs.declared.repository.Repository.{Repository}
-use Rattle.history.specs.Acts.{Acts, CountsFailure}
+use Rattle.history.specs.Acts.{Acts, LeavesFiles, LeavesAsAsked}
+use Rattle.history.specs.Runs.{CountsFailure}
 use Rattle.history.specs.Calls.{ActsAsAsked, NamesPass, StoresAlone}
 use Rattle.history.specs.Moments.{ObjectsPass}
 use Rattle.history.specs.Moving.{LeavesMoved}
-use Rattle.history.specs.NameFiles.{ChangesHeadAlone, ChangesNameAlone, LeavesFiles, LeavesAsAsked, RenamesAlone, TakesNameAlone}
+use Rattle.history.specs.NameFiles.{ChangesHeadAlone, ChangesNameAlone, RenamesAlone, TakesNameAlone}
 use Rattle.history.specs.Replies.{TellsDone}
 use Rattle.history.specs.Storing.{AreMovesOf, HasStored, IsDone, StoresObjects}
 use Rattle.history.specs.declared.moves.Moves.{Moves}

@@ -2,7 +2,7 @@
 use Rattle.std.proofs.Common.{◌≡◌, ◌∙◌, inl, inr, ℕ, ◌≤◌, refl, ap, subst, sym, arith}
 use Rattle.gix_ref_file.specs.History.{HasRisen}
 use Rattle.gix_ref_file.specs.declared.files.Files.{Ghosts}
-use Rattle.history.specs.Acts.{CountsFailure}
+use Rattle.history.specs.Runs.{CountsFailure}
 use Rattle.history.specs.Calls.{KeepsBoth, MovesAlone, StoresAlone}
 use Rattle.history_store.proofs.Honesty.{more_honesty, same_honesty, then_honesty}
 use Rattle.history_repository.specs.Face.{KeepsAllButRows}

@@ -23,7 +23,7 @@ use Rattle.gix_ref_file.specs.declared.files.FileError.TheVariants.{Failed}
 use Rattle.gix_ref_file.specs.declared.files.Files.{Ghosts}
 use Rattle.history_repository.specs.Stands.{Stands}
 use Rattle.history_repository.specs.declared.repository.Repository.{Repository}
-use Rattle.history.specs.Acts.{CountsFailure}
+use Rattle.history.specs.Runs.{CountsFailure}
 use Rattle.history.specs.Calls.{StoresAsAsked}
 use Rattle.history.specs.Storing.{GivesMoves, HasStored, StoresObjects}
 use Rattle.history.proofs.AfterStoring.{stored_nothing}

@@ -38,7 +38,8 @@ use Rattle.history_repository.specs.declared.repository.Repository.{Repository}
 use Rattle.history_plans.specs.Halves.{names_tree}
 use Rattle.history_plans.proofs.PartsStand.{names_set}
 use Rattle.history.specs.Moving.{AskedEdits, edits_of, gone_of}
-use Rattle.history.specs.NameFiles.{ChangesNameAlone, LeavesAsAsked}
+use Rattle.history.specs.NameFiles.{ChangesNameAlone}
+use Rattle.history.specs.Acts.{LeavesAsAsked}
 use Rattle.history.specs.Storing.{HasStored, IsDone, name_taken, names_moved}
 use Rattle.history.specs.declared.moves.Done.{Done}
 use Rattle.history.proofs.AfterStoring.{sound_before, stand_still}

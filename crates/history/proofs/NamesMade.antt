@@ -19,7 +19,7 @@ use Rattle.history_repository.specs.declared.repository.Repository.{Repository}
 use Rattle.history_plans.specs.Halves.{NamesStand, names_tree}
 use Rattle.history_plans.specs.Packing.{IsPacking}
 use Rattle.history_plans.specs.declared.packing.Packing.{Packing}
-use Rattle.history.specs.Acts.{CountsFailure}
+use Rattle.history.specs.Runs.{CountsFailure}
 use Rattle.history.specs.Calls.{EditsAsAsked, MovesAlone, MovesAsAsked, PacksAll}
 use Rattle.history.specs.Moving.{AskedEdits, edits_of, gone_of}
 use Rattle.history.specs.Storing.{AreMovesOf, HasStored}

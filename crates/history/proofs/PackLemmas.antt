@@ -17,7 +17,7 @@ use Rattle.history_store.specs.declared.packs.PackedName.{PackedName}
 use Rattle.history_repository.specs.Face.{KeepsAllButNames, names_part}
 use Rattle.history_repository.proofs.Tables.{holds_known, tables_same}
 use Rattle.history_plans.specs.Halves.{names_tree}
-use Rattle.history_plans.specs.HeldObjects.{AreOf}
+use Rattle.history_repository.specs.HeldObjects.{AreOf}
 use Rattle.history_plans.specs.Packing.{IsPacking}
 use Rattle.history_plans.specs.declared.packing.Packing.{Packing}
 use Rattle.history_plans.proofs.PackedLines.{all_once, all_records}

@@ -10,7 +10,8 @@ use Rattle.history_model.specs.Repository.{Repository}
 use Rattle.history_model.specs.Steps.{Step, goes_on, next, some_failed}
 use Rattle.history_model.specs.Stops.{is_changing}
 use Rattle.history_model.specs.declared.Cause.{Cause}
-use Rattle.history.specs.NameFiles.{LeavesFiles, AllLeaveAsSaid, ChangesAsSaid, GoesBetween, LeavesAsSaid}
+use Rattle.history.specs.NameFiles.{AllLeaveAsSaid, ChangesAsSaid, GoesBetween, LeavesAsSaid}
+use Rattle.history.specs.Acts.{LeavesFiles}
 use Rattle.history_repository.specs.declared.stopped.Stopped.{Stopped}
 use Rattle.history.proofs.RowsKept.{goes_unchanged, no_failure}
 use Rattle.history_model.specs.declared.Fault as faults

@@ -26,7 +26,8 @@ use Rattle.history_walks.proofs.Members.{in_from_contains, of_filter}
 use Rattle.history_repository.specs.Reads.{GivesMeant, IsReadingFault, OnlyAnswers}
 use Rattle.history_repository.specs.Faults.{rows_fault}
 use Rattle.history_repository.specs.KeptRows.{AgreeRows, TellsRow}
-use Rattle.history.specs.Indexed.{FollowsRows, KeepsRows, LeavesRows}
+use Rattle.history.specs.Indexed.{FollowsRows, KeepsRows}
+use Rattle.history.specs.Acts.{LeavesRows}
 use Rattle.history_repository.specs.Face.{rows_in}
 use Rattle.history_repository.specs.Stands.{Stands}
 use Rattle.history_repository.specs.declared.stopped.Stopped.{Stopped}

@@ -27,7 +27,8 @@ use Rattle.history.specs.Acts.{IsAnswer}
 use Rattle.history.specs.Indexed.{FollowsRows}
 use Rattle.history.specs.NameFiles.{AllLeaveAsSaid}
 use Rattle.history.specs.Replies.{text_of}
-use Rattle.history.specs.Runs.{EndsHere, GoesOn, Turns}
+use Rattle.history.specs.Runs.{EndsHere}
+use Rattle.history.specs.Turns.{GoesOn, Turns}
 use Rattle.history.proofs.ActLemmas.{told_text}
 use Rattle.history.proofs.RunLemmas.{ends_then, ran_none, ran_one, ran_then}
 use Rattle.history_store.proofs.Beside.{from_and_2}

@@ -2,7 +2,7 @@
 use Rattle.std.proofs.Common.{refl, inl, inr, ◌≡◌, ◌∙◌, ℕ, ◌+◌, ◌-◌, ◌^◌, ◌<◌, ◌≤◌, Option, Result, Ok, Err, List, [], ◌∷◌, ◌++◌, length, subst, sym, arith}
 use Rattle.std.proofs.lemmas.List.{length-append}
 use Rattle.history_word.specs.declared.buffer.Buffer.{Buffer}
-use Rattle.history_word.specs.Buffer.{readings_made, unread, work}
+use Rattle.history_word.specs.Buffer.{readings_made, unread}
 use Rattle.history_word.specs.Taking.{AsksForMore, Gave, Took, Came}
 use Rattle.history_word.proofs.TakingLemmas.{consumes_then, gave_then, took_none}
 use Rattle.std.specs.List.{join_with_byte}
@@ -65,15 +65,6 @@ spelling_some (Files word) = line_first (parts_of (Files word)) _ _ refl
 spelling_some (Past name) = line_first (parts_of (Past name)) _ _ refl
 spelling_some (Log c) = line_first (parts_of (Log c)) _ _ refl
 spelling_some (Show word path) = line_first (parts_of (Show word path)) _ _ refl
-
--- a whole command was taken, so less is left to take
-pub less_by_command : {S : Type 0} (left : S → Option (List ℕ)) (readings : S → ℕ) (s : S) (b : Buffer) (t : S) (c : Buffer) (taken : List ℕ) (command : Command) → Took left readings s b t c taken → Spells taken command → work c < work b
-less_by_command left readings s b t c taken command h k =
-    let some : 0 < length taken = let P : List ℕ → Type 0 = λ xs. 0 < length xs in subst P (sym k.1) (spelling_some command) in
-    omega (arith, h.less_work, some)
-
-pub no_more_by_nothing : {S : Type 0} (left : S → Option (List ℕ)) (readings : S → ℕ) (s : S) (b : Buffer) (t : S) (c : Buffer) → Took left readings s b t c [] → work c ≤ work b
-no_more_by_nothing left readings s b t c h = omega (arith, h.less_work)
 
 -- The source is read for a following byte only if the buffer is empty; and a command takes one.
 pub asks_when_empty : {S : Type 0} (left : S → Option (List ℕ)) (readings : S → ℕ) (s : S) (b : Buffer) (t : S) (c : Buffer) (u : S) (taken : List ℕ) (command : Command)

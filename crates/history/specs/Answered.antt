@@ -5,8 +5,8 @@ use Rattle.history_model.specs.Bytes.{Bytes}
 use Rattle.history_model.specs.Repository.{Repository, fresh}
 use Rattle.history_model.specs.Commands.{Command}
 use Rattle.history_model.specs.Replies.{Reply}
-use Rattle.history_model.specs.Runs.{Runs, TellsFault}
-use Rattle.history_model.specs.Steps.{have_no_fault, is_sure}
+use Rattle.history_model.specs.Runs.{Runs}
+use Rattle.history_model.specs.laws.Determined.{TellsFault, have_no_fault, is_sure}
 use Rattle.gix_hash.specs.declared.kind.Kind.{Kind}
 use Rattle.history_model.specs.declared.End.{End}
 use Rattle.history_model.specs.declared.End.TheVariants.{Input}

@@ -28,11 +28,11 @@ use Rattle.history_repository.specs.Stands.{RecoversTo, Stands}
 use Rattle.history_repository.specs.declared.repository.Repository.{Repository}
 use Rattle.history_repository.specs.declared.stopped.Stopped.{Stopped}
 use Rattle.history_plans.specs.Halves.{KnowsIds, NamesStand, ObjectsStand, StoresValues, names_tree, objects_tree}
-use Rattle.history.specs.Acts.{Acts, CountsFailure, IsAnswer}
+use Rattle.history.specs.Acts.{Acts, IsAnswer, LeavesAsAsked, LeavesFiles}
+use Rattle.history.specs.Runs.{CountsFailure, EndsHere, MadeLastReading}
+use Rattle.history.specs.Turns.{Turns}
 use Rattle.history.specs.Moments.{GoesLater, IsTraced, ObjectsPass, StoodOnTheWay, moment_of}
 use Rattle.history.specs.Moving.{LeavesMoved, MovesNamesAlone}
-use Rattle.history.specs.NameFiles.{LeavesAsAsked, LeavesFiles}
-use Rattle.history.specs.Runs.{EndsHere, MadeLastReading, Turns}
 use Rattle.history.specs.Storing.{HasStored, StoresObjects}
 use Rattle.history.specs.declared.moves.Moves.{Moves}
 use Rattle.history.specs.declared.reply.Reply.{Reply}

@@ -1,6 +1,5 @@
 -- What accepted commands do to the files of the names part, and which reply reports a failed call.
-use Rattle.std.specs.Prelude.{◌≡◌, ◌≢◌, ⊤, ℕ, List, ◌∷◌, Result, Vec, OnOk, IsFalse}
-use Rattle.std.specs.declared.alloc.Global.{Global}
+use Rattle.std.specs.Prelude.{◌≡◌, ◌≢◌, ⊤, List, ◌∷◌, IsFalse}
 use Rattle.gix_ref_file.specs.History.{History}
 use Rattle.gix_ref_file.specs.Tree.{Tree}
 use Rattle.history_model.specs.Bytes.{Bytes}
@@ -11,7 +10,6 @@ use Rattle.history_model.specs.Replies.{Committed, Deleted, Faulted, Packed, Ren
 use Rattle.history_model.specs.Steps.{next}
 use Rattle.history_layout.specs.OneNameSteps.{commit_move, tag_move}
 use Rattle.history_layout.specs.PackSteps.{PacksNames}
-use Rattle.history_repository.specs.declared.stopped.Stopped.{Stopped}
 use Rattle.history_model.specs.Repository as plain
 use Rattle.history_model.specs.declared.Fault.TheVariants.{File}
 
@@ -34,30 +32,6 @@ TakesNameAlone name old new = (path : Bytes) → path ≢ name → path ≢ log_
 abbrev pub RenamesAlone : Bytes → Bytes → Tree → Tree → Type 0
 RenamesAlone from to old new = (path : Bytes) → path ≢ to → path ≢ log_place to → path ≢ from
     → path ≢ log_place from → path ≢ packed_place → file_at new path ≡ file_at old path
-
--- A `commit` and a `tag` change only the files of the name that they move, a `delete` only those of
--- its name and `packed-refs`, a `rename` only those of its two names and `packed-refs`, a `switch`
--- only HEAD; a `pack` packs all names. Of a `move` nothing is said here.
-abbrev pub LeavesAsAsked : plain.Repository → Command → Tree → Tree → Type 0
-LeavesAsAsked r (Commit c) old new = ChangesNameAlone (commit_move r c).name old new
-LeavesAsAsked r (Tag c) old new = ChangesNameAlone (tag_move r c).name old new
-LeavesAsAsked r (Rename from to) old new = RenamesAlone from to old new
-LeavesAsAsked r (Delete name at) old new = TakesNameAlone name old new
-LeavesAsAsked r (Switch name) old new = ChangesHeadAlone old new
-LeavesAsAsked r Pack old new = PacksNames r old new
-LeavesAsAsked r sent old new = ⊤
-
--- So does an accepted one.
-abbrev pub LeavesFiles : plain.Repository → Command → Result (Vec ℕ Global) Stopped → Tree → Tree
-    → Type 0
-LeavesFiles r (Commit c) result old new =
-    OnOk result (ChangesNameAlone (commit_move r c).name old new)
-LeavesFiles r (Tag c) result old new = OnOk result (ChangesNameAlone (tag_move r c).name old new)
-LeavesFiles r (Rename from to) result old new = OnOk result (RenamesAlone from to old new)
-LeavesFiles r (Delete name at) result old new = OnOk result (TakesNameAlone name old new)
-LeavesFiles r (Switch name) result old new = OnOk result (ChangesHeadAlone old new)
-LeavesFiles r Pack result old new = OnOk result (PacksNames r old new)
-LeavesFiles r sent result old new = ⊤
 
 -- ---- in a run
 

@@ -1,9 +1,9 @@
 -- How turns and runs end.
-use Rattle.std.specs.Prelude.{◌≡◌, ◌≤◌, ◌+◌, ◌-◌, ◌^◌, ℕ, min, length, Bool, true, false, List, [], Option, Some, None, Result, Ok, Err}
+use Rattle.std.specs.Prelude.{◌≡◌, ◌≤◌, ◌+◌, ◌-◌, ◌^◌, ℕ, min, length, Bool, true, false, List, [], Option, Result, Ok, Err, ◌⊎◌}
 use Rattle.history_model.specs.Bytes.{Bytes}
 use Rattle.history_model.specs.Commands.{Command}
 use Rattle.history_model.specs.Replies.{Reply}
-use Rattle.history_model.specs.Runs.{Ran, Runs, EndsReading, EndsWriting}
+use Rattle.history_model.specs.Runs.{Runs, EndsReading, EndsWriting}
 use Rattle.history_model.specs.declared.End.{End}
 use Rattle.history_model.specs.declared.End.TheVariants.{Input, Refused, Fault}
 use Rattle.std.specs.Io.KnownBytes.{Consumes}
@@ -13,16 +13,14 @@ use Rattle.history_word.specs.declared.buffer.Buffer.{Buffer}
 use Rattle.history.specs.declared.running.RunError.{RunError}
 use Rattle.history.specs.declared.running.RunError.TheVariants.{Read, Write}
 use Rattle.history_model.specs.Repository as plain
+use Rattle.gix_ref_file.specs.History.{HasRisen}
+use Rattle.history_repository.specs.Face.{objects_part, names_part}
+use Rattle.history_repository.specs.declared.repository.Repository.{Repository}
 
 abbrev pub is_fault_end : End → Bool
 is_fault_end Fault = true
 is_fault_end Input = false
 is_fault_end Refused = false
-
--- whether a turn is the run's last and ends it with a fault
-abbrev pub is_last_fault : Option End → Bool
-is_last_fault (Some end) = is_fault_end end
-is_last_fault None = false
 
 module _ {S : Type 0} (left : S → Option (List ℕ)) (readings : S → ℕ) where
   -- The readings made through the buffer meanwhile were counted by the reader, as far as a `u64`
@@ -78,34 +76,8 @@ pub record EndsHere (Reads Writes : Bytes → Type 0)
   pub stands : failed ≡ false → StandsNow new
   pub recovers : failed ≡ true → RecoversNow new
 
--- A turn after which the run goes on: the bytes of commands were taken, their replies written, and
--- the repository represents what they leave.
-pub record GoesOn (Takes Writes : Bytes → Type 0) (StandsNow : plain.Repository → Type 0)
-    (IsTraced : List Command → List Reply → plain.Repository → Type 0) (CallFailed : Type 0)
-    (old : plain.Repository) : Type 0 where
-  pub commands : List Command
-  pub replies : List Reply
-  pub taken : Bytes
-  pub written : Bytes
-  pub new : plain.Repository
-  pub takes : Takes taken
-  pub writes : Writes written
-  pub ran : Ran CallFailed old commands replies taken written [] [] false new
-  pub traced : IsTraced commands replies new
-  pub stands : StandsNow new
-
--- a turn goes on, or is the run's last
-abbrev pub Turns : (Bytes → Type 0) → (Bytes → Type 0) → (Bytes → Type 0)
-    → (plain.Repository → Type 0) → (plain.Repository → Type 0)
-    → (List Command → List Reply → plain.Repository → Type 0)
-    → Type 0 → Type 0 → Type 0 → plain.Repository → Result (Option End) RunError → Bool → Type 0
-Turns Takes Comes Writes StandsNow RecoversNow IsTraced AtEnd LastReading CallFailed old
-    (Ok None) failed = GoesOn Takes Writes StandsNow IsTraced CallFailed old
-Turns Takes Comes Writes StandsNow RecoversNow IsTraced AtEnd LastReading CallFailed old
-    (Ok (Some end)) failed =
-    EndsHere Comes Writes StandsNow RecoversNow IsTraced AtEnd LastReading CallFailed old
-    (Ok end) failed
-Turns Takes Comes Writes StandsNow RecoversNow IsTraced AtEnd LastReading CallFailed old
-    (Err error) failed =
-    EndsHere Comes Writes StandsNow RecoversNow IsTraced AtEnd LastReading CallFailed old
-    (Err error) failed
+-- a failed call was counted in one of the parts, or a reading may fail
+abbrev pub CountsFailure : {F : Type 0} → (F → ℕ) → Type 0 → Repository F → Repository F → Type 0
+CountsFailure failures MayFail old new =
+    HasRisen (failures (objects_part old)) (failures (objects_part new))
+    ⊎ HasRisen (failures (names_part old)) (failures (names_part new)) ⊎ MayFail

@@ -1,4 +1,4 @@
-//! A command that changes files: its objects are stored, its reply is made, and then names move.
+//! A command that changes files: its objects are stored, its `ok` line is spelled, and then names move.
 
 ghost use Rattle.std.specs.Prelude.{◌≡◌, [], ◌∷◌, codes, IfErr, IfOk, IsErrOf};
 ghost use Rattle.gix_hash.specs.Id.{id_of};
@@ -7,7 +7,7 @@ ghost use Rattle.history_model.specs.Spelling.{Line, parts_text};
 ghost use Rattle.history_model.specs.declared.Fault.TheVariants.{File};
 ghost use Rattle.history_repository.specs.Face.{has_failed, rows_in};
 ghost use Rattle.history_repository.specs.Faults.{IsRefusal};
-ghost use Rattle.history.specs.Acts.{CountsFailure};
+ghost use Rattle.history.specs.Runs.{CountsFailure};
 ghost use Rattle.history.specs.Calls.{ActsAsAsked, KeepsBoth};
 ghost use Rattle.history.specs.Replies.{TellsDone};
 ghost use Rattle.history.specs.Storing.{AreMovesOf, AskedChange, IsDone};

@@ -1,4 +1,4 @@
-//! The command `delete`: a name goes, with its log and its record.
+//! The command `delete`: a name is to go, with its log and its record.
 
 ghost use Rattle.std.specs.Prelude.{Option};
 ghost use Rattle.history_model.specs.Bytes.{Bytes};

@@ -1,4 +1,4 @@
-//! The command `index`: rows of all stored commits, over which later logs walk.
+//! The command `index`: rows of all stored commits, over which later logs walk, and their number as a reply.
 
 ghost use Rattle.std.specs.Prelude.{◌≡◌, IfOk, OnErr, OnOk, Some};
 ghost use Rattle.history_model.specs.Replies.{reply_text, Indexed};

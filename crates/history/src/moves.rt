@@ -1,4 +1,4 @@
-//! The two halves of a command that changes files: its objects are stored, and then names move.
+//! Both halves of a changing command: `store_objects`, `move_names`; long names' locks looked up; files' faults.
 //!
 //! A run changes files only by these two calls, in this order. The methods of `Repository` with
 //! their names make one of them each.
@@ -74,7 +74,7 @@ pub(crate) fn fault_of(error: FileError) -> Fault
 }
 
 /// Returns the moves of one name, once its lock is looked up. The errors are those of `test_lock`.
-pub(crate) fn only<F: Files>(
+pub(crate) fn moves_of_one<F: Files>(
     repository: &Repository<F>,
     alloc: Global,
     one: MovedName,

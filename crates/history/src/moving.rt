@@ -1,4 +1,4 @@
-//! The command `move`: names that move together, each to its word's commit.
+//! The command `move`: names that move together, each to its word's commit, once their locks are looked up.
 
 ghost use Rattle.std.specs.Prelude.{IsErrOf};
 ghost use Rattle.gix_ref_file.specs.declared.files.FileError.TheVariants.{Failed};

@@ -14,8 +14,8 @@ ghost use Rattle.history_model.specs.Repository as plain;
 use crate::moves::{Moves, fault_of};
 use gix_ref_file::Files;
 use history_model::Fault;
-use history_plans::{HeldStore, Packing, names_to_pack};
-use history_repository::{Repository, Stopped};
+use history_plans::{Packing, names_to_pack};
+use history_repository::{HeldStore, Repository, Stopped};
 use std::alloc::Global;
 
 /// Returns all names, which a `pack` packs; no cause refuses it. Changes nothing.

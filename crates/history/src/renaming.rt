@@ -7,7 +7,7 @@ ghost use Rattle.history_repository.specs.Stands.{Stands};
 ghost use Rattle.history_model.specs.Commands as commands;
 ghost use Rattle.history_model.specs.Repository as plain;
 
-use crate::moves::{Done, Moves, only, test_lock};
+use crate::moves::{Done, Moves, moves_of_one, test_lock};
 use gix_ref_file::Files;
 use history_plans::plan_rename;
 use history_repository::{Repository, Stopped};
@@ -28,7 +28,7 @@ pub(crate) fn plan_renaming<F: Files>(
     test_lock(repository, alloc, &command.from)?;
     Ok(Moves::Change {
         done: Done::Rename,
-        moved: only(repository, alloc, to)?,
+        moved: moves_of_one(repository, alloc, to)?,
         taken: Some(command.from),
     })
 }

@@ -1,4 +1,4 @@
-//! Replies and their texts.
+//! The reply to a command (`Reply`): an accepted one's text, or the text of a refusal's cause or of a fault.
 
 ghost use Rattle.std.specs.Prelude.{◌≡◌};
 ghost use Rattle.history_model.specs.Replies.{reply_text, RefusedFor, Faulted};

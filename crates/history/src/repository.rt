@@ -1,4 +1,4 @@
-//! A repository whose fields no caller writes.
+//! The public `Repository`, whose fields no caller writes: opening, its parts, both halves of a change, failure.
 
 ghost use Rattle.std.specs.Prelude.{◌≡◌, ◌||◌, false, None, Ok, IsOk, IfOk, IfErr, is_err, option_map, IsErrOf};
 ghost use Rattle.history_model.specs.Repository.{fresh};

@@ -11,7 +11,7 @@ ghost use Rattle.history_model.specs.Repository as plain;
 ghost use Rattle.history_repository.specs.declared.stopped.Stopped.TheVariants as stopped;
 
 use crate::commit::put;
-use crate::moves::{Done, Moves, only};
+use crate::moves::{Done, Moves, moves_of_one};
 use gix_ref_file::Files;
 use history_plans::plan_tag;
 use history_repository::{Repository, Stopped};
@@ -34,7 +34,7 @@ pub(crate) fn store_tag<F: Files>(
 {
     let tagged = plan_tag(repository, alloc, command)?;
     let made = tagged.moves.entry.after;
-    let moved = only(repository, alloc, tagged.moves)?;
+    let moved = moves_of_one(repository, alloc, tagged.moves)?;
     put(repository, alloc, &tagged.object)?;
     Ok(Moves::Change {
         done: Done::Tag(made),

@@ -12,10 +12,9 @@ use Rattle.history_model.specs.declared.End.TheVariants.{Input}
 use Rattle.history_repository.specs.Causes.{IsOpenCause, IsOpenFault}
 use Rattle.history_repository.specs.Opened.{trees_of}
 use Rattle.history_texts.specs.declared.open_error.OpenError.{OpenError}
-use Rattle.history.specs.Acts.{CountsFailure}
+use Rattle.history.specs.Runs.{CountsFailure, EndsHere, MadeLastReading, is_fault_end}
 use Rattle.history_repository.specs.Face.{has_failed, names_part, objects_part}
 use Rattle.history.specs.Moments.{GoesLater, IsTraced}
-use Rattle.history.specs.Runs.{EndsHere, MadeLastReading, is_fault_end}
 use Rattle.history_repository.specs.Stands.{RecoversTo, Stands}
 use Rattle.history_repository.specs.declared.repository.Repository.{Repository}
 use Rattle.history.specs.declared.running.RunError.{RunError}

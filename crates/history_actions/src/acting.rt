@@ -1,4 +1,4 @@
-//! Performs the action of a command line.
+//! Performs the action of a command line on a folder's two parts, with its report (`act`) or without.
 ghost use Rattle.history_actions.specs.Performing.{Acts, Performs};
 
 use crate::answers::Performed;

@@ -1,4 +1,4 @@
-//! Makes a repository.
+//! The action `create`: makes a repository, and writes `created`.
 ghost use Rattle.history_actions.specs.Creating.{Creates};
 ghost use Rattle.history_actions.specs.Saying.{Says, created};
 

@@ -1,4 +1,4 @@
-//! Why an action isn't done.
+//! Why an action isn't done (`Failure`), also made of the errors of creation, of recovery and of a writer.
 ghost use Rattle.std.specs.Prelude.{◌≡◌};
 ghost use Rattle.history_actions.specs.Failures.{create_failure, recover_failure};
 

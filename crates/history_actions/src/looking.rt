@@ -1,4 +1,4 @@
-//! Whether a folder is a repository's; only such a folder is recovered.
+//! Whether a folder is a repository's, before it is recovered: HEAD names a branch; paths that files may have.
 ghost use Rattle.std.specs.Prelude.{◌≡◌, ◌&&◌, IfErr, OnOk};
 ghost use Rattle.std.specs.List.{list_all};
 ghost use Rattle.gix_ref_file.specs.Calls.{Finds};

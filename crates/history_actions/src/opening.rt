@@ -1,4 +1,4 @@
-//! Opens a folder, to check it or to run commands on it.
+//! The actions `check` and `run`: a folder is opened, then found whole or run on; its parts are handed back.
 ghost use Rattle.std.specs.Prelude.{◌≡◌, Err};
 ghost use Rattle.history_repository.specs.Face.{names_part, objects_part};
 ghost use Rattle.history_actions.specs.Failures.{IsAnswerOf, IsDone};

@@ -1,4 +1,4 @@
-//! Recovers a repository.
+//! The action `recover`: recovers a folder that is a repository's, and writes `recovered`.
 ghost use Rattle.history_actions.specs.Recovering.{Recovers, Restores};
 ghost use Rattle.history_actions.specs.Saying.{Says, recovered};
 

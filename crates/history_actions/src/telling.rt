@@ -1,4 +1,4 @@
-//! The report of an action that isn't done, and the program's status.
+//! The report of an action that isn't done: its word, its values, a note; and the program's status.
 ghost use Rattle.std.specs.Prelude.{◌≡◌, []};
 ghost use Rattle.history_actions.specs.Told.{Took, Writes, cause_note, cause_word, failure_line, failure_note, failure_text, failure_values, failure_word, status, stray_note, told, values_text};
 
@@ -28,21 +28,21 @@ pub fn report<E: Sink>(kind: Kind, answer: &Result<(), Failure>, errors: &mut E)
     if let Failure::Ended(_) = failure {
         return 1;
     }
-    let _ = tell(kind, failure, errors);
+    let _ = write_failure(kind, failure, errors);
     1
 }
 
 // Writes the line of a failure, and its note.
-fn tell<E: Sink>(kind: Kind, failure: &Failure, errors: &mut E) -> Result<(), Broken>
+fn write_failure<E: Sink>(kind: Kind, failure: &Failure, errors: &mut E) -> Result<(), Broken>
     ensures { Writes (E.contents errors.old) (E.contents errors.new) (E.has_failed errors.new)
         (failure_text kind failure.now) result }
 {
-    tell_line(failure, errors)?;
+    write_failure_line(failure, errors)?;
     write_all(errors, note_of(kind, failure))
 }
 
 // Writes the line of a failure.
-fn tell_line<E: Sink>(failure: &Failure, errors: &mut E) -> Result<(), Broken>
+fn write_failure_line<E: Sink>(failure: &Failure, errors: &mut E) -> Result<(), Broken>
     ensures { Writes (E.contents errors.old) (E.contents errors.new) (E.has_failed errors.new)
         (failure_line failure.now) result }
 {

@@ -1,4 +1,4 @@
-//! Writes values after a word, each after a space.
+//! The values in a report, each after a space: paths, ids, names, numbers; those of each `OpenError`.
 ghost use Rattle.std.specs.Prelude.{◌∷◌, [], decimal};
 ghost use Rattle.gix_hash.specs.Id.{id_of};
 ghost use Rattle.history_model.specs.Objects.{hex};

@@ -130,10 +130,6 @@ module _ (kind : Kind) (text : List ℕ) where
   pub text_none : (front : List ℕ) → packed_records kind front ≡ None → is_packed_text kind front ≡ false
   text_none front is = ap (λ o. unwrap_or (option_map (is_good_file) (option_map (packed_with front) o)) false) is
 
-  no_names : (sorted : Bool) → are_good_names sorted [] ≡ true
-  no_names true = refl
-  no_names false = refl
-
   -- the first lines, of which these are the records
   lines_by : has_byte 13 text ≡ false → (n : ℕ) (some : List Record) → packed_records kind (first_lines n text) ≡ Some some → are_good_names (says_sorted text) (record_names some) ≡ true → is_packed_text kind (first_lines n text) ≡ true
   lines_by plain zero some is good = refl

@@ -1,10 +1,10 @@
 -- What was read so far of a file of packed names.
-use Rattle.std.proofs.Common.{◌≡◌, ◌≢◌, ℕ, ◌+◌, ◌≤◌, Bool, true, false, cond, not, ◌&&◌, ◌||◌, List, [], ◌∷◌, ◌++◌, map, length, Option, Some, unwrap_or, refl, sym, ◌∙◌, ap, subst, arith, bytes_eq, Err}
+use Rattle.std.proofs.Common.{◌≡◌, ◌≢◌, ℕ, ◌+◌, ◌≤◌, Bool, true, false, not, ◌&&◌, ◌||◌, List, [], ◌∷◌, ◌++◌, map, length, Option, Some, unwrap_or, refl, sym, ◌∙◌, ap, subst, arith, bytes_eq, Err}
 use Rattle.std.specs.Borrow.{Bor}
 use Rattle.std.specs.List.{list_any}
 use Rattle.std.proofs.lemmas.List.Folds.{list_any-append}
 use Rattle.gix_hash.specs.declared.kind.Kind.{Kind}
-use Rattle.gix_ref_format.specs.Packed.{Record, Item, Good, is_headed, item_view, packed_items, packed_records, record_of}
+use Rattle.gix_ref_format.specs.Packed.{Record, Item, Good, item_view, packed_items, packed_records, record_of}
 use Rattle.gix_ref_format.specs.declared.packed.Reference.{Reference}
 use Rattle.gix_ref_format.specs.declared.packed.iter.Error.{Error}
 use Rattle.gix_ref_format.specs.declared.packed.iter.Error.TheVariants as faults
@@ -29,25 +29,6 @@ module _ (kind : Kind) (text : Bytes) where
     pub good : are_good_names (says_sorted text) (record_names (seen_in records)) ≡ true
     pub kept : (name : Bytes) → list_any (bytes_eq name) (names_in names) ≡ list_any (bytes_eq name) (record_names (seen_in records))
     pub number_is : number ≡ lead text + 1 + weights (seen_in records)
-
-  no_names : (sorted : Bool) → are_good_names sorted [] ≡ true
-  no_names true = refl
-  no_names false = refl
-
-  pub begun : (left : List Item) (records : List Reference) (names : List (Bor (List ℕ))) (sorted : Bool) (number : ℕ) → has_byte 13 text ≡ false → packed_items kind text ≡ Some left → records ≡ [] → names ≡ [] → sorted ≡ says_sorted text
-      → number ≡ cond (is_headed text) 2 1 → IsSoFar left records names sorted number
-  begun left records names sorted number plain is none_read none_kept says first = subst (λ rs. IsSoFar left rs names sorted number) (sym none_read) (subst (λ ns. IsSoFar left [] ns sorted number) (sym none_kept) (record {
-    plain = plain;
-    given = is;
-    sorted_is = says;
-    good = no_names (says_sorted text);
-    kept = λ name. refl;
-    number_is = first ∙ by_head (is_headed text);
-  }))
-    where
-      by_head : (b : Bool) → cond b 2 1 ≡ cond b 1 0 + 1 + 0
-      by_head true = refl
-      by_head false = refl
 
   module _ (left : List Item) (records : List Reference) (names : List (Bor (List ℕ))) (sorted : Bool) (number : ℕ) (so_far : IsSoFar left records names sorted number) where
     at_number : HasBadRecord kind text (lead text + 1 + weights (seen_in records)) → HasBadRecord kind text number

@@ -11,17 +11,14 @@ use Rattle.gix_ref_file.specs.Changes.{is_file_at}
 use Rattle.gix_ref_file.specs.Tree.{Tree, bytes_at}
 use Rattle.gix_ref_format.specs.Packed.{Record, record_of}
 use Rattle.gix_ref_format.specs.declared.packed.Reference.{Reference}
-use Rattle.history_model.specs.Bytes.{Bytes}
 use Rattle.history_model.specs.Forms.{is_name, is_private}
 use Rattle.history_model.specs.NameStates as states
 use Rattle.history_model.specs.NameStates.{name_state}
 use Rattle.history_model.specs.Places.{packed_place}
 use Rattle.history_model.proofs.PlaceLemmas.{text_itself}
-use Rattle.history_check_names.specs.Causes.{HasBadPeel, HasCause, IsCollision, IsUnheld}
+use Rattle.history_check_names.specs.Causes.{HasCause, IsCollision, IsUnheld}
 use Rattle.history_check_names.specs.Packed.{has_record, record_names, records_at}
 use Rattle.history_check_names.specs.PackedRead.{ReadsPacked}
-use Rattle.history_check_names.specs.Sound.{IsApart, IsSoundRecord}
-use Rattle.history_check_names.specs.Stored.{is_well_peeled, may_be_held}
 use Rattle.history_check_objects.specs.Stored.{Facts, kind_in}
 use Rattle.history_texts.specs.declared.open_error.OpenError.{OpenError}
 use Rattle.history_check_names.specs.declared.packed.Packed.{Packed}
@@ -43,12 +40,6 @@ name_among (r ∷ records) e (suc k, below, at) = right (bytes_eq e.name r.name)
 each_named : (records : List Record) → list_all is_name (record_names records) ≡ true → AllByRecursion (λ (r : Record). is_name r.name ≡ true) records
 each_named [] all = tt
 each_named (r ∷ records) all = let parts = and_parts (is_name r.name) (list_all is_name (record_names records)) all in (parts.0, each_named records parts.1)
-
--- the one at a place is among all
-pub at_among : (entries : List Reference) (k : ℕ) (entry : Reference) → k < length entries → entry ≡ get_or entries k entry → Contains (map record_of entries) (record_of entry)
-at_among [] k entry below is = absurd (omega (arith, below))
-at_among (x ∷ entries) zero entry below is = (zero, omega arith, ap record_of (sym is))
-at_among (x ∷ entries) (suc k) entry below is = let rest = at_among entries k entry (omega (arith, below)) is in (suc rest.0, omega (arith, rest.1), rest.2)
 
 -- one more of them is as those before it
 pub one_more_sound : (P : Reference → Type 0) (entries : List Reference) (k : ℕ) (entry : Reference) → k < length entries → entry ≡ get_or entries k entry → AllByRecursion P (take k entries) → P entry → AllByRecursion P (take (k + 1) entries)
@@ -93,9 +84,3 @@ module _ (kind : Kind) (facts : Facts) (tree : Tree) (packed : Packed) (reads : 
       → IfErr r (IsUnheld (kind_in facts (id_of id)) id name) → IfErr r (HasCause A kind facts tree)
   unheld A id name r common bare is id_is h =
       unheld_causes A kind facts tree id name r (ap (name_state kind tree) is ∙ record_read kind tree e reads.good common bare there ∙ ap states.Holds (sym id_is)) h
-
-  pub badly_peeled : (name : Bytes) → name ≡ e.name → is_well_peeled facts e ≡ false → HasBadPeel kind facts tree name
-  badly_peeled name is wrong = record { entry = e; among = there; named = sym is; wrong = wrong }
-
-  pub sound_one : is_private e.name ≡ false → IsApart kind tree e.name → (is_file_at tree e.name ≡ false → may_be_held (kind_in facts e.target) ≡ true) → is_well_peeled facts e ≡ true → IsSoundRecord kind facts tree e
-  sound_one common apart held peeled = record { common = common; apart = apart; held = held; peeled = peeled }

@@ -154,7 +154,3 @@ module _ (kind : Kind) (text front back whole : Bytes) (count : ℕ) (cut : text
   pub fault_bad : (error : OpenError) → IsPackedFault kind whole error → IsPackedFault kind text error
   fault_bad (BadPacked number) fault = line_bad number fault
   fault_bad _ fault = fault
-
-  -- the lines before it have none
-  pub whole_plain : has_byte 13 front ≡ false → has_byte 13 whole ≡ false
-  whole_plain plain = (or_parts (has_byte 13 whole) (has_byte 13 lines.rest) (sym (list_any-append (λ b. b == 13) whole lines.rest) ∙ ap (has_byte 13) (sym lines.are) ∙ plain)).0

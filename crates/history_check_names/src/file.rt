@@ -1,4 +1,4 @@
-//! One file of the names part.
+//! Tests one file, a name's or a log's: private names, collisions, stored ids; which names and files exist.
 
 ghost use Rattle.std.specs.Prelude.{◌≡◌, IfErr, IfOk, IsErrOf, IsFalse, IsTrue, OnOk, length, option_map};
 ghost use Rattle.gix_hash.specs.Id.{id_of};
@@ -153,7 +153,7 @@ fn test_log_file<F: Files>(
     ensures wrong { (facts : Facts) → Finds F.is_honest F.history files.now
         (Excuses F.reading_may_fail kind facts path.items result) }
 {
-    if !stands(files, packed, log_name(&path))? {
+    if !name_exists(files, packed, log_name(&path))? {
         return Err(OpenError::LogWithoutName(path));
     }
     match log_fault(alloc, files, kind, &path, len)? {
@@ -196,7 +196,7 @@ pub(crate) fn test_apart<F: Files>(
 {
     for (end, byte) in name.iter().enumerate() {
         if *byte == b'/' {
-            if stands(files, packed, &name[..end])? {
+            if name_exists(files, packed, &name[..end])? {
                 return Err(collision(alloc, &name[..end], name));
             }
         }
@@ -215,7 +215,7 @@ fn collision(alloc: Global, folder: &[u8], name: &[u8]) -> OpenError
 }
 
 // Returns whether a name exists, in a file of its own or in a record.
-fn stands<F: Files>(files: &F, packed: &Packed<'_>, name: &[u8]) -> Result<bool, FileError>
+fn name_exists<F: Files>(files: &F, packed: &Packed<'_>, name: &[u8]) -> Result<bool, FileError>
     ensures found { (kind : Kind) → Finds F.is_honest F.history files.now
         (λ tree. ReadsPacked kind packed.now tree
         → IfOk result (λ stands. stands ≡ has_name kind tree name.now)) }

@@ -1,4 +1,4 @@
-//! Laws of the two parts of a repository, over the definitions alone.
+//! The law that a whole objects part and a names part over it join into one whole repository.
 
 ghost use Rattle.history_check_names.specs.Joined.{PartsJoin};
 

@@ -1,4 +1,4 @@
-//! The lines of a log, which is read in pieces.
+//! Tests a log, read in pieces: each line is a move, with its two ids, actor and message, and not too long.
 
 ghost use Rattle.std.specs.Prelude.{◌≡◌, ◌<◌, ◌≤◌, ◌+◌, ◌++◌, ◌^◌, length, drop, min, true, IfErr, IfOk, IsErrOf, IsFalse, MatchOption, MatchResult};
 ghost use Rattle.gix_ref_file.specs.Calls.{Finds};
@@ -122,7 +122,7 @@ fn test_piece(
     }
     let taken = piece.len() - rest.len();
     if taken == 0 {
-        return Err(endless(piece, before + 1));
+        return Err(unended_line_fault(piece, before + 1));
     }
     Ok((number, taken))
 }
@@ -143,7 +143,7 @@ fn test_line(alloc: Global, kind: Kind, line: &[u8], number: usize) -> Result<()
 }
 
 // Returns what is wrong with a line without a line feed.
-fn endless(text: &[u8], number: usize) -> LogFault
+fn unended_line_fault(text: &[u8], number: usize) -> LogFault
     ensures { IsEndless text.now number result }
 {
     if text.len() > MAX_LOG_LINE {

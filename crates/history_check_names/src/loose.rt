@@ -1,4 +1,4 @@
-//! What the file of a name says.
+//! Reads the text of a name's file: an id, another name if it is symbolic, or neither.
 
 ghost use Rattle.std.specs.Prelude.{◌≡◌};
 ghost use Rattle.history_check_names.specs.Sound.{ReadsAs, is_symbolic_line};

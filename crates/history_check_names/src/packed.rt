@@ -1,4 +1,4 @@
-//! The text of `packed-refs`, read line by line.
+//! Reads the text of `packed-refs` line by line: its header, and records that are of names and in order.
 
 ghost use Rattle.std.specs.Prelude.{◌≡◌, ◌++◌, ◌∷◌, [], ◌&&◌, ◌||◌, not, map, Some, IsTrue, MatchOption, MatchResult, bytes_eq, is_some, if◌then◌else◌, IsFalse};
 ghost use Rattle.std.specs.List.{list_any};

@@ -1,4 +1,4 @@
-//! The records of `packed-refs`, over the store and beside the files of names.
+//! Tests the records of `packed-refs`: the ids that they hold, peeled ids, and collisions with other names.
 
 ghost use Rattle.std.specs.Prelude.{◌≡◌, IfErr, OnOk, map};
 ghost use Rattle.std.specs.List.{Contains};

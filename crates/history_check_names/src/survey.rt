@@ -1,4 +1,4 @@
-//! Everything that is in the names part.
+//! Surveys the names part: HEAD's branch, the text of `packed-refs`, and all folders and files.
 
 ghost use Rattle.std.specs.Prelude.{◌≡◌, IfErr, IfOk, OnOk};
 ghost use Rattle.gix_ref_file.specs.Tree.{bytes_at};

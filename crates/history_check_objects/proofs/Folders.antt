@@ -150,9 +150,6 @@ module _ (kind : Kind) (values : Values) (n : ℕ) where
       | inr e ↦ e
     ]
 
-    kind_there : (b : Bool) → cond b kinds.Tree kinds.Blob ≡ cond b kinds.Tree kinds.Blob
-    kind_there b = refl
-
     part_of : (item : Item) → IsWrittenEntry kind item → IsReady values kinds.Tree n (link_by_item item) → (p : Part) × IsPartOf item p
     part_of item is ready = go (is_tree item) refl ready.value ready.stored ready.of_kind (ready.within refl)
       where

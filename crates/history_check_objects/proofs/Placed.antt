@@ -58,9 +58,6 @@ all_low (d ∷ ds) (e ∷ es) same low =
 
 -- ---- places
 
-parted : Bytes → Bytes
-parted s = take 2 s ++ 47 ∷ drop 2 s
-
 parted_length : (s : Bytes) → length (take 2 s ++ 47 ∷ drop 2 s) ≡ suc (length s)
 parted_length [] = refl
 parted_length (a ∷ []) = refl

@@ -58,13 +58,6 @@ has_same unmet a b e = ap (λ (q : Id). sets.contains_by (λ (k : ObjectId). id_
 pub done_same : (done : Stored) (a b : ObjectId) → id_of a ≡ id_of b → maps.get by_id done.done a ≡ maps.get by_id done.done b
 done_same done a b e = ap (λ (q : Id). maps.get_by (λ (k : ObjectId). id_cmp q (id_of k)) done.done) e
 
--- ---- open objects
-
-apart_itself : (id : Id) (frames : List Frame) → IsApart id frames → IsAmong id frames → ⊥
-apart_itself id [] apart among = among
-apart_itself id (f ∷ fs) apart (inl e) = apart.0 e
-apart_itself id (f ∷ fs) apart (inr among) = apart_itself id fs apart.1 among
-
 -- ---- links
 
 module _ (kind : Kind) (tree : Tree) (id : Id) (object : ObjectKind) (content : Bytes) (links : List Link) (formed : is_id kind id ≡ true) (is : IsObject kind tree id object content links) where

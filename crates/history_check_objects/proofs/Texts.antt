@@ -1,6 +1,6 @@
 -- What the text at an id's place says: an object that is read, or a flaw.
-use Rattle.std.proofs.Common.{◌≡◌, ◌≢◌, ℕ, ◌+◌, ◌<◌, ◌≤◌, true, false, not, ◌&&◌, ◌||◌, List, [], ◌∷◌, ◌++◌, length, refl, sym, ◌∙◌, ap, subst, arith, Option, Some, decimal, length-append}
-use Rattle.std.specs.Prelude.{Result, Ok, Err, IfErr, None}
+use Rattle.std.proofs.Common.{◌≡◌, ◌≢◌, ℕ, ◌+◌, ◌<◌, ◌≤◌, false, not, ◌&&◌, ◌||◌, List, [], ◌∷◌, ◌++◌, length, refl, sym, ◌∙◌, ap, subst, arith, Option, Some, decimal, length-append}
+use Rattle.std.specs.Prelude.{None}
 use Rattle.std.proofs.lemmas.Fmt.{length-decimal-le}
 use Rattle.gix_hash.specs.Id.{Id, null_id}
 use Rattle.gix_hash.specs.Order.{id_eq}
@@ -17,39 +17,14 @@ use Rattle.history_model.specs.Places.{file_at, object_place}
 use Rattle.history_model.proofs.IdLemmas.{has_kind}
 use Rattle.history_model.proofs.WholeTexts.{object_cut, object_same}
 use Rattle.history_layout.specs.TreeReads.{HasObject}
-use Rattle.history_texts.specs.ObjectTexts.{IsNoObject, is_empty_tree, is_reserved}
+use Rattle.history_texts.specs.ObjectTexts.{is_empty_tree, is_reserved}
 use Rattle.history_texts.specs.Written.{IsMalformed}
-use Rattle.history_texts.specs.Malformed.{IsBefore1970, IsTagOfOther}
-use Rattle.history_check_objects.specs.Flaws.{HasBadTag, HasBadTime, HasFile, HasReserved, HasText, IsBadText, IsBadTree, IsElseMalformed, IsObjectsFlaw, IsOther, IsTooLong, no_object, no_commit, no_tag, malformed}
+use Rattle.history_check_objects.specs.Flaws.{HasFile, HasText, IsBadText, IsBadTree, IsElseMalformed, IsTooLong, no_commit, no_tag, malformed}
 use Rattle.history_check_objects.specs.Links.{Link, LinksObjects}
 use Rattle.history_check_objects.specs.Nexts.{IsObject}
 use Rattle.history_check_objects.specs.Reading.{IsFileFor, is_reserved_in}
 use Rattle.std.proofs.lemmas.Option.{same_Some}
-use Rattle.history_texts.specs.declared.open_error.OpenError.{OpenError}
-use Rattle.history_texts.specs.declared.open_error.NamedBy.TheVariants.{Object}
-use Rattle.history_texts.specs.declared.open_error.OpenError.TheVariants.{Stray, Unfinished, BadObject, WrongId, TooLarge, BadTree, BadTime, BadTag, Missing, WrongKind, Cycle, IdReserved, File, Memory}
-
--- a flaw that no failed reading is stays one
-pub flaw_stays : (MayFail : Type 0) (kind : Kind) (tree : Tree) (flaw : OpenError) → IsObjectsFlaw ⊥ kind tree flaw → IsObjectsFlaw MayFail kind tree flaw
-flaw_stays MayFail kind tree (Stray path) is = is
-flaw_stays MayFail kind tree (Unfinished path) is = is
-flaw_stays MayFail kind tree (BadObject path) is = is
-flaw_stays MayFail kind tree (WrongId path) is = is
-flaw_stays MayFail kind tree (TooLarge path) is = is
-flaw_stays MayFail kind tree (BadTree id) is = is
-flaw_stays MayFail kind tree (BadTime id) is = is
-flaw_stays MayFail kind tree (BadTag id) is = is
-flaw_stays MayFail kind tree (Missing id (Object by)) is = is
-flaw_stays MayFail kind tree (WrongKind id (Object by)) is = is
-flaw_stays MayFail kind tree (Cycle id) is = is
-flaw_stays MayFail kind tree IdReserved is = is
-flaw_stays MayFail kind tree File is = absurd is
-flaw_stays MayFail kind tree Memory is = is
-flaw_stays MayFail kind tree _ is = absurd is
-
-pub flaws_stay : {X : Type 0} (MayFail : Type 0) (kind : Kind) (tree : Tree) (r : Result X OpenError) → IfErr r (IsObjectsFlaw ⊥ kind tree) → IfErr r (IsObjectsFlaw MayFail kind tree)
-flaws_stay MayFail kind tree (Ok x) is = is
-flaws_stay MayFail kind tree (Err flaw) is = flaw_stays MayFail kind tree flaw is
+use Rattle.history_texts.specs.declared.open_error.OpenError.TheVariants.{File}
 
 -- ---- how long texts are
 
@@ -98,18 +73,9 @@ module _ (kind : Kind) (tree : Tree) (id : Id) (path text : Bytes) (has : HasFil
   pub text_flaw : (What : Id → Bytes → Type 0) → What id text → HasText kind tree path What
   text_flaw What is = (id, text, has, is)
 
-  pub bad_text : IsNoObject text → HasText kind tree path (λ id text. IsBadText kind text)
-  bad_text none = text_flaw (λ id text. IsBadText kind text) (no_object none)
-
   module _ (object : ObjectKind) (content : Bytes) (is : text ≡ object_text object content) where
     object_there : HasObject kind tree id object content
     object_there = record { formed = has.formed; stands = stands ∙ ap Some is }
-
-    pub wrong_id : id ≢ digest kind text → HasText kind tree path (IsOther kind)
-    wrong_id other = text_flaw (IsOther kind) (record { object = object; content = content; text_is = is; other = λ same. other (same ∙ ap (digest kind) (sym is)) })
-
-    pub reserved : is_reserved_in kind id object content ≡ true → HasReserved kind tree
-    reserved is = (id, object, content, object_there, reserved_is object content ∙ is)
 
     pub is_object : id ≡ digest kind text → is_reserved_in kind id object content ≡ false → length content ≤ max_content → (links : List Link) → LinksObjects kind object content links → IsObject kind tree id object content links
     is_object own free within links linked = record {
@@ -125,12 +91,6 @@ module _ (kind : Kind) (tree : Tree) (id : Id) (path text : Bytes) (has : HasFil
 module _ (kind : Kind) (tree : Tree) (id : Id) (path content : Bytes) where
   pub bad_tree : HasFile kind tree path id (object_text kinds.Tree content) → IsMalformed kind kinds.Tree content → IsBadTree kind tree id
   bad_tree has bad = malformed content (object_there kind tree id path (object_text kinds.Tree content) has kinds.Tree content refl) bad
-
-  pub bad_time : (object : ObjectKind) → HasFile kind tree path id (object_text object content) → IsBefore1970 kind object content → HasBadTime kind tree id
-  bad_time object has before = (object, content, object_there kind tree id path (object_text object content) has object content refl, before)
-
-  pub bad_tag : HasFile kind tree path id (object_text kinds.Tag content) → IsTagOfOther content → HasBadTag kind tree id
-  bad_tag has of_other = (content, object_there kind tree id path (object_text kinds.Tag content) has kinds.Tag content refl, of_other)
 
   -- without another cause
   pub bad_object : (object : ObjectKind) → object ≢ kinds.Tree → HasFile kind tree path id (object_text object content) → IsElseMalformed kind object content → HasText kind tree path (λ id text. IsBadText kind text)

@@ -1,4 +1,4 @@
-//! Laws on the values of a tree of objects, over the definitions alone.
+//! Laws that values whose links are stored can be stored too, and that a whole store stays whole with any names.
 
 ghost use Rattle.history_check_objects.specs.Nexts.{NextsAreStored};
 ghost use Rattle.history_check_objects.specs.Opened.{StaysWhole};

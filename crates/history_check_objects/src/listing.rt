@@ -1,4 +1,4 @@
-//! The objects of a part, by the places of its files.
+//! Lists the ids of a part's objects by the paths of its files, of which any other is stray or unfinished.
 ghost use Rattle.std.specs.Prelude.{◌≡◌, ◌≢◌, IfErr, IfOk, IsTrue, MatchOption, OnOk};
 ghost use Rattle.gix_hash.specs.Id.{Id, id_of};
 ghost use Rattle.history_model.specs.Forms.{is_id};

@@ -1,4 +1,4 @@
-//! The order of the objects: each after all that it names, and none twice.
+//! Surveys the objects, each after all that it names: cycles, missing ones, wrong kinds, paths too long.
 ghost use Rattle.std.specs.Prelude.{◌≡◌, ◌∷◌, ◌<◌, ◌≤◌, List, [], None, Some, IfErr, IfOk, OnOk, MatchOption, length, option_map, reverse};
 ghost use Rattle.gix_hash.specs.Id.{id_of};
 ghost use Rattle.gix_hash.specs.declared.kind.Kind.{Kind};
@@ -35,7 +35,7 @@ pub(crate) struct Frame {
 impl Frame {
     // Goes past a link that is done, or returns what is wrong with it: its kind, or a path that is
     // too long.
-    fn pass(&mut self, link: Link, done: Done) -> Result<(), OpenError>
+    fn pass_link(&mut self, link: Link, done: Done) -> Result<(), OpenError>
         requires { self.old.next < length self.old.links.items }
         ensures same { IsSame self.old self.new }
         ensures passed { OnOk result (IsPassed self.old self.new link done) }
@@ -152,11 +152,11 @@ impl Survey {
         'links: while frame.next < frame.links.len() {
             let link = frame.links[frame.next];
             if let Some(done) = self.stored.done.get(&link.id).copied() {
-                frame.pass(link, done)?;
+                frame.pass_link(link, done)?;
             } else if self.unmet.remove(&link.id) {
                 return Ok(Some(link.id));
             } else {
-                return Err(self.lacking(frame.id, link.id));
+                return Err(self.missing_or_cycle(frame.id, link.id));
             }
         }
         Ok(None)
@@ -164,7 +164,7 @@ impl Survey {
 
     // Returns what is wrong if an object is named that is neither done nor to come: `Cycle` if it
     // is open itself, and else `Missing`.
-    fn lacking(&self, by: ObjectId, id: ObjectId) -> OpenError
+    fn missing_or_cycle(&self, by: ObjectId, id: ObjectId) -> OpenError
         ensures { IsLacking self.now.waiting.items by id result }
     {
         if id == by || self.is_open(&id) {

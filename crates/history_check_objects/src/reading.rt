@@ -1,4 +1,4 @@
-//! Reading one object: its kind, and what it says of others.
+//! Reads one object from its file: its kind and links, or what is wrong with its size, id or written form.
 ghost use Rattle.std.specs.Prelude.{◌≡◌, IfErr, IfOk, MatchOption, map};
 ghost use Rattle.gix_hash.specs.Id.{id_of};
 ghost use Rattle.gix_hash.specs.declared.kind.Kind.{Kind};

@@ -1,4 +1,4 @@
-//! What is known of the objects that are stored: their kinds, and what the tags are of.
+//! What is known of the stored objects, noted one by one: ids, kinds, and the commits that tags are of.
 ghost use Rattle.std.specs.BTreeMap.{IsEmpty, Updates};
 ghost use Rattle.std.specs.Prelude.{◌≡◌, MatchOption, OnOk, Some, option_map};
 ghost use Rattle.gix_hash.specs.Id.{id_of};

@@ -1,4 +1,4 @@
-//! The objects of a part that is whole.
+//! The check of a whole objects part: its files are listed, then its objects surveyed.
 ghost use Rattle.std.specs.Prelude.{IfErr, IfOk};
 ghost use Rattle.history_check_objects.specs.Flaws.{IsObjectsFlaw};
 ghost use Rattle.history_check_objects.specs.Surveyed.{IsWholePart};

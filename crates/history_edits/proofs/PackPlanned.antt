@@ -63,12 +63,6 @@ use Rattle.history_edits.proofs.PlansMade.{id_held}
 use Rattle.history_edits.proofs.RecordTaken.{form_of, none_said}
 use Rattle.history_edits.proofs.WholeReads.{names_stand_in_place, reads_whole}
 
-clash : {A : Type 0} {b : Bool} → b ≡ true → b ≡ false → A
-clash e f = absurd (go (sym e ∙ f))
-  where
-    go : true ≡ false → ⊥
-    go e = cc
-
 -- ---- one name
 
 -- what holds of a record that is asked for

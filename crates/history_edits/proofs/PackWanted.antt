@@ -90,10 +90,6 @@ all_public r written name there = go (get r.names name) refl there
 abbrev name_in : Record → Bytes
 name_in = record_name
 
--- each is found by its name
-pub found_each : (es : List Record) → has_twice bytes_eq (map name_in es) ≡ false → AllByRecursion (λ (e : Record). hit es e.name ≡ Some e) es
-found_each es once = all_by_finds (λ (e : Record). hit es e.name ≡ Some e) es once (λ e found. found)
-
 pub none_among : (es : List Record) (name : Bytes) → list_any (bytes_eq name) (map name_in es) ≡ false → hit es name ≡ None
 none_among [] name none = refl
 none_among (e ∷ es) name none =

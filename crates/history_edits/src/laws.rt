@@ -1,4 +1,4 @@
-//! What the references of `gix_ref`, and the moments of its transactions, are in the words of a repository.
+//! Laws on edits made ready, prepared and committed, of names, of HEAD and of `packed-refs`, and on their locks.
 
 ghost use Rattle.history_edits.specs.Bridges.{NamesStandInPlace, ReadsWhole, PathsOnce, LineTold, RecordTaken};
 ghost use Rattle.history_edits.specs.EditChanges.{CommittingMakes, CommittingPasses, PreparingPasses};

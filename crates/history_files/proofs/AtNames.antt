@@ -20,9 +20,10 @@ use Rattle.history_model.specs.declared.FileKind.TheVariants.{File as PlainFile,
 use Rattle.history_model.proofs.WholeLists.{In, in_map, of_map, clash, either, passes_one, one_passes, texts_differ, none_is_some}
 use Rattle.history_model.proofs.WholePaths.{below_front, below_parts, has_parts, front_plain, is_beginning, below_below}
 use Rattle.history_model.proofs.WholeItems.{Entry, leaf_in}
-use Rattle.history_model.proofs.WholeRoots.{HasAll, inside_has, inside_inside, has_all}
+use Rattle.history_model.proofs.WholeRoots.{HasAll, all_values, inside_has, inside_inside, has_all}
 use Rattle.history_model.proofs.WholeStores.{get_in, in_get}
 use Rattle.history_files.specs.Unfolding.{IsInTable, entry_kind}
+use Rattle.history_files.specs.NamedTrees.{texts}
 use Rattle.history_files.specs.Reading.{IsRootOf, TreeFault, OwnFault, entry_of, named_by, named_as, StepsBelow}
 use Rattle.history_files.specs.declared.error.ReadError.{ReadError}
 use Rattle.history_files.specs.declared.error.ReadError.TheVariants.{Failed, Broken, Memory}
@@ -220,24 +221,26 @@ module _ (table : Table) (kind : Kind) where
   pub file_entry : (m : FileMap) (name : Bytes) → has_below m name ≡ false → entry_at kind m name ≡ option_map (λ (content : Content). (mode_of content.kind, blob_id kind content.bytes)) (get m name)
   file_entry m name h = ap (λ b. cond b (Some (codes "40000", folder_id kind (inside name m))) (option_map (λ (content : Content). (mode_of content.kind, blob_id kind content.bytes)) (get m name))) h
 
-  pub step_none : (found : Found) (name : Bytes) (rest : List Bytes) (answer : Option (Bytes × Id)) → has_byte 47 name ≡ false → Leads found (name ∷ rest) answer → StepsBelow table found name None → answer ≡ None
-  step_none (File k id) name rest answer plain leads step = leads
-  step_none (Folder id) name rest answer plain (m, fits, has, same, is) step =
-      let none : entry_at kind m name ≡ None = sym (step (items kind m) (subst (λ i. StandsAs table i objects.Tree (Tree (items kind m))) (sym same) (tree_of_map m fits has)) ∙ one_name kind m fits name plain) in
-      is ∙ go rest none
-    where
-      go : (rest : List Bytes) → entry_at kind m name ≡ None → at_names kind m (name ∷ rest) ≡ None
-      go [] none = none
-      go (next ∷ more) none = elim (by_case m name) [
-        | inl h ↦ none_is_some (codes "40000", folder_id kind (inside name m)) (sym none ∙ folder_entry m name h)
-        | inr h ↦ ap (λ b. cond b (at_names kind (inside name m) (next ∷ more)) None) h
-      ]
+  -- what is found in a folder is what its files have there
+  named_there : (id : ObjectId) (next : Option Found) (name : Bytes) (m : FileMap) → IsFileMap m → HasAll (IsInTable table kind) m → id_of id ≡ folder_id kind m → has_byte 47 name ≡ false → StepsBelow table (Folder id) name next
+      → option_map entry_of next ≡ entry_at kind m name
+  named_there id next name m fits has same plain step =
+      step (items kind m) (subst (λ i. StandsAs table i objects.Tree (Tree (items kind m))) (sym same) (tree_of_map m fits has)) ∙ one_name kind m fits name plain
 
-  pub step_some : (found next : Found) (name : Bytes) (rest : List Bytes) (answer : Option (Bytes × Id)) → has_byte 47 name ≡ false → Leads found (name ∷ rest) answer → StepsBelow table found name (Some next)
-      → Leads next rest answer
-  step_some (File k id) next name rest answer plain leads step = none_is_some next (sym step)
-  step_some (Folder id) next name rest answer plain (m, fits, has, same, is) step =
-      go next rest is (step (items kind m) (subst (λ i. StandsAs table i objects.Tree (Tree (items kind m))) (sym same) (tree_of_map m fits has)) ∙ one_name kind m fits name plain) (by_case m name)
+  none_below : (m : FileMap) (name : Bytes) (rest : List Bytes) → entry_at kind m name ≡ None → at_names kind m (name ∷ rest) ≡ None
+  none_below m name [] none = none
+  none_below m name (next ∷ more) none = elim (by_case m name) [
+    | inl h ↦ none_is_some (codes "40000", folder_id kind (inside name m)) (sym none ∙ folder_entry m name h)
+    | inr h ↦ ap (λ b. cond b (at_names kind (inside name m) (next ∷ more)) None) h
+  ]
+
+  -- nothing has the name, and so nothing is at the names that are left
+  pub leads_none : (id : ObjectId) (name : Bytes) (rest : List Bytes) (answer : Option (Bytes × Id)) → (leads : Leads (Folder id) (name ∷ rest) answer) → None ≡ entry_at kind leads.0 name → answer ≡ None
+  leads_none id name rest answer (m, fits, has, same, is) none = is ∙ none_below m name rest (sym none)
+
+  -- what has the name leads on
+  pub leads_on : (id : ObjectId) (next : Found) (name : Bytes) (rest : List Bytes) (answer : Option (Bytes × Id)) → (leads : Leads (Folder id) (name ∷ rest) answer) → Some (entry_of next) ≡ entry_at kind leads.0 name → Leads next rest answer
+  leads_on id next name rest answer (m, fits, has, same, is) there = go next rest is there (by_case m name)
     where
       no_content : {A : Type 0} (o : Option Content) (i : Id) → ◌≡◌ {A = Option (Bytes × Id)} (Some (codes "40000", i)) (option_map (λ (content : Content). (mode_of content.kind, blob_id kind content.bytes)) o) → A
       no_content None i e = none_is_some (codes "40000", i) (sym e)
@@ -261,10 +264,20 @@ module _ (table : Table) (kind : Kind) where
       go (File k inner) [] is e (inr h) = is ∙ sym e
       go (File k inner) (more ∷ others) is e (inr h) = is ∙ ap (λ b. cond b (at_names kind (inside name m) (more ∷ others)) None) h
 
-  -- the end
-  pub ends : (found : Found) (answer : Option (Bytes × Id)) → Leads found [] answer → Some (entry_of found) ≡ answer
-  ends (File k id) answer leads = sym leads
-  ends (Folder id) answer (m, fits, has, same, is) = ap (λ i. Some (codes "40000", i)) same ∙ sym is
+  pub step_none : (found : Found) (name : Bytes) (rest : List Bytes) (answer : Option (Bytes × Id)) → has_byte 47 name ≡ false → Leads found (name ∷ rest) answer → StepsBelow table found name None → answer ≡ None
+  step_none (File k id) name rest answer plain leads step = leads
+  step_none (Folder id) name rest answer plain (m, fits, has, same, is) step =
+      leads_none id name rest answer (m, fits, has, same, is) (named_there id None name m fits has same plain step)
+
+  pub step_some : (found next : Found) (name : Bytes) (rest : List Bytes) (answer : Option (Bytes × Id)) → has_byte 47 name ≡ false → Leads found (name ∷ rest) answer → StepsBelow table found name (Some next)
+      → Leads next rest answer
+  step_some (File k id) next name rest answer plain leads step = none_is_some next (sym step)
+  step_some (Folder id) next name rest answer plain (m, fits, has, same, is) step =
+      leads_on id next name rest answer (m, fits, has, same, is) (named_there id (Some next) name m fits has same plain step)
+
+  -- the folder of files is their root's
+  pub root_there : (id : ObjectId) (rest : List Bytes) (answer : Option (Bytes × Id)) → (leads : Leads (Folder id) rest answer) → IsRootOf table kind leads.0 (id_of id)
+  root_there id rest answer (m, fits, has, same, is) = record { map = fits; trees = all_values (IsInTable table kind) m has; id = same }
 
   -- a tree in the table isn't reported as broken
   pub own : (honest may_fail : Type 0) → honest → (found : Found) (rest : List Bytes) (answer : Option (Bytes × Id)) → Leads found rest answer → (error : ReadError)
@@ -278,16 +291,13 @@ module _ (table : Table) (kind : Kind) where
 
 -- ---- names as they are read
 
-abbrev pub texts : List (Bor (List ℕ)) → List Bytes
-texts names = map {A = Bor (List ℕ)} {B = List ℕ} (λ name. name.now) names
-
 module _ (names : List (Bor (List ℕ))) (i : ℕ) (d : Bor (List ℕ)) (within : i < length names) where
   pub next_name : texts (drop i names) ≡ (get_or names i d).now ∷ texts (drop (i + 1) names)
   next_name =
       let next : suc i ≡ i + 1 = omega arith in
       ap texts (drop-cons names i d within ∙ ap (λ n. get_or names i d ∷ drop n names) next)
 
-in_texts : (names : List (Bor (List ℕ))) (i : ℕ) (d : Bor (List ℕ)) → i < length names → In (get_or names i d).now (texts names)
+pub in_texts : (names : List (Bor (List ℕ))) (i : ℕ) (d : Bor (List ℕ)) → i < length names → In (get_or names i d).now (texts names)
 in_texts [] i d within = absurd (omega arith)
 in_texts (name ∷ names) zero d within = inl refl
 in_texts (name ∷ names) (suc i) d within = inr (in_texts names i d (omega arith))

@@ -4,7 +4,7 @@ use Rattle.std.specs.List.{onto_first}
 use Rattle.gix_object_nodes.specs.Files.{Path, behind}
 use Rattle.history_model.specs.Bytes.{Bytes, has_byte}
 use Rattle.history_model.specs.FileMap.{components, is_below, is_within}
-use Rattle.history_model.proofs.WholeLists.{clash, either, same_text, text_itself}
+use Rattle.history_model.proofs.WholeLists.{clash, either}
 use Rattle.history_model.proofs.WholePaths.{below_parts, below_front, eq_same}
 use Rattle.gix_object_nodes.proofs.Paths.{behind_is}
 use Rattle.gix_object_editor.proofs.Raised.{begins_behind}
@@ -119,22 +119,6 @@ behind_parts (a ∷ p) (b ∷ q) = go (a == 47) refl (b == 47) refl (nat_eq a b)
     go false e false f false g (c, cs, h) (d, ds, k) rest =
         (λ i. behind (onto_first a (h i)) (onto_first b (k i)))
         ∙ ap (λ t. cond (t && bytes_eq c d) (behind cs ds) None) g
-
--- one list of components is that of one path
-pub same_parts : (p q : Bytes) → components p ≡ components q → p ≡ q
-same_parts p q e = go (bytes_eq p q) refl (sym (behind_parts p q) ∙ ap (λ ps. behind ps (components q)) e ∙ behind_itself (components q))
-  where
-    behind_itself : (ps : Path) → behind ps ps ≡ Some []
-    behind_itself [] = refl
-    behind_itself (n ∷ ps) = ap (λ t. cond t (behind ps ps) None) (text_itself n) ∙ behind_itself ps
-
-    go : (t : Bool) → bytes_eq p q ≡ t → parts_behind p q ≡ Some [] → p ≡ q
-    go true f h = same_text p q f
-    go false f h = more (below_rest p q) (sym (ap (λ t. cond t (Some []) (option_map components (below_rest p q))) f) ∙ h)
-      where
-        more : (o : Option Bytes) → option_map components o ≡ Some [] → p ≡ q
-        more None k = cc
-        more (Some r) k = let some = some_parts r in let inside : components r ≡ [] = cc in let bad = sym some.2 ∙ inside in cc
 
 pub is_behind : (p q : Bytes) → is_some (behind (components p) (components q)) ≡ is_within p q
 is_behind p q = ap is_some (behind_parts p q) ∙ go (bytes_eq p q) (below_rest p q) ∙ ap (λ b. bytes_eq p q || b) (below_by p q)

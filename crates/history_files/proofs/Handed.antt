@@ -27,7 +27,7 @@ use Rattle.history_model.proofs.IdLemmas.{one_id}
 use Rattle.history_model.proofs.WholeLists.{In, clash, in_left, in_map, in_right, of_map, none_is_some, one_passes}
 use Rattle.history_model.proofs.WholeItems.{Entry, leaf_in as entry_in}
 use Rattle.history_model.proofs.WholePaths.{below_front, front_plain, has_parts}
-use Rattle.history_model.proofs.WholeRoots.{HasAll, all_values, in_inside, inside_inside}
+use Rattle.history_model.proofs.WholeRoots.{HasAll, all_values, inside_inside}
 use Rattle.history_model.proofs.WholeSteps.{contains_in, in_contains}
 use Rattle.history_model.proofs.WholeStores.{get_in, in_get}
 use Rattle.history_files.specs.Unfolding.{IsInTable, IsUnfolded, file_leaf}
@@ -88,23 +88,6 @@ module _ (kind : Kind) (m : FileMap) (fits : IsFileMap m) (name : Bytes) (plain 
           let there : get m (name ++ 47 ∷ (folder.some.0).0) ≡ Some (folder.some.0).1 =
           ap (λ n. get m (n ++ 47 ∷ (folder.some.0).0)) (sym same) ∙ in_get m (other ++ 47 ∷ (folder.some.0).0) (folder.some.0).1 folder.some.1 in
           absurd (no_both (folder.some.0).0 content (folder.some.0).1 e there)
-
-  -- if nothing is at or below the name, no entry has it
-  pub none_named : get m name ≡ None → (HasFile (inside name m) → ⊥) → named name (items kind m) ≡ None
-  none_named nothing below = elim (named_in kind (tree_of kind m) name (tree_entries (entries m))) [
-    | inl (none, others) ↦ none
-    | inr (t, i, same, found) ↦ absurd (by_entry t i same)
-  ]
-    where
-      by_entry : (t : TreeEntry) → In t (tree_entries (entries m)) → name_of t ≡ name → ⊥
-      by_entry (FileEntry path c) i same = none_is_some c (sym nothing ∙ ap (get m) (sym same) ∙ in_get m path c (entry_in (entries m) path c i))
-      by_entry (FolderEntry other below_it) i same =
-          let folder = folder_of kind m other below_it i in
-          let one = folder.some.0 in
-          below (subst (λ n. HasFile (inside n m)) same (one.0, one.1, in_get (inside other m) one.0 one.1 (there one.0 one.1 other folder.some.1)))
-        where
-          there : (rest : Bytes) (content : Content) (n : Bytes) → In (n ++ 47 ∷ rest, content) (entries m) → In (rest, content) (entries (inside n m))
-          there rest content n j = in_inside n m rest content j
 
 -- ---- what entries name
 

@@ -180,9 +180,6 @@ ordered (e ∷ es) sorted =
 -- ---- well-formed
 
 module _ (kind : Kind) (m : FileMap) (fits : IsFileMap m) where
-  item : TreeEntry → Item
-  item t = item_of kind (tree_of kind m) t
-
   key_is : (t : TreeEntry) → item_key (item_of kind (tree_of kind m) t) ≡ key t
   key_is (FileEntry path content) = ap (λ b. cond b (path ++ 47 ∷ []) path) (leaf_no_tree content.kind)
   key_is (FolderEntry name files) = refl

@@ -27,13 +27,6 @@ abbrev pub under : unfolded.FileMap → Path → unfolded.FileMap
 under there front [] = None
 under there front (name ∷ rest) = there (front ++ name ∷ rest)
 
-pub none_there : (kind : Kind) (m : FileMap) (there : unfolded.FileMap) → IsUnfolded kind m there → there [] ≡ None
-none_there kind m there is = go (there []) refl
-  where
-    go : (o : Option Leaf) → there [] ≡ o → there [] ≡ None
-    go None e = e
-    go (Some leaf) e = let found = is.only [] leaf e in let some = some_parts found.0 in let bad = sym some.2 ∙ found.1 in cc
-
 pub inside_unfolds : (kind : Kind) (m : FileMap) (there : unfolded.FileMap) (folder : Bytes) → IsUnfolded kind m there → IsUnfolded kind (inside folder m) (under there (components folder))
 inside_unfolds kind m there folder is = record { at = at; only = only }
   where

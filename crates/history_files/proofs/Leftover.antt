@@ -9,7 +9,8 @@ use Rattle.gix_object_editor.specs.declared.tree.editor.state.Editor.{Editor}
 use Rattle.gix_object_lookup.specs.Table.{Table}
 use Rattle.history_model.specs.Bytes.{Bytes}
 use Rattle.history_model.specs.FileMap as model
-use Rattle.history_model.specs.FileMap.{FileMap, edit_path, edited, is_path, is_refused, some_refused}
+use Rattle.history_model.specs.FileMap.{FileMap, edited, is_path, is_refused, some_refused}
+use Rattle.history_model.specs.laws.Trees.{edit_path}
 use Rattle.history_files.specs.Edits.{AreEdits, IsChange, IsEdit}
 use Rattle.history_files.specs.Editing.{EditsFault, HavePaths}
 use Rattle.history_files.specs.Entries.{GraftsStand, names_only}

@@ -8,6 +8,7 @@ pub mod OneRoot
 pub mod Stores
 pub mod LawLemmas
 pub mod AtNames
+pub mod NamesKept
 pub mod Among
 pub mod Read
 pub mod Walk

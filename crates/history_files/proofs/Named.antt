@@ -17,7 +17,8 @@ use Rattle.gix_object_editor.specs.Entries.{ItemsHave, PassesDown, made_leaf}
 use Rattle.gix_object_nodes.specs.Files.{Leaf, is_null, leaf_of}
 use Rattle.history_model.specs.Bytes.{Bytes, has_byte, is_empty}
 use Rattle.history_model.specs.FileMap as model
-use Rattle.history_model.specs.FileMap.{FileMap, Content, IsFileMap, beginnings, components, edit_path, folders_of, inside, is_path}
+use Rattle.history_model.specs.FileMap.{FileMap, Content, IsFileMap, beginnings, components, folders_of, inside, is_path}
+use Rattle.history_model.specs.laws.Trees.{edit_path}
 use Rattle.history_model.specs.Objects.{FileEntry, FolderEntry, TreeEntry, digest, folder_id, root, tree_entries, tree_text}
 use Rattle.history_model.specs.declared.FileKind.{FileKind}
 use Rattle.history_model.specs.declared.FileKind.TheVariants.{File as PlainFile, Exec, Link}

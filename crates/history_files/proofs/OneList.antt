@@ -42,14 +42,6 @@ named_other name item items differ = go (bytes_eq name item.name) refl
     go true t = absurd (differ (same_text name item.name t))
     go false t = ap (λ b. cond b (Some item) (named name items)) t
 
--- an entry of a list with each name once is found
-pub named_in_list : (items : List Item) → HasNamesOnce items → (item : Item) → In item items → named item.name items ≡ Some item
-named_in_list [] once item i = absurd i
-named_in_list (x ∷ items) once item (inl e) = ap (λ (y : Item). named y.name (x ∷ items)) e ∙ named_first x items ∙ ap (λ y. Some y) (sym e)
-named_in_list (x ∷ items) once item (inr i) =
-    named_other item.name x items (λ same. pairs_head (λ (a b : Item). a.name ≡ b.name → ⊥) x items once item i (sym same))
-    ∙ named_in_list items (pairs_tail (λ (a b : Item). a.name ≡ b.name → ⊥) x items once) item i
-
 none_behind : (item : Item) (items : List Item) → HasNamesOnce (item ∷ items) → named item.name items ≡ None
 none_behind item items once = go (named item.name items) refl
   where

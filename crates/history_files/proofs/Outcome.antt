@@ -14,7 +14,7 @@ use Rattle.gix_object_editor.specs.declared.tree.editor.state.Editor.{Editor}
 use Rattle.history_model.specs.Bytes.{Bytes}
 use Rattle.history_model.specs.FileMap as model
 use Rattle.history_model.specs.FileMap.{FileMap, IsFileMap, edited_by, folders_of, is_path, some_refused}
-use Rattle.history_model.specs.laws.Trees.{EditsKeep}
+use Rattle.history_model.specs.laws.Trees.{EditsKeep, edit_path}
 use Rattle.history_model.specs.Meaning.{put_bytes}
 use Rattle.history_model.specs.Objects.{StoredFolder, folder_id}
 use Rattle.history_model.proofs.WholeLists.{In, all_in, clash, in_left, in_map, in_right}
@@ -40,7 +40,7 @@ use Rattle.history_files.proofs.StandInEdits.{emptied, emptied_refused, empty_id
 pub have_paths : (table : Table) (kind : Kind) (edits : List Edit) (made : List model.Edit) → NameEdits table kind edits made → list_all (λ (edit : Edit). is_path edit.path.now) edits ≡ true → HavePaths made
 have_paths table kind edits made named fine = sym (same_paths table kind edits made named) ∙ fine
 
-pub no_paths : (table : Table) (kind : Kind) (edits : List Edit) (made : List model.Edit) → NameEdits table kind edits made → list_all (λ (edit : Edit). is_path edit.path.now) edits ≡ false → list_all (λ e. is_path (model.edit_path e)) made ≡ false
+pub no_paths : (table : Table) (kind : Kind) (edits : List Edit) (made : List model.Edit) → NameEdits table kind edits made → list_all (λ (edit : Edit). is_path edit.path.now) edits ≡ false → list_all (λ e. is_path (edit_path e)) made ≡ false
 no_paths table kind edits made named bad = sym (same_paths table kind edits made named) ∙ bad
 
 module _ {S : Type 0} (kind : Kind) (table : Table) (files : FileMap) (made : List model.Edit) (edits : List Edit) (named : NameEdits table kind edits made)

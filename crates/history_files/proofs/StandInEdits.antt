@@ -13,7 +13,8 @@ use Rattle.gix_object_lookup.specs.Table.{Table}
 use Rattle.gix_object_nodes.specs.Files.{is_null}
 use Rattle.history_model.specs.Bytes.{Bytes}
 use Rattle.history_model.specs.FileMap as model
-use Rattle.history_model.specs.FileMap.{FileMap, Content, carried, cleared, edit_path, edited, edited_by, has_below, is_path, is_refused, is_within, put_at, removed, some_refused, with_all}
+use Rattle.history_model.specs.FileMap.{FileMap, Content, carried, cleared, edited, edited_by, has_below, is_path, is_refused, is_within, put_at, removed, some_refused, with_all}
+use Rattle.history_model.specs.laws.Trees.{edit_path}
 use Rattle.history_model.specs.Meaning.{put_bytes}
 use Rattle.history_model.specs.Objects as objects
 use Rattle.history_model.specs.Objects.{StoredBytes, Value, blob_id, digest}

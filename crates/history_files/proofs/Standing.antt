@@ -17,7 +17,8 @@ use Rattle.gix_object_nodes.specs.Files.{IsEmptyTree, Leaf, is_null}
 use Rattle.gix_object_editor.specs.declared.tree.editor.state.Editor.{Editor}
 use Rattle.history_model.specs.Bytes.{Bytes, is_empty}
 use Rattle.history_model.specs.FileMap as model
-use Rattle.history_model.specs.FileMap.{FileMap, ComesFromFiles, IsFileMap, folders_of, inside}
+use Rattle.history_model.specs.FileMap.{FileMap, IsFileMap, folders_of, inside}
+use Rattle.history_model.specs.laws.Trees.{ComesFromFiles}
 use Rattle.history_model.specs.Objects.{folder_id}
 use Rattle.history_model.proofs.IdLemmas.{id_itself}
 use Rattle.history_model.proofs.WholeItems.{Entry}

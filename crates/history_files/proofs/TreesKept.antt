@@ -1,7 +1,7 @@
 -- Trees that are read one after another, and kept.
 use Rattle.std.proofs.Common.{◌≡◌, ◌∙◌, ap, refl, sym, subst, Bool, true, false, List, [], ◌∷◌, ◌++◌, ℕ, Option, Some, None, option_map, cond, Vec, arith}
 use Rattle.std.specs.Prelude.{Contains, map, Result, Ok, Err, IfOk, IsSome}
-use Rattle.std.specs.BTreeMap.{Updates, get, is_at}
+use Rattle.std.specs.BTreeMap.{BTreeMap, Updates, get, get_by, is_at}
 use Rattle.std.specs.Map.{keys_of, lookup}
 use Rattle.std.specs.Ordering.{is_eq}
 use Rattle.std.specs.declared.alloc.Global.{Global}
@@ -16,7 +16,7 @@ use Rattle.gix_object_lookup.specs.Table.{Object, Table, content_at, content_or_
 use Rattle.gix_object_lookup.specs.declared.find.Error.{Error}
 use Rattle.gix_object_lines.specs.declared.kind.Kind as object
 use Rattle.gix_object_lines.specs.declared.kind.Kind.TheVariants as kinds
-use Rattle.history_files.specs.KeptTrees.{AreKept, Contents, content_of, ids_of, kept_or, tree_object, tree_or}
+use Rattle.history_files.specs.KeptTrees.{AreKept, Contents, content_of, ids_of, tree_object}
 
 abbrev pub by_id : ObjectId → ObjectId → Ordering
 by_id x y = id_cmp (id_of x) (id_of y)
@@ -53,30 +53,21 @@ kept_there table contents kept id content is =
     let key = found_key id contents.entries content is in
     ap table key.1 ∙ kept key.0 content (ap (content_of contents) (sym key.1) ∙ is)
 
--- the store with what is kept is the store
-pub kept_same : (table : Table) (contents : Contents) → AreKept table contents → kept_or contents table ≡ table
-kept_same table contents kept = λ i. λ id. at id (content_of contents id) refl i
+-- what holds of each one that is kept holds too once one more is
+pub kept_more : {X : Type 0} (P : Id → X → Type 0) (old new : BTreeMap ObjectId X) (id : ObjectId) (value : X) → Updates by_id old new id (Some value) → P (id_of id) value
+    → ((key : ObjectId) (v : X) → get_by (λ k. id_cmp (id_of key) (id_of k)) old ≡ Some v → P (id_of key) v)
+    → (key : ObjectId) (v : X) → get_by (λ k. id_cmp (id_of key) (id_of k)) new ≡ Some v → P (id_of key) v
+kept_more {X} P old new id value put fits kept key v at = go (is_eq (by_id id key)) refl
   where
-    at : (id : Id) (found : Option (Vec ℕ Global)) → content_of contents id ≡ found → kept_or contents table id ≡ table id
-    at id None is = ap (λ o. tree_or o (table id)) is
-    at id (Some content) is =
-        let key = found_key id contents.entries content is in
-        ap (λ o. tree_or o (table id)) is ∙ sym (ap table key.1 ∙ kept key.0 content (ap (content_of contents) (sym key.1) ∙ is))
+    after : (tied : Bool) → is_eq (by_id id key) ≡ tied → get by_id new key ≡ cond tied (Some value) (get by_id old key)
+    after tied is = put.0 key ∙ ap (λ b. cond b (Some value) (get by_id old key)) is
 
--- one more is kept
+    go : (tied : Bool) → is_eq (by_id id key) ≡ tied → P (id_of key) v
+    go true is = subst (λ x. P x v) (tied_same (id_of id) (id_of key) is) (subst (P (id_of id)) (same_Some value v (sym (after true is) ∙ at)) fits)
+    go false is = kept key v (sym (after false is) ∙ at)
+
 pub one_kept : (table : Table) (old new : Contents) (id : ObjectId) (content : Vec ℕ Global) → Updates by_id old new id (Some content) → table (id_of id) ≡ Some (tree_object content) → AreKept table old → AreKept table new
-one_kept table old new id content put stands kept key bytes at = go (is_eq (by_id id key)) refl
-  where
-    after : (tied : Bool) → is_eq (by_id id key) ≡ tied → content_of new (id_of key) ≡ cond tied (Some content) (content_of old (id_of key))
-    after tied is = put.0 key ∙ ap (λ b. cond b (Some content) (get by_id old key)) is
-
-    go : (tied : Bool) → is_eq (by_id id key) ≡ tied → table (id_of key) ≡ Some (tree_object bytes)
-    go true is = ap table (sym (tied_same (id_of id) (id_of key) is)) ∙ stands ∙ ap (option_map tree_object) (sym (after true is) ∙ at)
-    go false is = kept key bytes (sym (after false is) ∙ at)
-
--- nothing is kept at first
-pub none_kept : (table : Table) (contents : Contents) → contents.entries ≡ [] → AreKept table contents
-none_kept table contents none key content at = cc (sym at ∙ ap (lookup (is_at (λ k. id_cmp (id_of key) (id_of k)))) none)
+one_kept table old new id content put stands kept = kept_more (λ at bytes. table at ≡ Some (tree_object bytes)) old new id content put stands kept
 
 -- a tree that was read is in the table
 pub tree_stands : (table : Table) (id : Id) (content : Vec ℕ Global) → kind_at table id ≡ Some kinds.Tree → content.items ≡ content_at table id → table id ≡ Some (tree_object content)

@@ -1,6 +1,6 @@
 -- What a file map's tree unfolds to, over trees that have it and its folders.
 use Rattle.std.proofs.Common.{◌≡◌, ℕ, zero, suc, ◌<◌, Bool, true, false, cond, not, List, [], ◌∷◌, ◌++◌, length, refl, sym, ◌∙◌, ap, subst, arith, inl, inr, Option, Some, None, is_some, option_map, length-append, ◌==◌}
-use Rattle.std.specs.List.{list_any, before_first, after_first}
+use Rattle.std.specs.List.{before_first, after_first}
 use Rattle.std.specs.FinMap.{entries, keys, get, contains_key}
 use Rattle.gix_hash.specs.declared.kind.Kind.{Kind}
 use Rattle.gix_object_tree.specs.Entry.{Item}
@@ -9,7 +9,7 @@ use Rattle.gix_object_lookup.specs.Table.{Table}
 use Rattle.gix_object_nodes.specs.Files.{Path, Leaf, Trees, named, through, tree_under, unless_tree, files_of_entry, files_of_tree, is_null, leaf_of}
 use Rattle.gix_object_editor.specs.Stored.{HasStored}
 use Rattle.gix_object_nodes.specs.Written.{files_under}
-use Rattle.history_model.specs.Bytes.{Bytes, has_byte, is_empty}
+use Rattle.history_model.specs.Bytes.{Bytes, has_byte}
 use Rattle.history_model.specs.FileMap.{FileMap, Content, IsFileMap, components, is_path, inside}
 use Rattle.history_model.specs.Objects.{FileEntry, FolderEntry, TreeEntry, tree_entries, Value, StoredFolder, folder_id, blob_id, root_within, longest, digest, tree_text}
 use Rattle.history_model.specs.declared.FileKind.{FileKind}
@@ -24,13 +24,9 @@ use Rattle.history_files.proofs.Components.{some_parts, one_part, parts_below}
 use Rattle.history_files.proofs.Items.{items, items_spelled, item_of, name_of, named_in, name_plain, has_leaf, has_folder, folder_of}
 use Rattle.history_model.proofs.RecoveredLemmas.{some_is}
 use Rattle.history_model.proofs.WholeForms.{zero_after, path_after, below_there}
-use Rattle.std.proofs.lemmas.Bool.{or_parts, and_from, and_parts, not-true, not_from_false}
+use Rattle.std.proofs.lemmas.Bool.{and_from, and_parts, not-true, not_from_false}
 
 -- ---- file maps and their folders
-
-any_right : (xs ys : List Bytes) → list_any is_empty (xs ++ ys) ≡ false → list_any is_empty ys ≡ false
-any_right [] ys h = h
-any_right (x ∷ xs) ys h = any_right xs ys (or_parts (is_empty x) (list_any is_empty (xs ++ ys)) h).1
 
 pub inside_map : (folder : Bytes) (m : FileMap) → IsFileMap m → IsFileMap (inside folder m)
 inside_map folder m map = record {

@@ -17,10 +17,6 @@ use Rattle.std.proofs.lemmas.Option.{same_Some}
 
 -- ---- an entry alone
 
-alone : (leaf : Leaf) (b : Bool) → unless_tree (cond b (no_trees leaf.id) None) leaf ≡ Some leaf
-alone leaf true = refl
-alone leaf false = refl
-
 null_files : (leaf : Leaf) (rest : Path) → is_null leaf.id ≡ true → files_of_entry no_trees rest leaf ≡ None
 null_files leaf [] e = ap (λ b. cond b None (unless_tree (tree_under no_trees leaf) leaf)) e
 null_files leaf (name ∷ rest) e =

@@ -11,7 +11,8 @@ use Rattle.gix_object_lookup.specs.Table.{Table}
 use Rattle.gix_object_nodes.specs.Files.{is_null}
 use Rattle.history_model.specs.Bytes.{Bytes}
 use Rattle.history_model.specs.FileMap as model
-use Rattle.history_model.specs.FileMap.{FileMap, edit_path, edited_by, folders_of, is_path, some_refused}
+use Rattle.history_model.specs.FileMap.{FileMap, edited_by, folders_of, is_path, some_refused}
+use Rattle.history_model.specs.laws.Trees.{edit_path}
 use Rattle.history_model.specs.Meaning.{put_bytes}
 use Rattle.history_model.specs.Objects as objects
 use Rattle.history_model.specs.Objects.{Value, StoredFolder, blob_id, folder_id, root}

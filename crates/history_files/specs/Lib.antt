@@ -11,6 +11,7 @@ pub mod Opening
 pub mod Lookups
 pub mod Making
 pub mod KeptTrees
+pub mod NamedTrees
 pub use Rattle.gix_hash.specs.Id
 pub use Rattle.gix_object_editor.specs.Editor
 pub use Rattle.gix_object_editor.specs.Outcomes

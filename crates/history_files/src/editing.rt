@@ -1,27 +1,25 @@
-//! The trees that edits make of a root's files.
+//! Makes edits of a root's files (`edit_files`): tests paths and null ids, and writes the trees to be stored.
 
 ghost use Rattle.std.specs.Prelude.{◌≡◌, ◌≤◌, ◌+◌, IfOk, IfErr, IsErrOf, map};
 ghost use Rattle.std.specs.List.{list_all, list_any};
 ghost use Rattle.gix_hash.specs.Id.{id_of};
 ghost use Rattle.gix_object_editor.specs.Asked.{CountsUp};
-ghost use Rattle.gix_object_editor.specs.Editor.{IsAsRead, asked_by};
 ghost use Rattle.gix_object_editor.specs.Stored.{HasStored};
-ghost use Rattle.gix_object_nodes.specs.Files.{Path, Trees, is_null};
+ghost use Rattle.gix_object_nodes.specs.Files.{Trees, is_null};
 ghost use Rattle.gix_hash.specs.declared.kind.Kind.{Kind};
-ghost use Rattle.history_model.specs.FileMap.{FileMap, is_path};
+ghost use Rattle.history_model.specs.FileMap.{is_path};
 ghost use Rattle.history_files.specs.StandIns.{puts_null, stand_in};
 ghost use Rattle.history_files.specs.Edits.{name_count};
-ghost use Rattle.history_files.specs.Entries.{own_folders};
 ghost use Rattle.gix_object_tree.specs.Entry.{own_item};
 ghost use Rattle.gix_object_tree.specs.Writing.{tree_text};
-ghost use Rattle.history_files.specs.Editing.{OfEdits, AreEdited, EditsFault, IsBase, root_id};
+ghost use Rattle.history_files.specs.Editing.{OfEdits, AreEdited, EditsFault, root_id};
 ghost use Rattle.history_files.specs.Lookups.{AsksOf, root_count, root_into};
-ghost use Rattle.history_files.specs.Opening.{EditsFiles, OpenFault, TellsBroken};
+ghost use Rattle.history_files.specs.Opening.{TellsBroken};
 ghost use Rattle.history_files.specs.Handing.{HasWritten, KeepsTree};
 ghost use Rattle.history_files.specs.declared.edits.EditError.TheVariants.{Failed, Memory};
 
 use crate::edits::{Change, Edit, EditError, make_edits};
-use crate::opening::open_editor;
+use crate::opening::editor_of;
 use crate::paths::is_file_path;
 use crate::trees::{EditedFiles, EditedTree};
 use gix_hash::{Kind, ObjectId};
@@ -90,37 +88,6 @@ pub(crate) fn are_paths(edits: &[Edit<'_>]) -> bool
     ensures { result ≡ list_all (λ edit. is_path edit.path.now) edits.now }
 {
     edits.iter().all(|edit| is_file_path(edit.path))
-}
-
-// Returns an editor of the root's files, or of none.
-fn editor_of<'a, S: FindInto>(
-    alloc: Global,
-    store: &'a S,
-    root: Option<&ObjectId>,
-) -> Result<Editor<&'a S>, EditError>
-    ensures base { S.is_honest store.now → (kind : Kind) (files : FileMap)
-        → IsBase (S.table store.now) kind (root_id root.entry) files
-        → IfOk result (EditsFiles (S.table store.now) kind (own_folders files) files) }
-    ensures as_read { IfOk result (λ editor. (trees : Trees) → IsAsRead trees editor) }
-    ensures store { IfOk result (λ editor. editor.store ≡ store.entry) }
-    ensures uncounted { IfOk result (λ editor. editor.lookups ≡ 0) }
-    ensures unopened { S.is_honest store.now
-        → (trees : Trees) → HasStored (S.table store.now) trees
-        → IfOk result (λ editor. (names : Path)
-        → asked_by editor names trees ≡ root_into trees (root_id root.entry) names) }
-    ensures own { S.is_honest store.now → (kind : Kind) (files : FileMap)
-        → IsBase (S.table store.now) kind (root_id root.entry) files
-        → IfErr result (OpenFault (S.may_fail store.now)) }
-    ensures broken { IfErr result (TellsBroken (S.is_honest store.now) (S.table store.now)) }
-    ensures failed { IsErrOf result Failed → S.may_fail store.now }
-{
-    match root {
-        Some(root) => Ok(open_editor(alloc, store, root)?),
-        None => {
-            let entries = Vec::new(alloc);
-            Ok(Editor::new(alloc, &Tree { entries }, store)?)
-        }
-    }
 }
 
 // Returns whether an edit puts what has the null id.

@@ -1,4 +1,4 @@
-//! Edits of a root's files.
+//! Edits and why they fail (`Edit`, `EditError`): made one by one in an editor, and the tree entry that one puts.
 
 ghost use Rattle.std.specs.Prelude.{◌≡◌, ◌≤◌, ◌+◌, length, OnOk, IfErr, IsErrOf};
 ghost use Rattle.gix_object_editor.specs.Asked.{CountsUp};
@@ -89,7 +89,7 @@ impl From<editor::Error> for EditError {
     fn from(error: editor::Error) -> EditError {
         match error {
             editor::Error::EmptyPathComponent => EditError::BadPath,
-            editor::Error::FindExistingObject(error) => unread(error),
+            editor::Error::FindExistingObject(error) => lookup_error(error),
             editor::Error::CannotRemoveNonLeaf { .. } => EditError::IsFolder,
             editor::Error::MalformedTree { oid } => EditError::Broken { oid },
             editor::Error::EmptyTree => EditError::EmptyTree,
@@ -119,7 +119,7 @@ impl From<AllocError> for EditError {
 }
 
 // Returns why a tree on a path isn't read.
-fn unread(error: existing_object::Error) -> EditError
+fn lookup_error(error: existing_object::Error) -> EditError
     ensures { result ≡ as_unread error }
 {
     match error {

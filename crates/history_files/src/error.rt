@@ -1,4 +1,4 @@
-//! Why the trees of files aren't read.
+//! Why the trees of files aren't read (`ReadError`), from the errors of lookups and the want of memory.
 
 ghost use Rattle.std.specs.Prelude.{◌≡◌};
 ghost use Rattle.history_files.specs.Reading.{as_read};

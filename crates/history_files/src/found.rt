@@ -1,4 +1,4 @@
-//! The file or folder at a path.
+//! The file or folder at a path, name by name: a tree's entries, the one of a name, and what its mode means.
 
 ghost use Rattle.std.specs.Prelude.{◌≡◌, map, List, IfOk, IfErr, IsErrOf, None, option_map, option_and_then};
 ghost use Rattle.gix_hash.specs.Id.{Id, id_of};
@@ -124,12 +124,12 @@ pub(crate) fn entries_of<'a, S: FindInto>(
     let content = lookup::entries_of(store, tree.as_oid(), buffer)?;
     match content.entries(alloc) {
         Ok(entries) => Ok(entries),
-        Err(error) => Err(unread(error, *tree)),
+        Err(error) => Err(decode_error(error, *tree)),
     }
 }
 
 // Returns why a tree's content isn't read.
-fn unread(error: decode::Error, oid: ObjectId) -> ReadError
+fn decode_error(error: decode::Error, oid: ObjectId) -> ReadError
     ensures { result ≡ unless_memory error (Broken oid) }
 {
     match error {

@@ -1,4 +1,4 @@
-//! The file or folder at each of several paths.
+//! The file or folder at each of several paths, from the entries that one walk finds.
 
 ghost use Rattle.std.specs.Prelude.{◌≡◌, map, IfOk, IfErr, IsErrOf, option_map};
 ghost use Rattle.gix_hash.specs.Id.{id_of};

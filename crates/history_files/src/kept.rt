@@ -1,4 +1,4 @@
-//! All trees below a root, and all files; each distinct tree is read once.
+//! All trees below a root read, each distinct one once, and all files made of them (`files_by_trees`).
 
 ghost use Rattle.std.specs.Prelude.{◌≡◌, map, IfOk, IfErr, IsErrOf, OnOk};
 ghost use Rattle.std.specs.FinMap.{entries};

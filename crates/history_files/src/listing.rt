@@ -1,4 +1,4 @@
-//! All files below a root.
+//! All files below a root: a walk records entries, and those of files are listed; why such a walk ends early.
 
 ghost use Rattle.std.specs.Prelude.{◌≡◌, map, filter_map, ◌++◌, IfOk, IfErr, IsErrOf, OnOk, option_map, option_to_list};
 ghost use Rattle.std.specs.FinMap.{entries};

@@ -1,4 +1,4 @@
-//! Paths of files, and the names in them.
+//! Paths of files: whether one is well-formed, and the names between its slashes.
 
 ghost use Rattle.std.specs.Prelude.{◌≡◌, map, not, IfOk};
 ghost use Rattle.std.specs.List.{list_any};

@@ -1,4 +1,4 @@
-//! Trees that edits look up, read and kept.
+//! Trees into which edits lead, read ahead and kept: the edits are tried on an editor over kept trees.
 
 ghost use Rattle.std.specs.Prelude.{◌≡◌, IfOk, IsErrOf, OnOk};
 ghost use Rattle.gix_object_lookup.specs.declared.find.Error.TheVariants as looked_up;
@@ -71,7 +71,7 @@ fn with_looked_up<S: FindInto>(
         → IfOk result (AreOf (S.table store.now)) }
     ensures failed { IsErrOf result looked_up.Failed → S.may_fail store.now }
 {
-    let mut editor = match opened(alloc, read, root) {
+    let mut editor = match editor_over(alloc, read, root) {
         Ok(editor) => editor,
         Err(ReadError::Memory) => return Err(Error::Memory),
         Err(_) => return Ok(ReadTrees::new(alloc)),
@@ -81,7 +81,7 @@ fn with_looked_up<S: FindInto>(
 }
 
 // Returns an editor of a root's files over the trees that are kept.
-fn opened(
+fn editor_over(
     alloc: Global,
     read: ReadTrees,
     root: Option<&ObjectId>,

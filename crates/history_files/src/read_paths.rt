@@ -1,4 +1,4 @@
-//! Trees on paths that are read and kept.
+//! Trees on several paths, read and kept: folders on the paths, and what is left of each path below them.
 
 ghost use Rattle.std.specs.Prelude.{IsErrOf, OnOk};
 ghost use Rattle.gix_object_lookup.specs.declared.find.Error.TheVariants as looked_up;
@@ -48,13 +48,13 @@ pub fn read_on_paths<S: FindInto>(
             return Ok(());
         };
         read.read(alloc, store, &next.tree)?;
-        follow(alloc, read, &next, &mut waiting)?;
+        follow_paths(alloc, read, &next, &mut waiting)?;
     }
     Ok(())
 }
 
 // Adds the folders of a tree on which paths go on, if the tree is kept and can be read.
-fn follow<'a>(
+fn follow_paths<'a>(
     alloc: Global,
     read: &ReadTrees,
     from: &Waiting<'a>,

@@ -1,4 +1,4 @@
-//! Trees that were read, and a store in which they aren't looked up again.
+//! Trees that were read, kept by id (`ReadTrees`), and a store that looks them up before others (`TreeStore`).
 
 ghost use Rattle.std.specs.Prelude.{◌++◌, IsErrOf, MatchOption, None, OnOk, ⊤};
 ghost use Rattle.gix_hash.specs.Id.{id_of};
@@ -20,7 +20,6 @@ use std::collections::BTreeMap;
 #[derive(Drop)]
 pub struct ReadTrees {
     contents: BTreeMap<ObjectId, Vec<u8>>,
-    size: usize,
 }
 
 impl ReadTrees {
@@ -30,17 +29,6 @@ impl ReadTrees {
     {
         ReadTrees {
             contents: BTreeMap::new(alloc),
-            size: 0,
-        }
-    }
-
-    /// Lets all trees go, if their contents have more than so many bytes.
-    pub fn bound(&mut self, most: usize)
-        ensures { (table : Table) → AreOf table self.old → AreOf table self.new }
-    {
-        if self.size > most {
-            self.contents.clear();
-            self.size = 0;
         }
     }
 
@@ -57,9 +45,7 @@ impl ReadTrees {
         ensures { (table : Table) → AreOf table self.old
             → Stands table (id_of id) kinds.Tree content.items → OnOk result (AreOf table self.new) }
     {
-        let size = content.len();
         self.contents.insert(id, content)?;
-        self.size = self.size.saturating_add(size);
         Ok(())
     }
 

@@ -1,4 +1,4 @@
-//! The trees of edited files.
+//! What edits made of a root's files: the new root, and the trees to store (`EditedFiles`, `EditedTree`).
 
 ghost use Rattle.history_files.specs.TreeIds.{IsTreeId};
 

@@ -164,9 +164,6 @@ module _ (r : Repository) (command : Command) (moved : List MovedName) (taken : 
   written_then : IsWritten new
   written_then = after_written r sound.whole sound.written command none
 
-  All : MovedName → Type 0
-  All m = (MovesTo r command m × NameMoves old tree m) × Extra old tree m
-
   all : AllByRecursion (λ m. (MovesTo r command m × NameMoves old tree m) × Extra old tree m) moved
   all = zip (λ m. MovesTo r command m × NameMoves old tree m) (Extra old tree) moved (zip (MovesTo r command) (NameMoves old tree) moved are.each may.each) extra
 

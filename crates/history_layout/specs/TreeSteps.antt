@@ -1,15 +1,14 @@
 -- What a step of one tree does to the half that it holds.
 use Rattle.std.specs.Prelude.{List, Contains, ◌⊎◌, ◌≡◌, ◌≢◌, Bool, false, not, ◌&&◌, ◌||◌, ◌++◌, Some, None, option_map, unwrap_or, bytes_eq, IsTrue, IsFalse}
 use Rattle.std.specs.FinMap.{get, contains_key, empty}
-use Rattle.gix_ref_file.specs.Tree.{Tree, folder, bytes_at}
-use Rattle.history_model.specs.Bytes.{Bytes, line}
-use Rattle.history_model.specs.Objects.{Actor, Value, StoredFolder, hex, value_text, id_of, empty_tree_id}
+use Rattle.gix_ref_file.specs.Tree.{Tree, folder}
+use Rattle.history_model.specs.Bytes.{Bytes}
+use Rattle.history_model.specs.Objects.{Actor, Value, StoredFolder, value_text, id_of, empty_tree_id}
 use Rattle.gix_hash.specs.Order.{id_eq}
 use Rattle.gix_hash.specs.Id.{Id, null_id}
 use Rattle.history_model.specs.Repository.{Repository, LogEntry, IsWholeStore, id_at, Values, HaveOwnIds}
 use Rattle.history_model.specs.Meaning.{store_one, store_all, some_taken, is_taken, is_other}
-use Rattle.history_model.specs.Places.{file_at, object_place, unfinished_place, is_object_folder, log_place, is_name_folder}
-use Rattle.history_model.specs.Logs.{log_line}
+use Rattle.history_model.specs.Places.{file_at, object_place, unfinished_place, is_object_folder}
 use Rattle.history_layout.specs.TreeHalves.{HoldsValues}
 use Rattle.gix_hash.specs.declared.kind.Kind.{Kind}
 
@@ -128,15 +127,3 @@ move_entry r name id actor message =
       actor = actor;
       message = message;
     }
-
--- The name's file holds the id after, its log has the entry's line added (unless the two ids are
--- equal), each other file is as before, and there are no folders but those of names and logs.
-pub record MovesName (name : Bytes) (entry : LogEntry) (old new : Tree) : Type 0 where
-  pub here : file_at new name ≡ Some (line (hex entry.after))
-  pub appended : entry.before ≢ entry.after
-      → file_at new (log_place name) ≡ Some (bytes_at old (log_place name) ++ log_line entry)
-  pub unmoved : entry.before ≡ entry.after
-      → file_at new (log_place name) ≡ file_at old (log_place name)
-  pub others : (path : Bytes) → path ≢ name → path ≢ log_place name
-      → file_at new path ≡ file_at old path
-  pub folders : (path : Bytes) → get new path ≡ Some folder → IsTrue (is_name_folder path)

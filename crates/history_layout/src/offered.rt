@@ -1,4 +1,4 @@
-//! Laws on what files, names and ids are in whole repositories, over the definitions alone.
+//! Laws on whole repositories: files' bytes and parents are stored, names peel to commits, tags to other ids.
 
 ghost use Rattle.history_layout.specs.Offered.{FilesAreStored};
 ghost use Rattle.history_layout.specs.OfferedWords.{NamesStandForCommits, TagsStandForOthers, ParentsAreCommits};

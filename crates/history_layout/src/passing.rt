@@ -1,4 +1,4 @@
-//! Laws on what the two parts pass through while a command is acted on, over the definitions alone.
+//! Laws on a command's way: stops while it stores, moves, switches or packs, and the names that it edits.
 
 ghost use Rattle.history_layout.specs.Passing.{PutsPass, CommitsStoreWhole, TagsStoreWhole, StoringStops, MovingStops, ActsLater, ActsThen, SomeStops, FirstAreSome, NamesPass, NamesBegin};
 ghost use Rattle.history_layout.specs.PackSteps.{PacksReadAlike, PacksPass, PacksStand};

@@ -1,4 +1,4 @@
-//! Laws of the trees that represent a repository, over the definitions alone.
+//! Laws on a repository's two trees: places of ids, what is put, stored and read, and the one name that moves.
 
 ghost use Rattle.history_layout.specs.TreeHalves.{HalvesStand, NamesSpeakOfMore, PlacesTellIds, PlacesTellValues, ValuesHaveIds};
 ghost use Rattle.history_layout.specs.TreeSteps.{PutsStore, StandingIsStored, StoredStands, TreesTellTaken, OwnIdsStay, StoresInAnyOrder, NoneUnfinished, RenamesPut};

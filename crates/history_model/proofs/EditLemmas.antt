@@ -8,7 +8,8 @@ use Rattle.std.proofs.lemmas.Cmp.{nat_list_cmp_total}
 use Rattle.std.proofs.lemmas.Map.Text.{is_eq-slice_cmp}
 use Rattle.std.proofs.lemmas.Slice.Eq.{bytes_eq-Decides}
 use Rattle.history_model.specs.Bytes.{Bytes, by_bytes}
-use Rattle.history_model.specs.FileMap.{FileMap, Content, Edit, Put, Remove, RemoveFile, Graft, IsFileMap, ComesFromFiles, edited, edited_by, edit_path, is_path, is_below, is_within, put_at, cleared, carried, with_all}
+use Rattle.history_model.specs.FileMap.{FileMap, Content, Edit, Put, Remove, RemoveFile, Graft, IsFileMap, edited, edited_by, is_path, is_below, is_within, put_at, cleared, carried, with_all}
+use Rattle.history_model.specs.laws.Trees.{ComesFromFiles, edit_path}
 use Rattle.std.proofs.lemmas.Bool.{and_parts}
 use Rattle.history_model.proofs.WholeStores.{same_tie}
 use Rattle.history_model.proofs.GraftLemmas.{IsCarried, had_all, of_carried, follows_there, with_rest_path, carried_apart, below_carried, carried_below}

@@ -4,7 +4,8 @@ use Rattle.std.specs.List.{list_all}
 use Rattle.history_model.specs.Bytes.{Bytes}
 use Rattle.history_model.specs.Commands.{Command, Commit, Tag, Move, Rename, Delete, Switch, Pack, Index, Names, Files, Past, Log, Show}
 use Rattle.history_model.specs.Spelling.{Part, Line, Field, parts_of, is_part, has_enough, path_words, order_words, parents_word, item_word}
-use Rattle.history_model.specs.Lines.{words_of, size_words, first_line, FirstLinesBegin}
+use Rattle.history_model.specs.Lines.{first_line}
+use Rattle.history_model.specs.LineWords.{words_of, size_words, FirstLinesBegin}
 use Rattle.std.proofs.lemmas.Bool.{and_parts}
 
 path_words_are : (paths : List Bytes) → flat_map path_words paths ≡ flat_map size_words (map length paths)

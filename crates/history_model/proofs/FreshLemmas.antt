@@ -15,8 +15,8 @@ use Rattle.history_model.specs.Forms.{is_name}
 use Rattle.history_model.specs.Logs.{log_text}
 use Rattle.history_model.specs.Places.{Pair, file_at, head_place, packed_place, object_place, log_place, is_name_place}
 use Rattle.history_model.specs.NameStates.{NameState, Holds, Absent, name_state, packed_text_state, loose_state}
-use Rattle.history_model.specs.StandsFor.{StandsFor, head_text, object_files, IsFresh, fresh_pair}
-use Rattle.history_model.specs.laws.Folders.{FreshStands}
+use Rattle.history_model.specs.StandsFor.{StandsFor, head_text, object_files}
+use Rattle.history_model.specs.laws.Folders.{IsFresh, fresh_pair, FreshStands}
 use Rattle.history_model.proofs.RowLemmas.{no_entries_by}
 use Rattle.gix_hash.specs.declared.kind.Kind.{Kind}
 

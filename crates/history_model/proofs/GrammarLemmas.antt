@@ -263,9 +263,6 @@ spelled_parts command h = (and_parts (list_all is_part (parts_of command)) (has_
 pub is_spelled : (command : Command) → is_command command ≡ true → has_spelling command ≡ true
 is_spelled command h = (and_parts (has_spelling command) (is_spoken command) h).0
 
-pub command_parts : (command : Command) → is_command command ≡ true → list_all is_part (parts_of command) ≡ true
-command_parts command h = spelled_parts command (is_spelled command h)
-
 pub is_prefix_free : IsPrefixFree has_spelling
 is_prefix_free a b x y h k e =
     agree_reads (a ≡ b) (parts_of a) (parts_of b) x y (spelled_parts a h) (spelled_parts b k) (agree a b) e

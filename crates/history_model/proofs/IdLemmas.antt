@@ -15,12 +15,10 @@ use Rattle.gix_hash.specs.Id.{Id, null_id, digits_of, bytes_from, raw_bytes}
 use Rattle.gix_hash.specs.Order.{id_eq}
 use Rattle.gix_hash.specs.OrderLaws.{id_eq-same, id_eq-itself, id_total, id_tied, kind_number-injective, same_id}
 use Rattle.gix_hash.specs.Hasher.{digest_of}
-use Rattle.gix_hash.specs.Packed.{bytes_from-digits_of}
 use Rattle.gix_hash.specs.Spelling.{hex_character, IsHexOf}
-use Rattle.gix_hash.specs.Views.{IsBytesOf}
-use Rattle.gix_hash.proofs.ByteLists.{length-digits_of, id-digits_len}
+use Rattle.gix_hash.proofs.ByteLists.{length-digits_of}
 use Rattle.gix_hash.proofs.KindLemmas.{hex_len-byte_len}
-use Rattle.gix_hash.proofs.LawLemmas.{AreDigits, none, more, same_text, hex_text-IsHexOf, digits_of-AreDigits, id-AreDigits}
+use Rattle.gix_hash.proofs.LawLemmas.{AreDigits, none, more, same_text, hex_text-IsHexOf, digits_of-AreDigits}
 pub use Rattle.gix_ref_format.proofs.IdLemmas.{id_from_hex-reads, id_from_hex-tells}
 use Rattle.history_model.specs.Bytes.{Bytes}
 use Rattle.history_model.specs.Objects.{by_id, digest, hex}
@@ -166,22 +164,6 @@ digest_has kind text = record {
 -- a digest is an id of its kind
 pub digest_is_id : (kind : Kind) (text : Bytes) → is_id kind (digest kind text) ≡ true
 digest_is_id kind text = kind_has kind (digest kind text) (digest_has kind text)
-
--- whose bytes are the digest's
-pub raw_bytes-digest : (kind : Kind) (text : Bytes) → raw_bytes (digest kind text) ≡ digest_of kind text
-unfolding digest
-raw_bytes-digest kind text = bytes_from-digits_of (digest_of kind text)
-
--- ---- values that are ids
-
--- bytes of an id that fit, as a value of `ObjectId` has them
-pub id_of_bytes : (id : Id) (bytes : List ℕ) → IsBytesOf bytes id → ((i : ℕ) → get_or bytes i 0 < 256) → is_id id.kind id ≡ true
-id_of_bytes id bytes h fits =
-    kind_has id.kind id (record {
-      of_kind = refl;
-      whole = id-digits_len id bytes h ∙ sym (hex_len-byte_len id.kind);
-      digits = id-AreDigits id bytes h fits;
-    })
 
 -- ---- texts
 

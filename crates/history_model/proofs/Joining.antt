@@ -6,13 +6,13 @@ use Rattle.gix_hash.specs.declared.kind.Kind.{Kind}
 use Rattle.history_model.specs.Places.{Pair}
 use Rattle.history_model.specs.Repository.{Repository}
 use Rattle.history_model.specs.StandsFor.{StandsWhole}
-use Rattle.history_model.specs.Moments.{Moment, GoesOnFrom, StoodAt, IsPairAt, IsRunPair}
+use Rattle.history_model.specs.Moments.{Moment, GoesOnFrom, StoodAt, IsPairAt}
+use Rattle.history_model.specs.laws.Joining.{IsRunPair, GoesOnAt, StopsMakeRounds, RunsMakeRounds}
 use Rattle.history_model.specs.Rounds.{Round, IsRunOf, stopped_round, ended_round}
 use Rattle.history_model.proofs.RoundLemmas.{traces_stop, runs_end}
 use Rattle.history_model.proofs.FailureLemmas.{traces_weaken}
 use Rattle.history_model.proofs.OnePair.{one_pair}
 use Rattle.history_model.specs.Joined.{pair_now}
-use Rattle.history_model.specs.laws.Joining.{GoesOnAt, StopsMakeRounds, RunsMakeRounds}
 
 got_longer : (xs ys : List Tree) (m : ℕ) (tree : Tree) → slice_get xs m ≡ Some tree → slice_get (xs ++ ys) m ≡ Some tree
 got_longer [] ys m tree got = cc

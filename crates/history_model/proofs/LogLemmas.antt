@@ -11,8 +11,7 @@ use Rattle.gix_traverse_graph.proofs.Listing.{breadth_is_one, topological_is_one
 use Rattle.history_model.specs.Commands.{Order, Breadth, Newest, Oldest, NewestSince, OldestSince, Date, Topological}
 use Rattle.history_model.specs.Repository.{Repository}
 use Rattle.history_model.specs.Answers.{commits_of, time_at, IsWalk}
-use Rattle.history_model.specs.laws.Determined.{DifferAtOneTime}
-use Rattle.history_model.specs.Steps.{leaves_choice}
+use Rattle.history_model.specs.laws.Determined.{DifferAtOneTime, leaves_choice}
 
 -- a log's walk is in one of the orders of walks
 pub some_order : (order : Order) (g : Commits Id) (q : WalkRequest Id) (ids : List Id) → IsWalk order g q ids → InSomeOrder g q ids

@@ -1,18 +1,12 @@
 -- The words of the grammar, of the commands that are offered.
-use Rattle.std.specs.Prelude.{ℕ, List}
+use Rattle.std.specs.Prelude.{List}
 use Rattle.history_model.specs.Bytes.{Bytes}
-use Rattle.history_model.specs.Grammar.{GoesOnOf, LineStandsOf, FieldStandsOf, LineFitsOf, StopsByOf, is_command}
+use Rattle.history_model.specs.Grammar.{LineStandsOf, LineFitsOf, StopsByOf, is_command}
 use Rattle.history_model.specs.Spelling.{Part}
 use Rattle.history_model.specs.declared.Cause.{Cause}
 
-abbrev pub GoesOn : List Part → Part → Type 0
-GoesOn = GoesOnOf is_command
-
 abbrev pub LineStands : List Part → Type 0
 LineStands = LineStandsOf is_command
-
-abbrev pub FieldStands : List Part → ℕ → Type 0
-FieldStands = FieldStandsOf is_command
 
 abbrev pub LineFits : List Part → Bytes → Type 0
 LineFits = LineFitsOf is_command

@@ -44,9 +44,6 @@ nothing_kept test = same_map nat_list_cmp_total (slice_cmp-IsAntisymmetric nat_c
     none false = refl
 
 module _ (text : Bytes) where
-  entry : List (Bytes × Content)
-  entry = (codes "a", content text) ∷ []
-
   pub entry_is : entries (one_file text) ≡ (codes "a", content text) ∷ []
   entry_is = entries-insert nat_list_cmp_total empty (codes "a") (content text) ∙ ap (put by_bytes (codes "a") (content text)) (entries-empty {X = Content})
 

@@ -21,10 +21,6 @@ Agree C (Field a ∷ ps) (Field b ∷ qs) = (len_word a ≡ len_word b) × (a �
 eq_itself : (n : ℕ) → (n == n) ≡ true
 eq_itself n = grind (arith, tests)
 
-head_of : ℕ → Bytes → ℕ
-head_of d [] = d
-head_of d (b ∷ bs) = b
-
 abbrev pub tail_of : {X : Type 0} → List X → List X
 tail_of [] = []
 tail_of (x ∷ xs) = xs

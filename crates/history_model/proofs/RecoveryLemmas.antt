@@ -141,9 +141,6 @@ module _ (kind : Kind) (tree : Tree) where
   names : Tree
   names = recovered_names kind tree
 
-  is_kept : Bytes → Bool
-  is_kept path = is_lock_file path || (is_log_place path && is_absent (name_state kind tree (log_name path)))
-
   -- a node of the recovered tree is as recovery leaves it, and was no leftover
   stood : (leftover deserted : Bool) (path : Bytes) (o : Option Node) (node : Node) → cond (not deserted) (option_map (recovered_node path) (cond (not leftover) o None)) None ≡ Some node
       → (recovered_node path node ≡ node) × (leftover ≡ false)

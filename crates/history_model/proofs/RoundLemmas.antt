@@ -16,9 +16,9 @@ use Rattle.history_model.specs.Replies.{Reply, RefusedFor, Faulted, reply_text}
 use Rattle.history_model.specs.Stops.{LeftByStop, Between, is_changing}
 use Rattle.history_model.specs.Steps.{Step, Steps, goes_on, some_failed}
 use Rattle.history_model.specs.Runs.{BeginsWith, Runs, EndsReading, EndsWriting, Ends, CutsShort}
-use Rattle.history_model.specs.Moments.{Moment, IsPairAt, IsCommandPair, StandsAt, ActedOn, ActsOn, last_moment}
+use Rattle.history_model.specs.Moments.{Moment, IsPairAt, StandsAt, ActedOn, ActsOn, last_moment}
+use Rattle.history_model.specs.laws.Joining.{IsCommandPair, RoundsJoin, RunsEnd, RunsHaveWritten, TracesStop}
 use Rattle.history_model.specs.Rounds.{HasWritten, IsCutOff, Round, IsStoppedIn, IsLast, IsRunOf, Recovers, IsLeft, IsRound, Leaves, IsOutcome, WritesReplies}
-use Rattle.history_model.specs.laws.Joining.{RoundsJoin, RunsEnd, RunsHaveWritten, TracesStop}
 use Rattle.history_model.specs.declared.End.{End}
 use Rattle.history_model.specs.declared.End.TheVariants.{Input, Refused as ByRefusal, Fault as ByFault}
 use Rattle.gix_hash.specs.declared.kind.Kind.{Kind}

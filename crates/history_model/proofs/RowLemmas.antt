@@ -1,7 +1,6 @@
 -- Worked rows, computed.
 use Rattle.std.proofs.Common.{◌≡◌, [], ◌∷◌, ◌++◌, refl, sym, ◌∙◌, ap, codes, length}
 use Rattle.std.specs.FinMap.{entries, empty, len-entries, len-empty, get-empty}
-use Rattle.std.specs.FinMap.Entries.{put}
 use Rattle.sha1.specs.Sha1.{sha1, hash_after, compress, rounds, schedule, first_words, digest_bytes}
 use Rattle.sha2.specs.Sha256.{sha256, hash_after as sha256_after, compress as sha256_compress, rounds as sha256_rounds, schedule as sha256_schedule, first_words as sha256_words, digest_bytes as sha256_bytes}
 use Rattle.std.specs.Fmt.{digits}
@@ -15,7 +14,6 @@ use Rattle.history_model.specs.Meaning.{new_commit}
 use Rattle.history_model.specs.laws.Rows.{first_command, first_commit, three_files, content}
 use Rattle.gix_hash.specs.declared.kind.Kind.{Kind}
 use Rattle.gix_hash.specs.declared.kind.Kind.TheVariants.{Sha1, Sha256}
-use Rattle.history_model.specs.declared.FileKind.TheVariants.{Exec}
 use Rattle.gix_traverse_graph.proofs.Lists.{none_from_length}
 
 pub blob_text_hello : blob_text (codes "hello") ≡ codes "blob 5" ++ 0 ∷ codes "hello"
@@ -88,9 +86,6 @@ pub first_id : hex (id_of Sha1 (StoredCommit first_commit)) ≡ codes "d39b036c7
 first_id = ap (λ content. hex (digest Sha1 (object_text kinds.Commit content))) first_content ∙ first_id_computed
 
 -- ---- three files
-
-pub three_in_order : put by_bytes (codes "a0") (record { kind = Exec; bytes = codes "3" }) (put by_bytes (codes "a/c") (content (codes "2")) (put by_bytes (codes "a.b") (content (codes "1")) [])) ≡ three_files
-three_in_order = refl
 
 pub three_tree : hex (digest Sha1 (tree_text (root_within 4 Sha1 three_files))) ≡ codes "b8b673d28f410aa8dd3222ef9fffe69e44e01d26"
 unfolding root_within digest sha1 hash_after compress rounds schedule first_words digest_bytes digits

@@ -10,9 +10,9 @@ use Rattle.history_model.proofs.Offered.{StopsBy}
 use Rattle.history_model.specs.Replies.{Reply, LogIs, reply_text}
 use Rattle.history_model.specs.Answers.{kept, time_at}
 use Rattle.history_model.specs.Stops.{is_changing}
-use Rattle.history_model.specs.Steps.{Steps, is_faulted, next, leaves_choice, have_no_fault, is_sure}
-use Rattle.history_model.specs.Runs.{Runs, TellsFault}
-use Rattle.history_model.specs.laws.Determined.{DifferAtOneTime, ListsAlike, AreAlike, AreAllAlike, RunsAgree, RunsGive}
+use Rattle.history_model.specs.Steps.{Steps, is_faulted, next}
+use Rattle.history_model.specs.laws.Determined.{leaves_choice, have_no_fault, is_sure, TellsFault, DifferAtOneTime, ListsAlike, AreAlike, AreAllAlike, RunsAgree, RunsGive}
+use Rattle.history_model.specs.Runs.{Runs}
 use Rattle.history_model.specs.declared.Cause.{Cause}
 use Rattle.history_model.specs.declared.Cause.TheVariants.{Syntax, Truncated, LineTooLong}
 use Rattle.history_model.specs.declared.End.TheVariants.{Input, Refused as ByRefusal, Fault as ByFault}

@@ -3,7 +3,8 @@ use Rattle.std.proofs.Common.{◌≡◌, false, List, [], ◌∷◌, ◌++◌, m
 use Rattle.std.specs.List.{flat_map}
 use Rattle.std.specs.FinMap.{entries, keys}
 use Rattle.history_model.specs.Bytes.{Bytes}
-use Rattle.history_model.specs.FileMap.{FileMap, Content, inside, beginnings, folders_of, Edit, Put, Remove, RemoveFile, Graft, ComesFromFiles, grafted}
+use Rattle.history_model.specs.FileMap.{FileMap, Content, inside, beginnings, folders_of, Edit, Put, Remove, RemoveFile, Graft, grafted}
+use Rattle.history_model.specs.laws.Trees.{ComesFromFiles}
 use Rattle.history_model.specs.Objects.{Value, StoredCommit, StoredBytes, StoredFolder}
 use Rattle.gix_hash.specs.Id.{Id, null_id}
 use Rattle.history_model.specs.Repository.{Repository, HoldsCommit, IsStored, peeled, IsWholeStore}

@@ -3,7 +3,8 @@ use Rattle.std.proofs.Common.{◌≡◌, ◌≤◌, ◌⊎◌, Bool, true, false
 use Rattle.std.specs.List.{list_any, filter_map}
 use Rattle.std.specs.FinMap.{entries, get, get-empty, empty, contains_key, retain_keys}
 use Rattle.history_model.specs.Bytes.{Bytes, by_bytes, has_byte}
-use Rattle.history_model.specs.FileMap.{FileMap, Content, is_path, components, is_within, Edit, Put, Remove, RemoveFile, Graft, ComesFromFiles, edited, edited_by, edit_path, cleared, carried, grafted, grafted_paths}
+use Rattle.history_model.specs.FileMap.{FileMap, Content, is_path, components, is_within, Edit, Put, Remove, RemoveFile, Graft, edited, edited_by, cleared, carried, grafted, grafted_paths}
+use Rattle.history_model.specs.laws.Trees.{ComesFromFiles, edit_path}
 use Rattle.history_model.specs.Objects.{Value, CommitValue, StoredCommit, StoredTag, StoredBytes, StoredFolder, id_of}
 use Rattle.gix_hash.specs.Id.{Id}
 use Rattle.history_model.specs.Repository.{Repository, IsStored, HoldsCommit, as_commit, peeled, peeled_value, id_at, IsWholeStore}

@@ -1,5 +1,5 @@
 -- Paths, file maps and edits. A file map has the files of a commit by their paths, without trees.
-use Rattle.std.specs.Prelude.{◌+◌, Bool, false, not, ◌&&◌, ◌||◌, List, [], ◌∷◌, ◌++◌, length, drop, map, ◌==◌, if◌then◌else◌, Option, Some, None, option_map, bytes_eq, ⊤, IsTrue, IsFalse}
+use Rattle.std.specs.Prelude.{◌+◌, Bool, false, not, ◌&&◌, ◌||◌, List, [], ◌∷◌, ◌++◌, length, drop, map, ◌==◌, if◌then◌else◌, Option, Some, None, option_map, bytes_eq, IsTrue, IsFalse}
 use Rattle.std.specs.List.{list_any, slice_split, flat_map, filter_map}
 use Rattle.std.specs.FinMap.{FinMap, entries, keys, contains_key, insert, retain_keys, from_entries}
 use Rattle.history_model.specs.Bytes.{Bytes, by_bytes, begins, has_byte, is_empty}
@@ -133,12 +133,6 @@ abbrev pub some_refused : FileMap → List Edit → Bool
 some_refused files [] = false
 some_refused files (edit ∷ edits) = is_refused files edit || some_refused (edited files edit) edits
 
-abbrev pub edit_path : Edit → Bytes
-edit_path (Put kind path bytes) = path
-edit_path (Remove path) = path
-edit_path (RemoveFile path) = path
-edit_path (Graft path source from) = path
-
 -- the files that a graft puts, with their paths
 abbrev pub grafted : Edit → List (Bytes × Content)
 grafted (Graft path source from) = carried path source from
@@ -151,8 +145,3 @@ grafted_paths edit = map (λ e. e.0) (grafted edit)
 abbrev pub grafts_nothing : Edit → Bool
 grafts_nothing (Graft path source from) = is_empty (carried path source from)
 grafts_nothing _ = false
-
--- what is grafted comes from a file map
-abbrev pub ComesFromFiles : Edit → Type 0
-ComesFromFiles (Graft path source from) = IsFileMap from
-ComesFromFiles _ = ⊤

@@ -46,17 +46,6 @@ IsStepPair objects names begin finish pair =
     ⊎ (StoodAt objects finish.objects pair.objects
     × StoodBetween names begin.names finish.names pair.names)
 
--- a pair during one of the commands; at each of these moments one ends and the next begins
-abbrev pub IsCommandPair : History → History → Moment → List Moment → Pair → Type 0
-IsCommandPair objects names begin [] pair = ⊥
-IsCommandPair objects names begin (next ∷ moments) pair =
-    IsStepPair objects names begin next pair ⊎ IsCommandPair objects names next moments pair
-
--- a pair during a run: the one at its beginning, or one during a command
-abbrev pub IsRunPair : History → History → Moment → List Moment → Pair → Type 0
-IsRunPair objects names begin moments pair =
-    IsPairAt objects names begin pair ⊎ IsCommandPair objects names begin moments pair
-
 -- a failed call was counted between two moments
 abbrev pub HasCountedFailure : Moment → Moment → Type 0
 HasCountedFailure begin finish =

@@ -1,7 +1,7 @@
 -- Runs over a stream of commands: what they write, how they end, and when a reader or a writer cuts
 -- them off. AtEnd says that nothing follows what was read; CallFailed says that a call of the files
 -- failed.
-use Rattle.std.specs.Prelude.{◌≡◌, ◌⊎◌, ◌<◌, Bool, true, false, List, [], ◌∷◌, ◌++◌, length, IsTrue, IsFalse}
+use Rattle.std.specs.Prelude.{◌≡◌, ◌⊎◌, ◌<◌, Bool, true, false, List, [], ◌∷◌, ◌++◌, length, IsTrue}
 use Rattle.std.specs.List.{flat_map, list_all, AllByRecursion}
 use Rattle.history_model.specs.Bytes.{Bytes, begins}
 use Rattle.history_model.specs.Repository.{Repository}
@@ -9,7 +9,7 @@ use Rattle.history_model.specs.Commands.{Command}
 use Rattle.history_model.specs.Spelling.{spelling}
 use Rattle.history_model.specs.Grammar.{is_command, HasRestCause}
 use Rattle.history_model.specs.Replies.{Reply, RefusedFor, Faulted, reply_text}
-use Rattle.history_model.specs.Steps.{Step, Steps, some_failed, have_no_fault}
+use Rattle.history_model.specs.Steps.{Step, Steps, some_failed}
 use Rattle.history_model.specs.declared.Cause.{Cause}
 use Rattle.history_model.specs.declared.Cause.TheVariants.{Truncated}
 use Rattle.history_model.specs.declared.Fault.TheVariants.{Memory, File}
@@ -107,7 +107,3 @@ pub record EndsWriting (AtEnd CallFailed : Type 0) (old : Repository) (commands 
   pub mid : Repository
   pub ran : Ran CallFailed old answered written input output rest part false mid
   pub cut : CutsShort AtEnd CallFailed mid last cut_off rest part failed new
-
--- A run with these replies and this end has reported a fault: as a reply, or at its end.
-abbrev pub TellsFault : List Reply → End → Type 0
-TellsFault replies end = IsFalse (have_no_fault replies) ⊎ (end ≡ ByFault)

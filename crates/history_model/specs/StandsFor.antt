@@ -1,11 +1,11 @@
 -- Which pairs of file trees represent a repository.
-use Rattle.std.specs.Prelude.{◌≡◌, [], ◌++◌, map, Some, unwrap_or, MatchOption, ◌↔◌, codes, IsTrue, None, bytes_eq, if◌then◌else◌}
-use Rattle.std.specs.FinMap.{FinMap, entries, get, from_entries, empty, insert}
-use Rattle.gix_ref_file.specs.Tree.{folder, file}
+use Rattle.std.specs.Prelude.{◌≡◌, [], ◌++◌, map, Some, unwrap_or, MatchOption, ◌↔◌, codes, IsTrue}
+use Rattle.std.specs.FinMap.{FinMap, entries, get, from_entries}
+use Rattle.gix_ref_file.specs.Tree.{folder}
 use Rattle.history_model.specs.Bytes.{Bytes, by_bytes, line}
 use Rattle.history_model.specs.Objects.{value_text}
 use Rattle.gix_hash.specs.Id.{Id}
-use Rattle.history_model.specs.Repository.{Repository, Values, IsWhole, id_at, moves_at, first_branch}
+use Rattle.history_model.specs.Repository.{Repository, Values, IsWhole, id_at, moves_at}
 use Rattle.history_model.specs.Forms.{IsWritten}
 use Rattle.history_model.specs.Places.{Pair, file_at, object_place, is_object_folder, head_place, packed_place, log_place, is_name_place, is_name_folder}
 use Rattle.history_model.specs.PackedNames.{packed_file, PackedAgrees}
@@ -50,18 +50,3 @@ pub record StandsWhole (kind : Kind) (pair : Pair) (r : Repository) : Type 0 whe
   pub stands : StandsFor kind pair r
   pub written : IsWritten r
   pub whole : IsWhole r
-
--- A new folder has only the file HEAD, and only folders that a repository may have.
-pub record IsFresh (pair : Pair) : Type 0 where
-  pub objects : (path : Bytes) → file_at pair.objects path ≡ None
-  pub object_folders : (path : Bytes) → get pair.objects path ≡ Some folder
-      → IsTrue (is_object_folder path)
-  pub names : (path : Bytes)
-      → file_at pair.names path
-      ≡ (if bytes_eq path head_place then Some (head_text first_branch) else None)
-  pub folders : (path : Bytes) → get pair.names path ≡ Some folder → IsTrue (is_name_folder path)
-
--- the smallest one
-abbrev pub fresh_pair : Pair
-fresh_pair =
-    record { objects = empty; names = insert empty head_place (file (head_text first_branch)) }

@@ -1,7 +1,7 @@
 -- One step: a command, its reply and the repository after it.
 use Rattle.std.specs.Prelude.{◌≡◌, ◌⊎◌, Bool, true, false, not, ◌&&◌, ◌||◌, List, [], ◌∷◌, Option, Some, None, IsTrue, IsFalse, MatchBool}
 use Rattle.history_model.specs.Repository.{Repository}
-use Rattle.history_model.specs.Commands.{Command, Log, Order, Breadth, Topological}
+use Rattle.history_model.specs.Commands.{Command}
 use Rattle.history_model.specs.Replies.{Reply, Indexed, RefusedFor, Faulted}
 use Rattle.history_model.specs.Meaning.{after, takes_id}
 use Rattle.history_model.specs.Causes.{first_cause}
@@ -10,7 +10,6 @@ use Rattle.history_model.specs.Stops.{is_changing, LeftByStop}
 use Rattle.history_model.specs.declared.Cause.TheVariants.{TooLarge}
 use Rattle.history_model.specs.declared.Fault.{Fault}
 use Rattle.history_model.specs.declared.Fault.TheVariants.{IdTaken}
-use Rattle.std.specs.List.{list_all}
 
 -- The command stores under a taken id, and no cause holds, except that something may be too large:
 -- the length of a tree that would name something with the null id isn't known.
@@ -82,18 +81,3 @@ rows_after r rows (command ∷ commands) (Indexed n ∷ replies) =
 rows_after r rows (command ∷ commands) (reply ∷ replies) =
     rows_after (next r command reply) rows commands replies
 rows_after r rows _ _ = rows
-
--- whether an order leaves a choice among equal times
-abbrev pub leaves_choice : Order → Bool
-leaves_choice Breadth = false
-leaves_choice Topological = false
-leaves_choice _ = true
-
--- no reply is a fault
-abbrev pub have_no_fault : List Reply → Bool
-have_no_fault replies = list_all (λ reply. not (is_faulted reply)) replies
-
--- whether the command has only one reply, faults apart
-abbrev pub is_sure : Command → Bool
-is_sure (Log c) = not (leaves_choice c.order)
-is_sure _ = true

@@ -1,4 +1,4 @@
-//! The types that the engine's code and its definitions share.
+//! The types that code and definitions share: a file's kind, a refusal's cause, a fault, how a run ends.
 #![tactic(auto)]
 
 /// What a file is.

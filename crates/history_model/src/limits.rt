@@ -1,4 +1,4 @@
-//! The limits of commands and of what is stored.
+//! The limits of commands and of what is stored, as constants that are those of the definitions.
 
 ghost use Rattle.std.specs.Prelude.{◌≡◌};
 ghost use Rattle.history_model.specs.Forms.{max_content, max_path, max_name, max_title, max_actor_part, max_seconds, max_parents};

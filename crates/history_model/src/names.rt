@@ -1,4 +1,4 @@
-//! The names that every repository has, and how names begin.
+//! The names that every repository has, and how names begin, as constants that are those of the definitions.
 
 ghost use Rattle.std.specs.Prelude.{◌≡◌};
 ghost use Rattle.history_model.specs.Forms.{refs_front, heads_front, tags_front};

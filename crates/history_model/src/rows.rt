@@ -1,4 +1,4 @@
-//! Worked examples, computed on the definitions, each the contract of a function without effect.
+//! Worked examples on the definitions: ids, streams of one commit, grafts, refusals, and the empty stream.
 
 ghost use Rattle.std.specs.Prelude.{◌≡◌, ◌+◌, ◌++◌, ◌∷◌, [], length, codes, IsTrue};
 ghost use Rattle.history_model.specs.Bytes.{line};

@@ -139,9 +139,6 @@ first_put old new name others absent put =
 abbrev pub Leaves : List (Bor (List ℕ)) → List Bytes → List Bytes → Type 0
 Leaves kept rest all = (name : Bytes) → (has kept name || list_any (bytes_eq name) rest) ≡ list_any (bytes_eq name) all
 
-pub leaves_all : (kept : List (Bor (List ℕ))) (all : List Bytes) → kept ≡ [] → Leaves kept all all
-leaves_all kept all none name = ap (λ k. has k name || list_any (bytes_eq name) all) none
-
 pub leaves_less : (old new : List (Bor (List ℕ))) (added : Bytes) (rest others all : List Bytes) → rest ≡ added ∷ others → ((name : Bytes) → has new name ≡ (bytes_eq name added || has old name)) → Leaves old rest all → Leaves new others all
 leaves_less old new added rest others all cut put so_far name =
     ap (λ b. b || list_any (bytes_eq name) others) (put name)
@@ -152,13 +149,6 @@ leaves_less old new added rest others all cut put so_far name =
     turned true true c = refl
     turned true false c = refl
     turned false b c = refl
-
-pub leaves_none : (kept : List (Bor (List ℕ))) (rest all : List Bytes) → rest ≡ [] → Leaves kept rest all → HaveAll (names_in kept) all
-leaves_none kept rest all none so_far name = sym (last (has kept name)) ∙ ap (λ r. has kept name || list_any (bytes_eq name) r) (sym none) ∙ so_far name
-  where
-    last : (b : Bool) → (b || false) ≡ b
-    last true = refl
-    last false = refl
 
 pub made_first : (rest others : List Line) (line : Line) → rest ≡ line ∷ others → is_made line ≡ true → made_names rest ≡ line_name line ∷ made_names others
 made_first rest others line cut made = ap made_names cut ∙ ap (λ b. map line_name (cond b (line ∷ filter is_made others) (filter is_made others))) made

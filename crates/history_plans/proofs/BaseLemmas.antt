@@ -2,10 +2,10 @@
 use Rattle.std.specs.declared.alloc.Global.{Global}
 use Rattle.std.specs.Prelude.{Vec, Result, IsErrOf, MatchOption, ⊤, option_and_then}
 use Rattle.std.proofs.lemmas.Option.{same_Some}
-use Rattle.std.proofs.Common.{◌≡◌, ℕ, zero, suc, arith, ◌+◌, ◌<◌, length, take, drop, get_or, Bool, true, false, cond, not, ◌||◌, ◌==◌, List, [], ◌∷◌, ◌++◌, map, filter, refl, sym, ◌∙◌, ap, subst, Option, Some, None, is_some, option_map, option_to_list, Err}
+use Rattle.std.proofs.Common.{◌≡◌, ℕ, zero, suc, arith, ◌+◌, ◌<◌, length, take, get_or, Bool, true, false, cond, not, ◌||◌, ◌==◌, List, [], ◌∷◌, ◌++◌, map, filter, refl, sym, ◌∙◌, ap, subst, Option, Some, None, is_some, option_map, option_to_list, Err}
 use Rattle.std.specs.List.{AllByRecursion, cons_option, list_any, filter_map, flat_map}
 use Rattle.std.proofs.lemmas.List.{map-append, take_more}
-use Rattle.history_model.specs.Bytes.{Bytes, has_twice}
+use Rattle.history_model.specs.Bytes.{Bytes}
 use Rattle.gix_hash.specs.Id.{Id, id_of}
 use Rattle.gix_hash.specs.Order.{id_eq}
 use Rattle.history_model.specs.Repository.{IsWholeStore, Repository, stands}
@@ -43,16 +43,6 @@ use Rattle.history_files.proofs.Lines.{map_twice}
 use Rattle.history_word.specs.declared.command.Expect.TheVariants as expects
 
 -- ---- what is expected
-
-pub any_sent : (r : Repository) (expect : Expect) → IsExpect expects.Any expect → IsExpected r expect expected.Any
-any_sent r Any h = tt
-any_sent r New h = absurd h
-any_sent r (At word) h = absurd h
-
-pub new_sent : (r : Repository) (expect : Expect) → IsExpect expects.New expect → IsExpected r expect expected.New
-new_sent r Any h = absurd h
-new_sent r New h = tt
-new_sent r (At word) h = absurd h
 
 pub at_sent : (r : Repository) (word : Vec ℕ Global) (meaning : own.WordMeaning) (expect : Expect) → IsExpect (expects.At word) expect → meaning_of meaning ≡ commit_or_cause r word.items → IsExpected r expect (expected.At meaning)
 at_sent r word meaning Any h is = absurd h
@@ -328,11 +318,6 @@ mapped_added f k xs i d y ys more less same so_far added =
     ∙ sym (ap (map k) (take_more xs i d less) ∙ map-append k (take i xs) (get_or xs i d ∷ []))
 
 -- ---- ids that occur twice
-
-pub twice_told : (ids : List ObjectId) (d : ObjectId) → (length ids == 0) ≡ false
-    → has_twice id_eq (map id_of ids) ≡ (list_any (λ id. id_eq (id_of (get_or ids 0 d)) (id_of id)) (drop 1 ids) || has_twice id_eq (map id_of (drop 1 ids)))
-twice_told [] d some = cc
-twice_told (x ∷ xs) d some = ap (λ b. b || has_twice id_eq (map id_of xs)) (any_map (id_eq (id_of x)) id_of xs)
 
 -- a call of the files that failed
 pub file_told : {A B : Type 0} (MayFail : Type 0) (causes : List Cause) (r : Repository) (sent : CommitCommand) (Q : B → Type 0) (result : Result A FileError) (ends : Result B Stopped) (error : FileError)

@@ -34,13 +34,6 @@ use Rattle.history_repository.specs.declared.stopped.Stopped.TheVariants as why
 
 -- ---- the causes that the name, the word and the files give
 
-pub formed_name : (name : Bytes) → form_cause name ≡ None → is_name name ≡ true
-formed_name name none = go (is_name name) _ none
-  where
-    go : (b : Bool) (rest : Option Cause) → cond (not b) (Some BadName) rest ≡ None → b ≡ true
-    go true rest e = refl
-    go false rest e = cc
-
 module _ (r : plain.Repository) (name : Bytes) where
   form_told : (at : Option Bytes) → first_among name_form_causes r (Delete name at) ≡ form_cause name
   form_told at = two (not (is_name name)) (is_private name)

@@ -4,7 +4,8 @@ use Rattle.std.specs.List.{list_any, flat_map, AllZip}
 use Rattle.std.proofs.lemmas.Grind.{flat_map-append}
 use Rattle.std.proofs.lemmas.List.{map-append, take_more}
 use Rattle.history_model.specs.Bytes.{Bytes}
-use Rattle.history_model.specs.FileMap.{edit_path, is_path}
+use Rattle.history_model.specs.FileMap.{is_path}
+use Rattle.history_model.specs.laws.Trees.{edit_path}
 use Rattle.history_model.specs.Objects.{Value}
 use Rattle.history_model.specs.Repository as plain
 use Rattle.history_model.specs.Commands.{EditLine, PutLine, RemoveLine, RemoveFileLine, GraftLine}

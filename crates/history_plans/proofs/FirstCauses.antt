@@ -1,5 +1,5 @@
 -- The first cause that holds, found part by part.
-use Rattle.std.proofs.Common.{◌≡◌, ◌<◌, Bool, true, false, cond, ◌||◌, List, [], ◌∷◌, ◌++◌, map, length, refl, sym, ◌∙◌, ap, Option, Some, None, find, length-append, codes, arith}
+use Rattle.std.proofs.Common.{◌≡◌, ◌<◌, Bool, true, false, cond, ◌||◌, List, [], ◌∷◌, ◌++◌, map, length, refl, ◌∙◌, ap, Option, Some, None, find, length-append, codes, arith}
 use Rattle.std.specs.List.{list_any, flat_map}
 use Rattle.std.proofs.lemmas.List.Folds.{list_any-append}
 use Rattle.std.proofs.lemmas.List.{map-append}
@@ -9,9 +9,9 @@ use Rattle.history_model.specs.Objects.{StoredCommit, StoredFolder, CommitValue,
 use Rattle.history_model.specs.Bytes.{line}
 use Rattle.history_model.specs.Forms.{max_content}
 use Rattle.history_model.specs.Commands.{Commit, CommitCommand}
-use Rattle.history_model.specs.CommandParts.{paths_in, contents_in}
+use Rattle.history_model.specs.CommandParts.{contents_in}
 use Rattle.history_model.specs.Meaning.{new_commit, stored_by, put_bytes, edits_of}
-use Rattle.history_model.specs.Causes.{holds, first_cause, grafted_in, is_bad_path, is_bad_actor, is_too_large}
+use Rattle.history_model.specs.Causes.{holds, first_cause, is_bad_actor, is_too_large}
 use Rattle.history_model.specs.declared.Cause.{Cause}
 use Rattle.history_model.specs.declared.Cause.TheVariants.{BadPath, IsFolder, NoSuchPath, BadActor, BadTime, BadMessage, TooLarge}
 use Rattle.history_plans.specs.CommitCauses.{first_among, name_causes, form_causes, is_long}
@@ -99,10 +99,6 @@ module _ (r : Repository) (sent : CommitCommand) where
 -- ---- what follows if no cause of the form holds
 
 module _ (r : Repository) (sent : CommitCommand) (formed : first_among form_causes r (Commit sent) ≡ None) where
-  pub good_paths : list_any is_bad_path (paths_in (Commit sent)) ≡ false
-  good_paths = (or_parts (list_any is_bad_path (paths_in (Commit sent))) (list_any is_bad_path (grafted_in r (Commit sent)))
-      (sym (list_any-append is_bad_path (paths_in (Commit sent)) (grafted_in r (Commit sent))) ∙ (none_of _ _ _ formed).0)).0
-
   abbrev Holds : Cause → Bool
   Holds cause = holds cause r (Commit sent)
 

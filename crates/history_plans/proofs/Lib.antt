@@ -10,7 +10,6 @@ pub mod EditsTold
 pub mod FirstCauses
 pub mod GraftFound
 pub mod GraftPaths
-pub mod HeldKept
 pub mod LineLemmas
 pub mod NamesTold
 pub mod NeededLemmas

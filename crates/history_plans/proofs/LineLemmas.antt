@@ -339,14 +339,6 @@ places_planned r order names words held MayFail result ends stopped was is_end t
     by_case (why.Refused cause) h = by_places r order names words held cause h
     by_case (why.Fault fault) h = h
 
-pub tests_fault : {B : Type 0} (MayFail : Type 0) (causes : List Cause) (r : plain.Repository) (order : MoveCommand) (P : B → Type 0) (ends : Result B Stopped) (stopped : Stopped) → ends ≡ Err stopped → IsReadingFault MayFail stopped
-    → TestsOf MayFail causes r (Move order) P ends
-tests_fault {B} MayFail causes r order P ends stopped is_end told = subst (λ (x : Result B Stopped). TestsOf MayFail causes r (Move order) P x) (sym is_end) (by_case stopped told)
-  where
-    by_case : (stopped : Stopped) → IsReadingFault MayFail stopped → IsToldOf MayFail causes r (Move order) stopped
-    by_case (why.Refused cause) h = absurd h
-    by_case (why.Fault fault) h = h
-
 -- ---- lines in a row
 
 abbrev pub swapped : plain.Repository → Line → To → Type 0
@@ -377,11 +369,6 @@ pub none_zip : {A B C : Type 0} (R : A → C → Type 0) (Q : C → B → Type 0
 none_zip R Q [] [] none all = tt
 none_zip R Q [] (z ∷ zs) none all = cc
 none_zip R Q (y ∷ ys) zs none all = absurd all
-
-all_joined : (p : To → Bool) (xs : List To) (x : To) → list_all p (xs ++ x ∷ []) ≡ true → (list_all p xs ≡ true) × (p x ≡ true)
-all_joined p xs x all =
-    let parts = and_parts (list_all p xs) (list_all p (x ∷ [])) (sym (list_all-append p xs (x ∷ [])) ∙ all) in
-    (parts.0, (and_parts (p x) true parts.1).0)
 
 -- one line more is read
 pub line_added : (r : plain.Repository) (tos : List sent.To) (to : sent.To) (orders : List To) (lines more : List Line) (line : Line) → AreTos (tos ++ to ∷ []) orders

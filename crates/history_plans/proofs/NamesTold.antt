@@ -1,5 +1,5 @@
 -- The causes that a commit's name gives.
-use Rattle.std.proofs.Common.{◌≡◌, Bool, true, false, cond, not, ◌||◌, [], ◌∷◌, refl, sym, ◌∙◌, ap, Option, Some, None, bytes_eq, codes}
+use Rattle.std.proofs.Common.{◌≡◌, Bool, true, false, cond, not, ◌||◌, [], ◌∷◌, refl, ◌∙◌, ap, Option, Some, None, bytes_eq, codes}
 use Rattle.std.specs.List.{list_any}
 use Rattle.history_model.specs.Bytes.{begins}
 use Rattle.history_model.specs.Repository.{Repository}
@@ -12,7 +12,6 @@ use Rattle.history_model.specs.declared.Cause.TheVariants.{BadName, PrivateName}
 use Rattle.history_plans.specs.CommitCauses.{first_among, name_form_causes}
 use Rattle.history_repository.specs.NameForms.{form_cause}
 use Rattle.std.proofs.lemmas.Bool.{and_parts}
-use Rattle.history_repository.proofs.NamesFormed.{formed_of}
 
 -- ---- causes
 
@@ -43,11 +42,3 @@ module _ (r : Repository) (sent : CommitCommand) where
 
 pub branch_formed : (r : Repository) → IsWritten r → is_name r.branch ≡ true
 branch_formed r written = (and_parts (is_name r.branch) (begins (codes "refs/heads/") r.branch) written.branch).0
-
--- the name that an accepted commit moves is one
-pub named_so : (r : Repository) (sent : CommitCommand) → IsWritten r → first_among name_form_causes r (Commit sent) ≡ None → is_name (branch_or_name r sent.name) ≡ true
-named_so r sent written none = go (bytes_eq sent.name head_word) refl
-  where
-    go : (b : Bool) → bytes_eq sent.name head_word ≡ b → is_name (branch_or_name r sent.name) ≡ true
-    go true e = ap is_name (head_means r sent e) ∙ branch_formed r written
-    go false e = ap is_name (other_means r sent e) ∙ formed_of sent.name (sym (other_named r sent e) ∙ none)

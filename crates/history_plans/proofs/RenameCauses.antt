@@ -1,25 +1,21 @@
 -- What a `rename` is refused for, and how its new name is made.
-use Rattle.std.proofs.Common.{◌≡◌, inl, inr, Bool, true, false, cond, not, ◌||◌, List, [], ◌∷◌, refl, sym, ◌∙◌, ap, subst, Option, Some, None, option_map, unwrap_or, is_some, bytes_eq, codes}
+use Rattle.std.proofs.Common.{◌≡◌, inl, inr, Bool, true, false, cond, not, ◌||◌, List, [], ◌∷◌, refl, sym, ◌∙◌, ap, subst, Option, Some, None, option_map, is_some, bytes_eq}
 use Rattle.std.specs.Prelude.{Result, Err}
 use Rattle.std.specs.List.{list_any}
 use Rattle.std.specs.FinMap.{get, keys}
-use Rattle.gix_hash.specs.Id.{Id, id_of, null_id}
+use Rattle.gix_hash.specs.Id.{Id, id_of}
 use Rattle.gix_hash.specs.declared.object_id.ObjectId.{ObjectId}
 use Rattle.gix_ref_file.specs.History.{History}
 use Rattle.history_model.specs.Bytes.{Bytes}
 use Rattle.history_model.specs.Repository.{Reference, id_at, stands}
 use Rattle.history_model.specs.Forms.{is_name, is_private}
 use Rattle.history_model.specs.Commands.{Rename}
-use Rattle.history_model.specs.Meaning.{after, history_actor}
 use Rattle.history_model.specs.Causes.{do_collide, first_cause, some_collide}
 use Rattle.history_model.specs.declared.Cause.{Cause}
 use Rattle.history_model.specs.declared.Cause.TheVariants.{BadName, PrivateName, NameTwice, NoSuchName, Taken, Collides}
 use Rattle.history_model.proofs.WholeLists.{none_passes}
 use Rattle.history_model.proofs.WholeReads.{no_cause}
-use Rattle.history_layout.specs.RenameSteps.{rename_entry}
-use Rattle.history_texts.specs.Formats.{actor_of, entry_of}
 use Rattle.history_store.specs.Packing.{NameReads}
-use Rattle.history_texts.specs.declared.log_entry.LogEntry.{LogEntry}
 use Rattle.history_repository.specs.Face.{names_part}
 use Rattle.history_plans.specs.Moving.{names_cause}
 use Rattle.history_plans.specs.Renaming.{PlansRename, TestsRename}
@@ -122,13 +118,6 @@ test_stopped MayFail r from to result ends stopped was is_end h = subst (PlansRe
     by_case (Fault fault) k = k
 
 -- ---- the entry
-
-pub entry_told : (r : plain.Repository) (from to : Bytes) (null id : ObjectId) (entry : LogEntry) → id_of null ≡ null_id r.kind → id_at r from ≡ Some (id_of id) → id_at r to ≡ None
-    → entry.before ≡ null → entry.after ≡ id → actor_of entry.actor ≡ history_actor → entry.message.items ≡ codes "rename" → entry_of entry ≡ rename_entry r from to
-entry_told r from to null id entry is_null held free before after actor message =
-    let before_is = ap id_of before ∙ is_null ∙ ap (λ o. unwrap_or o (null_id r.kind)) (sym free) in
-    let after_is = ap id_of after ∙ ap (λ o. unwrap_or o (null_id r.kind)) (sym held) in
-    λ i. record { before = before_is i; after = after_is i; actor = actor i; message = message i }
 
 -- and the new one doesn't
 pub is_free : (r : plain.Repository) (from to : Bytes) → first_cause r (Rename from to) ≡ None → id_at r to ≡ None

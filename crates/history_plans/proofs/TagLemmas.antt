@@ -91,24 +91,6 @@ module _ (name : Bytes) where
     pub own_is : own ≡ tag_rest name
     own_is = sym (ap tag_rest cut)
 
-    pub place_told : is_tag_place name ≡ is_tag_name own
-    place_told = ap is_tag_place cut
-
-    pub barred : (bytes_eq own (codes "@") || begins (codes "-") own) ≡ true → is_tag_place name ≡ false
-    barred is = place_told ∙ by_tests (is_name (tags_front ++ own)) (bytes_eq own (codes "@")) (begins (codes "-") own) is
-      where
-        by_tests : (a b c : Bool) → (b || c) ≡ true → ((a && not b) && not c) ≡ false
-        by_tests true true true e = refl
-        by_tests true true false e = refl
-        by_tests true false true e = refl
-        by_tests true false false e = cc
-        by_tests false b c e = refl
-
-    pub allowed : is_name name ≡ true → (bytes_eq own (codes "@") || begins (codes "-") own) ≡ false → is_tag_place name ≡ true
-    allowed named is =
-        let parts = or_parts (bytes_eq own (codes "@")) (begins (codes "-") own) is in
-        place_told ∙ and_from _ _ (and_from _ _ (sym (ap is_name cut) ∙ named) (not_from _ parts.0)) (not_from _ parts.1)
-
 -- ---- the first of the causes
 
 module _ (r : plain.Repository) (sent : TagCommand) where

@@ -1,6 +1,6 @@
 -- Where a message's title ends, and what its first 1,025 bytes say of it.
-use Rattle.std.proofs.Common.{◌≡◌, ℕ, zero, suc, ◌<◌, ◌≤◌, Bool, true, false, cond, not, ◌||◌, [], ◌∷◌, length, take, refl, sym, ◌∙◌, ap, nat_lt, ◌==◌, Some, None, arith, length-take}
-use Rattle.std.specs.List.{list_any, position, position_or_len}
+use Rattle.std.proofs.Common.{◌≡◌, ℕ, zero, suc, ◌<◌, ◌≤◌, Bool, true, false, cond, not, ◌||◌, [], ◌∷◌, length, take, refl, sym, ◌∙◌, ap, nat_lt, ◌==◌, arith, length-take}
+use Rattle.std.specs.List.{list_any}
 use Rattle.std.proofs.lemmas.Bool.{or_parts}
 use Rattle.std.proofs.lemmas.List.{take_all}
 use Rattle.std.proofs.lemmas.List.Sums.{take_while-cons}
@@ -13,22 +13,6 @@ use Rattle.history_word.specs.declared.command.Field.{Field}
 use Rattle.history_word.specs.declared.command.Field.TheVariants.{Whole, TooLong}
 use Rattle.history_repository.specs.Fields.{kept_bytes}
 use Rattle.history_repository.proofs.FieldLemmas.{beyond, not_empty}
-
--- ---- the first line feed
-
-pub title_at : (message : Bytes) (end : ℕ) → position (λ b. b == 10) message ≡ Some end → take end message ≡ title message
-title_at message end found = by_test (nat_lt (position_or_len (λ b. b == 10) message) (length message)) found
-  where
-    by_test : (b : Bool) → cond b (Some (position_or_len (λ b. b == 10) message)) None ≡ Some end → take end message ≡ title message
-    by_test true e = let same : position_or_len (λ b. b == 10) message ≡ end = cc in ap (λ n. take n message) (sym same)
-    by_test false e = cc
-
-pub title_whole : (message : Bytes) → position (λ b. b == 10) message ≡ None → message ≡ title message
-title_whole message found = by_test (nat_lt (position_or_len (λ b. b == 10) message) (length message)) refl found
-  where
-    by_test : (b : Bool) → nat_lt (position_or_len (λ b. b == 10) message) (length message) ≡ b → cond b (Some (position_or_len (λ b. b == 10) message)) None ≡ None → message ≡ title message
-    by_test true t e = cc
-    by_test false t e = sym (take_all (position_or_len (λ b. b == 10) message) message (omega (arith, ltb-false _ _ t)))
 
 -- ---- a front of a message
 

@@ -5,7 +5,6 @@ pub mod CommitCauses
 pub mod Deleting
 pub mod Files
 pub mod Halves
-pub mod HeldObjects
 pub mod Moving
 pub mod Needed
 pub mod Packing

@@ -31,7 +31,7 @@ use Rattle.history_store.specs.declared.changing.MovedName.{MovedName}
 use Rattle.history_repository.specs.declared.stopped.Stopped.{Stopped}
 use Rattle.history_repository.specs.declared.stopped.Stopped.TheVariants.{Refused, Fault}
 use Rattle.history_model.specs.Repository as plain
-use Rattle.history_word.specs.declared.command.To as sent
+use Rattle.history_word.specs.declared.command.To as received
 
 -- ---- causes
 
@@ -49,7 +49,7 @@ move_causes = to_causes
 
 -- ---- lines as they were sent
 
-abbrev pub to_name : sent.To → Bytes
+abbrev pub to_name : received.To → Bytes
 to_name to = to.name.items
 
 -- why a move can't be of these names
@@ -129,33 +129,33 @@ bars r to = not (stands r to.name) && list_any (do_collide to.name) (keys r.name
 
 -- ---- what their logs say
 
-pub record IsTeller (order : MoveCommand) (actor : Actor) (message : Bytes) : Type 0 where
-  pub actor_is : actor_of actor ≡ read_actor order.actor
-  pub message_is : message ≡ order.message
+pub record IsTeller (sent : MoveCommand) (actor : Actor) (message : Bytes) : Type 0 where
+  pub actor_is : actor_of actor ≡ read_actor sent.actor
+  pub message_is : message ≡ sent.message
 
 -- the actor, if no cause holds that lies in it or the message; or it is refused for the first that
 -- holds
 abbrev pub TellsTeller : plain.Repository → MoveCommand → Field → Result Actor Cause → Type 0
-TellsTeller r order message (Ok actor) = (first_among teller_causes r (Move order) ≡ None)
-    × IsTeller order actor (kept_bytes message)
-TellsTeller r order message (Err cause) = first_among teller_causes r (Move order) ≡ Some cause
+TellsTeller r sent message (Ok actor) = (first_among teller_causes r (Move sent) ≡ None)
+    × IsTeller sent actor (kept_bytes message)
+TellsTeller r sent message (Err cause) = first_among teller_causes r (Move sent) ≡ Some cause
 
 -- ---- the moves
 
 -- the line's name moves to what its word means
-pub record IsLineMove (r : plain.Repository) (order : MoveCommand) (to : To)
+pub record IsLineMove (r : plain.Repository) (sent : MoveCommand) (to : To)
     (moves : MovedName) : Type 0 where
   pub name : moves.name.items ≡ to.name
-  pub entry : entry_of moves.entry ≡ line_entry r order to
+  pub entry : entry_of moves.entry ≡ line_entry r sent to
 
 abbrev pub AreMoves : plain.Repository → MoveCommand → List To → List MovedName → Type 0
-AreMoves r order = AllZip (IsLineMove r order)
+AreMoves r sent = AllZip (IsLineMove r sent)
 
 -- The moves are made if no cause holds; or it is refused for the first that holds, or a fault was
 -- met.
 abbrev pub PlansMoves : Type 0 → plain.Repository → MoveCommand
     → Result (Vec MovedName Global) Stopped → Type 0
-PlansMoves MayFail r order (Ok moves) =
-    (first_cause r (Move order) ≡ None) × AreMoves r order order.to moves.items
-PlansMoves MayFail r order (Err (Refused cause)) = first_cause r (Move order) ≡ Some cause
-PlansMoves MayFail r order (Err (Fault fault)) = IsReadingFault MayFail (Fault fault)
+PlansMoves MayFail r sent (Ok moves) =
+    (first_cause r (Move sent) ≡ None) × AreMoves r sent sent.to moves.items
+PlansMoves MayFail r sent (Err (Refused cause)) = first_cause r (Move sent) ≡ Some cause
+PlansMoves MayFail r sent (Err (Fault fault)) = IsReadingFault MayFail (Fault fault)

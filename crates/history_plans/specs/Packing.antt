@@ -10,7 +10,7 @@ use Rattle.history_files.specs.Laws.{table_of}
 use Rattle.history_store.specs.Packed.{records_of}
 use Rattle.history_store.specs.declared.packs.PackedName.{PackedName}
 use Rattle.history_repository.specs.declared.shown.Shown.{Shown}
-use Rattle.history_plans.specs.HeldObjects.{AreOf}
+use Rattle.history_repository.specs.HeldObjects.{AreOf}
 use Rattle.history_plans.specs.declared.packing.Packing.{Packing}
 use Rattle.history_model.specs.Repository as plain
 

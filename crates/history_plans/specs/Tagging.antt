@@ -10,14 +10,14 @@ use Rattle.history_model.specs.Meaning.{new_tag, read_actor, tag_rest}
 use Rattle.history_model.specs.Objects.{TagValue, tag_content}
 use Rattle.history_model.specs.Words.{commit_of}
 use Rattle.history_model.specs.declared.Cause.{Cause}
-use Rattle.history_model.specs.declared.Cause.TheVariants.{BadActor, BadTime, BadMessage, TooLarge, NothingMoves}
+use Rattle.history_model.specs.declared.Cause.TheVariants.{BadActor, BadTime, BadMessage, TooLarge}
 use Rattle.history_layout.specs.OneNameSteps.{tag_move}
 use Rattle.history_texts.specs.Formats.{actor_of}
 use Rattle.history_texts.specs.declared.actor.Actor.{Actor}
 use Rattle.history_texts.specs.declared.object.NewObject.{NewObject}
 use Rattle.history_word.specs.declared.command.Field.{Field}
 use Rattle.history_repository.specs.Reads.{IsReadingFault}
-use Rattle.history_plans.specs.CommitCauses.{first_among, held_causes, name_form_causes, place_causes, word_causes}
+use Rattle.history_plans.specs.CommitCauses.{first_among, held_causes, place_causes, word_causes}
 use Rattle.history_repository.specs.Held.{IsHeld}
 use Rattle.history_plans.specs.Plans.{IfItFits, IsMade, IsMove}
 use Rattle.history_repository.specs.declared.stopped.Stopped.{Stopped}
@@ -36,10 +36,6 @@ target_causes = word_causes ++ (held_causes ++ place_causes)
 
 abbrev pub tagger_causes : List Cause
 tagger_causes = BadActor ∷ BadTime ∷ BadMessage ∷ []
-
-abbrev pub tag_causes : List Cause
-tag_causes = name_form_causes
-    ++ (target_causes ++ (tagger_causes ++ (TooLarge ∷ NothingMoves ∷ [])))
 
 -- whether a tag may have this name
 abbrev pub is_tag_place : Bytes → Bool

@@ -1,4 +1,4 @@
-//! Who acted, and when, as a command's line says it.
+//! Actors in commands: which names, emails and times are allowed (`BadActor`, `BadTime`), and their values.
 
 ghost use Rattle.std.specs.Prelude.{◌≡◌, ◌&&◌, not, IsFalse, MatchOption};
 ghost use Rattle.history_model.specs.Bytes.{Bytes, is_empty};
@@ -16,7 +16,7 @@ use history_repository::into_kept;
 use history_store::{Actor, is_actor_part, parse_time};
 use history_word::{ActorLine, Field};
 
-fn is_name(field: &Field) -> bool
+fn is_actor_name(field: &Field) -> bool
     ensures { (name : Bytes) → Keeps max_actor_part field.now name
         → result ≡ (not (is_empty name) && is_actor_part name) }
 {
@@ -41,7 +41,7 @@ pub(crate) fn has_good_names(line: &ActorLine) -> bool
     ensures { (sent : model.ActorLine) → IsActor line.now sent
         → result ≡ not (is_bad_actor sent) }
 {
-    is_name(&line.name) && is_email(&line.email)
+    is_actor_name(&line.name) && is_email(&line.email)
 }
 
 /// Returns when the actor acted, if both words can be in an actor's line.

@@ -1,4 +1,4 @@
-//! The names of one command: whether two are one, and whether one is a folder of another.
+//! Names of a `move`: whether one occurs twice, or a new one collides with another (is in it, or its folder).
 
 ghost use Rattle.std.specs.Prelude.{◌≡◌, IfOk, bytes_eq, map};
 ghost use Rattle.std.specs.List.{list_any};

@@ -1,4 +1,4 @@
-//! What a `commit` is based on: the name that it moves, what that holds, and the commit's parents.
+//! The base of a `commit`: its name, what is expected and held there, words read and tested, parents, sources.
 
 ghost use Rattle.std.specs.Prelude.{◌≡◌, MatchResult, None, Some, ◌++◌, ⊤, IfOk, IsTrue, List, OnOk, map, option_and_then, option_map, option_to_list};
 ghost use Rattle.history_plans.specs.CommitCauses.{IsNamed, Tests, name_form_causes, name_causes, place_causes};

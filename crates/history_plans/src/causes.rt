@@ -1,4 +1,4 @@
-//! What a `commit` is refused for by itself.
+//! Causes in a `commit` itself: bad paths, bad titles, contents over the limit; its actors' times (`read_times`).
 
 ghost use Rattle.std.specs.Prelude.{◌≡◌, IsFalse, IsTrue, List, MatchResult, None};
 ghost use Rattle.std.specs.List.{list_any, flat_map};

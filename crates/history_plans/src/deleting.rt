@@ -1,4 +1,4 @@
-//! What a `delete` is refused for.
+//! The tests of a `delete`: its name may be a repository's, exists, and holds what is expected.
 
 ghost use Rattle.std.specs.Prelude.{◌≡◌, None, Option, Some, MatchResult, option_map};
 ghost use Rattle.gix_hash.specs.Id.{id_of};

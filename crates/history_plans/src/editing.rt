@@ -1,4 +1,4 @@
-//! What a commit's edits put, and what they make of its first parent's files.
+//! A commit's edits: the blobs and changes that they are, and the first parent's files edited, or why not.
 
 ghost use Rattle.std.specs.Prelude.{◌≡◌, IfOk, IsFalse, List, OnOk, map, option_to_list};
 ghost use Rattle.std.specs.List.{AllZip, flat_map, list_any};

@@ -1,4 +1,4 @@
-//! What grafts find in other commits, and at which paths they would put it.
+//! Grafts: what each finds in its source commit, a file or a folder, and whether a path would be too long.
 
 ghost use Rattle.std.specs.Prelude.{◌≡◌, ◌∷◌, [], ◌+◌, ⊤, IsFalse, None, OnOk, Some, get_or, length, map, nat_lt, option_map};
 ghost use Rattle.std.specs.FinMap.{entries, get};
@@ -144,12 +144,12 @@ fn test_graft<F: Files>(
     match found {
         None => Ok(()),
         Some(Found::File { .. }) => Ok(()),
-        Some(Found::Folder { id }) => test_folder(repository, alloc, read, path, id),
+        Some(Found::Folder { id }) => test_grafted_folder(repository, alloc, read, path, id),
     }
 }
 
 /// Tests the same of a folder.
-fn test_folder<F: Files>(
+fn test_grafted_folder<F: Files>(
     repository: &Repository<F>,
     alloc: Global,
     read: &mut ReadTrees,

@@ -9,7 +9,6 @@ mod causes;
 mod deleting;
 mod editing;
 mod grafts;
-mod held_objects;
 mod moving;
 mod needed;
 mod packing;
@@ -19,7 +18,6 @@ mod switching;
 mod tagging;
 
 pub use deleting::test_delete;
-pub use held_objects::{HeldObjects, HeldStore};
 pub use moving::plan_moves;
 pub use packing::{Packing, names_to_pack};
 pub use planning::{Plan, plan_commit};

@@ -1,4 +1,4 @@
-//! The plan of a `move`: names that move together, each to its word's commit.
+//! The plan of a `move`: its lines read, what their names hold tested (ids compared), and their moves made.
 
 ghost use Rattle.std.specs.Prelude.{◌≡◌, ◌++◌, None, Some, IfOk, IsTrue, List, MatchResult, OnOk, ⊤, map, not, option_map};
 ghost use Rattle.std.specs.List.{flat_map, list_all, list_any};

@@ -1,21 +1,20 @@
-//! The plan of a `pack`: all names, as they are to be packed.
+//! The plan of a `pack`: all names, as they are to be packed: each with its id, of a tag also its commit.
 
 ghost use Rattle.std.specs.Prelude.{◌≡◌, IfNone, IfSome, IsFalse, map};
 ghost use Rattle.gix_object_lines.specs.NameTest.{is_full_name};
 ghost use Rattle.history_store.specs.Packed.{record_of_name, records_of};
 ghost use Rattle.history_repository.specs.Reads.{GivesMeant};
 ghost use Rattle.history_repository.specs.NamesShown.{ArePeeled, shown_name, told_name};
-ghost use Rattle.history_plans.specs.HeldObjects.{HoldsMore};
+ghost use Rattle.history_repository.specs.HeldObjects.{HoldsMore};
 ghost use Rattle.history_plans.specs.Packing.{AreFull, IsPacking, line_record};
 ghost use Rattle.history_repository.specs.Stands.{Stands};
 ghost use Rattle.history_model.specs.Repository as plain;
 
-use crate::held_objects::HeldObjects;
 use gix_object_lines::ByteString;
 use gix_ref_file::Files;
 use gix_ref_name::FullName;
 use history_model::Fault;
-use history_repository::{ALL_NAMES, Held, PeeledCommit, Repository, Shown, Stopped};
+use history_repository::{ALL_NAMES, Held, HeldObjects, PeeledCommit, Repository, Shown, Stopped};
 use history_store::{NamedId, PackedName};
 use std::alloc::Global;
 

@@ -1,4 +1,4 @@
-//! What a `commit` is to store, and how its name is to move.
+//! The plan of a `commit`: new files, actors, trees and commit object within the limit, and the move (`moves_to`).
 
 ghost use Rattle.std.specs.Prelude.{◌≡◌, ◌≤◌, ◌<◌, ◌++◌, None, Err, OnOk, MatchOption, MatchResult, map, length};
 ghost use Rattle.std.specs.List.{list_any};
@@ -79,14 +79,14 @@ struct Committed {
 }
 
 /// Returns whether a tree is over the limit.
-fn has_long(trees: &[EditedTree]) -> bool
+fn has_long_tree(trees: &[EditedTree]) -> bool
     ensures { result ≡ list_any is_long_tree trees.now }
 {
     trees.iter().any(|tree| tree.content.len() > MAX_CONTENT)
 }
 
 /// Adds the objects of trees, which have their ids. Fails only if memory runs out.
-fn add_all(objects: &mut Vec<NewObject>, trees: Vec<EditedTree>) -> Result<(), AllocError>
+fn add_tree_objects(objects: &mut Vec<NewObject>, trees: Vec<EditedTree>) -> Result<(), AllocError>
     ensures { OnOk result (map object_parts objects.new.items
         ≡ map object_parts objects.old.items ++ map tree_parts trees.items) }
 {
@@ -106,10 +106,10 @@ fn add_trees(objects: &mut Vec<NewObject>, trees: Vec<EditedTree>) -> Result<(),
     ensures { MatchResult result (λ _. AreAdded objects.old.items trees.items objects.new.items)
         (IsNotAdded trees.items) }
 {
-    if has_long(&trees) {
+    if has_long_tree(&trees) {
         return Err(Stopped::Refused(Cause::TooLarge));
     }
-    Ok(add_all(objects, trees)?)
+    Ok(add_tree_objects(objects, trees)?)
 }
 
 impl NewFiles {

@@ -1,4 +1,4 @@
-//! The plan of a `rename`: a name that is made at what another holds.
+//! The plan of a `rename`: both names tested, and the move that makes the new one at what the old one holds.
 
 ghost use Rattle.std.specs.Prelude.{◌≡◌, ◌∷◌, [], None, Some, IfOk, MatchResult};
 ghost use Rattle.gix_hash.specs.Id.{id_of};

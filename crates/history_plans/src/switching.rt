@@ -1,4 +1,4 @@
-//! What a `switch` is refused for.
+//! The tests of a `switch`: its name is a branch's, and HEAD doesn't name it already.
 
 ghost use Rattle.std.specs.Prelude.{◌≡◌, MatchResult, None, Some};
 ghost use Rattle.history_model.specs.Causes.{first_cause};

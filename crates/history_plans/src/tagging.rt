@@ -1,4 +1,4 @@
-//! The plan of a `tag`: the tag of a commit, and the move of a name to it.
+//! The plan of a `tag`: its name below `refs/tags/`, its tagger, its object, and the move of the name to it.
 
 ghost use Rattle.std.specs.Prelude.{◌≡◌, IsFalse, IsTrue, MatchOption};
 ghost use Rattle.history_model.specs.Forms.{is_name, max_content};

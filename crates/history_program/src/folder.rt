@@ -1,4 +1,4 @@
-//! Performs the action of the program's words on a real folder.
+//! Performs the action of the program's words on a real folder, under its lock; writes help and errors.
 
 use crate::lock::lock_folder;
 use crate::notes::{note_failure, note_refusal};
@@ -48,8 +48,18 @@ fn act_under_lock(rt: &HostRuntime, asked: &Asked) -> Result<u8, AllocError> {
 
 // Acts on the two parts of the folder.
 fn act_on_folder(rt: &HostRuntime, asked: &Asked) -> Result<u8, AllocError> {
-    let objects = Folder::new(rt.alloc(), Disk::new(rt), copy(rt, asked)?, Part::Objects);
-    let names = Folder::new(rt.alloc(), Disk::new(rt), copy(rt, asked)?, Part::Names);
+    let objects = Folder::new(
+        rt.alloc(),
+        Disk::new(rt),
+        folder_path(rt, asked)?,
+        Part::Objects,
+    );
+    let names = Folder::new(
+        rt.alloc(),
+        Disk::new(rt),
+        folder_path(rt, asked)?,
+        Part::Names,
+    );
     // Each reply is written by one call, so no stream needs a buffer of its own.
     let mut reader = Stream::new(Patient::new(rt.stdin()));
     let mut writer = Stream::new(rt.stdout());
@@ -62,7 +72,7 @@ fn act_on_folder(rt: &HostRuntime, asked: &Asked) -> Result<u8, AllocError> {
 }
 
 // Returns the folder's path.
-fn copy(rt: &HostRuntime, asked: &Asked) -> Result<String, AllocError> {
+fn folder_path(rt: &HostRuntime, asked: &Asked) -> Result<String, AllocError> {
     String::from_str(rt.alloc(), asked.folder.as_str())
 }
 

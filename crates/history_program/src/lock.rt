@@ -1,4 +1,4 @@
-//! The system's lock on a folder, so that one process at a time works there.
+//! The system's lock on a folder, so that one process at a time works there; the folder is made and opened.
 
 use history_actions::command_line::{Action, Asked};
 use std::fs::{self, File, TryLockError};
@@ -39,7 +39,7 @@ pub fn lock_folder(rt: &HostRuntime, asked: &Asked) -> Result<File, Refusal> {
 fn folder_of(rt: &HostRuntime, asked: &Asked) -> io::Result<File> {
     let folder = asked.folder.as_str();
     if asked.action == Action::Create {
-        make(rt, folder)?;
+        make_folder(rt, folder)?;
     }
     // Opening a pipe would wait.
     if !fs::metadata(rt, folder)?.is_dir() {
@@ -48,7 +48,7 @@ fn folder_of(rt: &HostRuntime, asked: &Asked) -> io::Result<File> {
     fs::open(rt, folder)
 }
 
-fn make(rt: &HostRuntime, folder: &str) -> io::Result<()> {
+fn make_folder(rt: &HostRuntime, folder: &str) -> io::Result<()> {
     match fs::create_dir(rt, folder) {
         Err(error) if error.kind() == ErrorKind::AlreadyExists => Ok(()),
         made => made,

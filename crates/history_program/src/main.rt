@@ -1,4 +1,4 @@
-//! The program `wunthavel-history`.
+//! The program `wunthavel-history`: its words, then a run in memory or an action on a folder.
 //!
 //! Without arguments it runs commands on a new repository in memory, from standard input to
 //! standard output; with arguments it performs their action on a folder. Without arguments at a

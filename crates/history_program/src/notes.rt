@@ -1,4 +1,4 @@
-//! What is noted after a fault: which file, and why.
+//! Notes on standard error after a fault or a refused lock: which file or folder, and why.
 
 use crate::lock::Refusal;
 use gix_ref_folder::{Disk, Failure, Folder};

@@ -4,7 +4,7 @@ use Rattle.std.specs.Borrow.{Bor}
 use Rattle.std.specs.Prelude.{◌⊎◌, ⊤, Contains, IfSome, IsSome}
 use Rattle.std.specs.FinMap.{contains_key, get}
 use Rattle.std.proofs.lemmas.List.{append_assoc, map-append, take_more}
-use Rattle.std.proofs.lemmas.List.Elements.{Contains-append_left, Contains-get_or, Contains-push, Contains-push_cases}
+use Rattle.std.proofs.lemmas.List.Elements.{Contains-append_left, Contains-push, Contains-push_cases}
 use Rattle.gix_hash.specs.Id.{Id, id_of}
 use Rattle.gix_hash.specs.Order.{id_eq}
 use Rattle.gix_hash.specs.Packed.{object_id_of, object_id_of-id_of}
@@ -296,6 +296,3 @@ told_added r ids k d less some more told so_far grown named stored = subst (AreT
       | inl earlier ↦ so_far.stored t earlier
       | inr same ↦ subst (TellsStored r) same stored
     ]
-
-pub held_at : (r : Repository) (ids : List ObjectId) (k : ℕ) (d : ObjectId) → AllHold r ids → k < length ids → (value : CommitValue) × (get r.objects (id_of (get_or ids k d)) ≡ Some (StoredCommit value))
-held_at r ids k d hold less = holds_value r (id_of (get_or ids k d)) (hold (get_or ids k d) (Contains-get_or ids k d less))

@@ -165,10 +165,6 @@ pub root_at : (r : Repository) → IsWholeStore r → (id : Id) (value : CommitV
     → get r.objects (id_of root) ≡ Some (StoredFolder value.files)
 root_at r store id value root at is = ap (get r.objects) is ∙ (store.closed id (StoredCommit value) at).1
 
-pub folder_at : (r : Repository) → IsWholeStore r → (id : Id) (value : CommitValue) (commit : commits.Commit) → get r.objects id ≡ Some (StoredCommit value) → SaysCommit r.kind commit value
-    → get r.objects (id_of commit.tree) ≡ Some (StoredFolder value.files)
-folder_at r store id value commit at is = root_at r store id value commit.tree at is.tree
-
 pub no_file_mode : {A : Type 0} (kind : FileKind) → mode_of kind ≡ codes "40000" → A
 no_file_mode File e = texts_differ _ _ refl e
 no_file_mode Exec e = texts_differ _ _ refl e

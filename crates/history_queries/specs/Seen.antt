@@ -1,13 +1,18 @@
 -- What was seen of commits at some paths.
-use Rattle.std.specs.Prelude.{◌≡◌, List, map, option_map, IfSome}
+use Rattle.std.specs.Prelude.{◌≡◌, List, Result, map, option_map, IfSome}
 use Rattle.std.specs.Borrow.{Bor}
 use Rattle.gix_hash.specs.Id.{Id, id_of}
+use Rattle.history_files.specs.Laws.{table_of}
+use Rattle.history_files.specs.NamedTrees.{AreNamed}
 use Rattle.history_files.specs.Reading.{entry_of}
+use Rattle.history_files.specs.declared.named_trees.NamedTrees.{NamedTrees}
 use Rattle.history_model.specs.Answers.{differs_at, parents_at}
 use Rattle.history_model.specs.Bytes.{Bytes}
 use Rattle.history_model.specs.Meaning.{files_at}
 use Rattle.history_model.specs.Objects.{entry_at}
 use Rattle.history_model.specs.Repository.{Repository, HoldsCommit}
+use Rattle.history_repository.specs.Reads.{GivesMeant}
+use Rattle.history_repository.specs.declared.stopped.Stopped.{Stopped}
 use Rattle.history_queries.specs.declared.differing.Compared.{Compared}
 use Rattle.history_queries.specs.declared.differing.Seen.{Seen}
 
@@ -27,3 +32,10 @@ pub record IsCompared (r : Repository) (paths : List (Bor Bytes)) (id : Id) (com
     : Type 0 where
   pub differs : compared.differs ≡ differs_at r (map (λ path. path.now) paths) id
   pub before : IfSome compared.before (IsSeen r paths)
+
+-- if what is kept of trees under the names of the paths is as they are stored, what is meant, and
+-- all that is kept since is so too; or a fault of reading
+abbrev pub ReadsNamed : {T : Type 0} → Type 0 → Repository → List (Bor Bytes) → NamedTrees
+    → NamedTrees → (T → Type 0) → Result T Stopped → Type 0
+ReadsNamed MayFail r paths before now IsMeant result = AreNamed (table_of r) paths before
+    → GivesMeant MayFail (λ value. IsMeant value × AreNamed (table_of r) paths now) result

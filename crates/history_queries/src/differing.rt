@@ -1,16 +1,18 @@
 //! The commits that differ at some paths from their first parents.
 
-ghost use Rattle.std.specs.Prelude.{◌≡◌, filter, map, option_map, replicate, IfOk, IfSome, None, Some};
+ghost use Rattle.std.specs.Prelude.{◌≡◌, List, filter, map, option_map, replicate, IfOk, IfSome, None, Some};
+ghost use Rattle.std.specs.Borrow.{Bor};
 ghost use Rattle.std.specs.FinMap.{get};
 ghost use Rattle.gix_hash.specs.Id.{id_of};
 ghost use Rattle.history_files.specs.Reading.{entry_of};
 ghost use Rattle.history_model.specs.Answers.{differs_at};
+ghost use Rattle.history_model.specs.Bytes.{Bytes};
 ghost use Rattle.history_model.specs.FileMap.{FileMap};
 ghost use Rattle.history_model.specs.Objects.{StoredFolder, entry_at};
 ghost use Rattle.history_model.specs.Repository.{HoldsCommit};
-ghost use Rattle.history_repository.specs.Reads.{AreTrees, GivesMeant, ReadsTrees};
+ghost use Rattle.history_repository.specs.Reads.{GivesMeant};
 ghost use Rattle.history_repository.specs.Stands.{Stands};
-ghost use Rattle.history_queries.specs.Seen.{IsCompared, IsSeen, IsSeenAt};
+ghost use Rattle.history_queries.specs.Seen.{IsCompared, IsSeen, IsSeenAt, ReadsNamed};
 ghost use Rattle.history_queries.specs.Walked.{AllHold, AreRead};
 ghost use Rattle.history_model.specs.Repository as plain;
 
@@ -18,7 +20,7 @@ use crate::rows::told_of;
 use gix_hash::ObjectId;
 use gix_ref_file::Files;
 use gix_traverse_graph::ParentIds;
-use history_files::{EntriesState, Found, ReadTrees, TreeStore, entries_at, read_on_paths};
+use history_files::{Found, NamedTrees, entries_at_once};
 use history_repository::{Repository, Stopped};
 use history_walks::ReadCommits;
 use std::alloc::{AllocError, Global};
@@ -32,50 +34,22 @@ fn nothing_at(alloc: Global, paths: usize) -> Result<Vec<Option<Found>>, AllocEr
     Ok(found)
 }
 
-/// How many bytes of trees are kept at most from one commit to the next.
-const KEPT_BYTES: usize = 1 << 20;
-
-/// What comparing commits keeps from one to the next: the last trees that were read.
-#[derive(Drop)]
-struct Trees {
-    read: ReadTrees,
-    state: EntriesState,
-}
-
-impl Trees {
-    fn new(alloc: Global) -> Trees
-        ensures { (r : plain.Repository) → AreTrees r result.read }
-    {
-        Trees {
-            read: ReadTrees::new(alloc),
-            state: EntriesState::new(alloc),
-        }
-    }
-}
-
-/// Returns what is at each of some paths below a stored tree, in their order. Only the trees on the
-/// paths are read, each only if it isn't kept. The faults are those of `see`.
+/// Returns what is at each of the paths below a stored tree, in their order. Of the trees on the
+/// paths only those are read that weren't before. The faults are those of `see`.
 fn found_each<F: Files>(
     repository: &Repository<F>,
     alloc: Global,
     tree: &ObjectId,
-    paths: &[&[u8]],
-    trees: &mut Trees,
+    trees: &mut NamedTrees<'_>,
 ) -> Result<Vec<Option<Found>>, Stopped>
-    ensures { (r : plain.Repository) (below : FileMap) → Stands F.is_honest F.history repository.now r
+    ensures { (r : plain.Repository) (below : FileMap) (paths : List (Bor Bytes))
+        → Stands F.is_honest F.history repository.now r
         → get r.objects (id_of tree.now) ≡ Some (StoredFolder below)
-        → ReadsTrees F.reading_may_fail r trees.old.read trees.new.read (λ found.
+        → ReadsNamed F.reading_may_fail r paths trees.old trees.new (λ found.
         map (option_map entry_of) found.items
-        ≡ map (λ path. entry_at r.kind below path.now) paths.now) result }
+        ≡ map (λ path. entry_at r.kind below path.now) paths) result }
 {
-    trees.read.bound(KEPT_BYTES);
-    let ways = Vec::from_slice(alloc, paths)?;
-    read_on_paths(alloc, &repository.objects, &mut trees.read, tree, ways)?;
-    let store = TreeStore {
-        store: &repository.objects,
-        read: &trees.read,
-    };
-    Ok(entries_at(alloc, &store, tree, paths, &mut trees.state)?)
+    Ok(entries_at_once(alloc, &repository.objects, tree, trees)?)
 }
 
 /// A commit that was seen: its parents, and what it has at some paths.
@@ -96,23 +70,22 @@ struct Compared {
 
 /// Returns the parents of a stored commit, and what it has at some paths.
 ///
-/// Its content is read, unless it has a row or is kept, and the trees on the paths that aren't
-/// kept. It is a fault if a call of the files failed, or if no memory is left.
+/// Its content is read, unless it has a row or is kept, and the trees on the paths that weren't
+/// read before. It is a fault if a call of the files failed, or if no memory is left.
 fn see<F: Files>(
     repository: &Repository<F>,
     alloc: Global,
     read: &ReadCommits,
     id: &ObjectId,
-    paths: &[&[u8]],
-    trees: &mut Trees,
+    trees: &mut NamedTrees<'_>,
 ) -> Result<Seen, Stopped>
-    ensures { (r : plain.Repository) → Stands F.is_honest F.history repository.now r
-        → AreRead r read.now → HoldsCommit r (id_of id.now)
-        → ReadsTrees F.reading_may_fail r trees.old.read trees.new.read
-        (IsSeenAt r paths.now (id_of id.now)) result }
+    ensures { (r : plain.Repository) (paths : List (Bor Bytes))
+        → Stands F.is_honest F.history repository.now r → AreRead r read.now
+        → HoldsCommit r (id_of id.now) → ReadsNamed F.reading_may_fail r paths trees.old trees.new
+        (IsSeenAt r paths (id_of id.now)) result }
 {
     let told = told_of(repository, alloc, read, id)?;
-    let found = found_each(repository, alloc, &told.tree, paths, trees)?;
+    let found = found_each(repository, alloc, &told.tree, trees)?;
     Ok(Seen {
         id: told.id,
         parents: told.parents,
@@ -127,20 +100,20 @@ fn see_next<F: Files>(
     read: &ReadCommits,
     last: Option<Seen>,
     id: &ObjectId,
-    paths: &[&[u8]],
-    trees: &mut Trees,
+    trees: &mut NamedTrees<'_>,
 ) -> Result<Seen, Stopped>
-    ensures { (r : plain.Repository) → Stands F.is_honest F.history repository.now r
-        → AreRead r read.now → HoldsCommit r (id_of id.now) → IfSome last (IsSeen r paths.now)
-        → ReadsTrees F.reading_may_fail r trees.old.read trees.new.read
-        (IsSeenAt r paths.now (id_of id.now)) result }
+    ensures { (r : plain.Repository) (paths : List (Bor Bytes))
+        → Stands F.is_honest F.history repository.now r → AreRead r read.now
+        → HoldsCommit r (id_of id.now) → IfSome last (IsSeen r paths)
+        → ReadsNamed F.reading_may_fail r paths trees.old trees.new
+        (IsSeenAt r paths (id_of id.now)) result }
 {
     if let Some(seen) = last {
         if seen.id == *id {
             return Ok(seen);
         }
     }
-    see(repository, alloc, read, id, paths, trees)
+    see(repository, alloc, read, id, trees)
 }
 
 /// Returns whether what a commit has at some paths isn't what its first parent has there.
@@ -153,11 +126,11 @@ fn compare<F: Files>(
     read: &ReadCommits,
     here: &Seen,
     paths: &[&[u8]],
-    trees: &mut Trees,
+    trees: &mut NamedTrees<'_>,
 ) -> Result<Compared, Stopped>
     ensures { (r : plain.Repository) → Stands F.is_honest F.history repository.now r
         → AreRead r read.now → IsSeen r paths.now here.now
-        → ReadsTrees F.reading_may_fail r trees.old.read trees.new.read
+        → ReadsNamed F.reading_may_fail r paths.now trees.old trees.new
         (IsCompared r paths.now (id_of here.now.id)) result }
 {
     let Some(parent) = here.parents.as_slice().first() else {
@@ -167,7 +140,7 @@ fn compare<F: Files>(
             before: None,
         });
     };
-    let before = see(repository, alloc, read, parent, paths, trees)?;
+    let before = see(repository, alloc, read, parent, trees)?;
     Ok(Compared {
         differs: here.found.as_slice() != before.found.as_slice(),
         before: Some(before),
@@ -178,9 +151,8 @@ fn compare<F: Files>(
 /// order.
 ///
 /// The commits are stored. Of each and of its first parent the content is read, unless it has a row
-/// or is kept, and the trees on the paths. The trees that were read are kept, up to a megabyte of
-/// them, so that those in which no commit changes anything are read once. It is a fault if a call of
-/// the files failed, or if no memory is left.
+/// or is kept, and the trees on the paths, each once: what each has under the paths' names is kept.
+/// It is a fault if a call of the files failed, or if no memory is left.
 pub(crate) fn differing<F: Files>(
     repository: &Repository<F>,
     alloc: Global,
@@ -193,11 +165,11 @@ pub(crate) fn differing<F: Files>(
         (λ differing. map id_of differing.items
         ≡ filter (differs_at r (map (λ path. path.now) paths.now)) (map id_of ids.now)) result }
 {
-    let mut trees = Trees::new(alloc);
+    let mut trees = NamedTrees::new(alloc, paths)?;
     let mut differing = Vec::new(alloc);
     let mut last = None;
     for id in ids {
-        let here = see_next(repository, alloc, read, last.take(), id, paths, &mut trees)?;
+        let here = see_next(repository, alloc, read, last.take(), id, &mut trees)?;
         let Compared { differs, before } = compare(
             repository, alloc, read, &here, paths, &mut trees,
         )?;

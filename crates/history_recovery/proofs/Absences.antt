@@ -50,13 +50,6 @@ absent_file kind tree name named is = sym (ap (λ b. is_absent (cond b (unwrap_o
     go None e = cc
     go (Some text) e = never_absent kind (whole_line text)
 
-pub absent_packed : (kind : Kind) (tree : Tree) (name : Bytes) → is_name name ≡ true → false ≡ is_file_at tree name → is_absent (packed_reading kind tree name) ≡ is_absent (name_state kind tree name)
-absent_packed kind tree name named is = sym (ap (λ b. is_absent (cond b (unwrap_or (option_map (loose_state kind) (file_at tree name)) (packed_reading kind tree name)) Absent)) named ∙ go (file_at tree name) is)
-  where
-    go : (o : Option Bytes) → false ≡ is_some o → is_absent (unwrap_or (option_map (loose_state kind) o) (packed_reading kind tree name)) ≡ is_absent (packed_reading kind tree name)
-    go None e = refl
-    go (Some text) e = cc
-
 pub absent_unnamed : (kind : Kind) (tree : Tree) (name : Bytes) → is_name name ≡ false → true ≡ is_absent (name_state kind tree name)
 absent_unnamed kind tree name plain = sym (ap (λ b. is_absent (cond b (unwrap_or (option_map (loose_state kind) (file_at tree name)) (packed_reading kind tree name)) Absent)) plain)
 
@@ -88,12 +81,6 @@ told_records kind tree name text kept named stands keeps =
     by_kind false = ap is_none (keeps.2.first name) ∙ by_found (hit keeps.0 name)
 
 -- ---- what is left over
-
-pub over_lock : (kind : Kind) (tree : Tree) (path : Bytes) → is_lock_file path ≡ true → true ≡ is_over kind tree path
-over_lock kind tree path lock = sym (ap (λ b. b || (is_log_place path && is_absent (name_state kind tree (log_name path)))) lock)
-
-pub over_plain : (kind : Kind) (tree : Tree) (path : Bytes) → is_lock_file path ≡ false → is_log_place path ≡ false → false ≡ is_over kind tree path
-over_plain kind tree path lock log = sym (λ i. lock i || (log i && is_absent (name_state kind tree (log_name path))))
 
 pub over_log : (kind : Kind) (tree : Tree) (path : Bytes) → is_lock_file path ≡ false → is_log_place path ≡ true → is_absent (name_state kind tree (log_name path)) ≡ is_over kind tree path
 over_log kind tree path lock log = sym (λ i. lock i || (log i && is_absent (name_state kind tree (log_name path))))

@@ -81,6 +81,3 @@ module _ (from to : Bytes) (old now : History) (allowed : IsTrue (may_hold_file 
 
       piece_is : piece ≡ part text at most
       piece_is = is ∙ ap (part (bytes_at now.tree from) at) (omega (arith, few)) ∙ ap (λ t. part t at most) (source_same apart)
-
-pub all_copied : (at len : ℕ) (old new : Tree) (from to : Bytes) → at ≤ len → len ≤ at → new ≡ insert old to (file (take at (bytes_at old from))) → new ≡ insert old to (file (take len (bytes_at old from)))
-all_copied at len old new from to within over is = is ∙ ap (λ n. insert old to (file (take n (bytes_at old from)))) (omega (arith, within, over))

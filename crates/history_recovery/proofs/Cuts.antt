@@ -41,9 +41,6 @@ node_again : (path : Bytes) (o : Option Node) → option_map (recovered_node pat
 node_again path None = refl
 node_again path (Some node) = ap Some (node-twice path node)
 
-pub cuts_nothing : (tree : Tree) → Cuts tree tree
-cuts_nothing tree path = inl refl
-
 pub cuts_joined : (old mid new : Tree) → Cuts old mid → Cuts mid new → Cuts old new
 cuts_joined old mid new first second path = go (first path) (second path)
   where

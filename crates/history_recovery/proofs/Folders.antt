@@ -6,7 +6,6 @@ use Rattle.std.specs.FinMap.{get, remove, keys, contains_key, contains_key-keys}
 use Rattle.std.proofs.lemmas.Bool.{and_parts, and_from}
 use Rattle.gix_ref_file.specs.Tree.{Tree, Node, file, folder, is_slash, is_path, same_path, parent, bytes_of, node_at, names_at, is_folder, IsRooted}
 use Rattle.gix_ref_file.specs.Changes.{to_remove_folder, allows, is_empty_at, is_file_at}
-use Rattle.gix_ref_file.proofs.Listings.{root_is_no_path}
 use Rattle.gix_ref_file.proofs.Below.{path_in_folder}
 use Rattle.gix_ref_file.proofs.Trees.{same_tree, same_path_itself, one_path, get-removed}
 use Rattle.history_model.specs.Bytes.{Bytes}
@@ -86,13 +85,7 @@ file_stood kind tree (b ∷ path) e = left_stood (is_over kind tree (b ∷ path)
 
 -- ---- an empty folder goes
 
-no_file : (o : Option Node) → o ≡ Some folder → bytes_of o ≡ None
-no_file o is = ap bytes_of is
-
 module _ (kind : Kind) (tree : Tree) (k : Bytes) (rooted : IsRooted tree) (some : k ≢ []) (is : get tree k ≡ Some folder) (named : (is_below (codes "refs") k || is_below (codes "logs") k) ≡ true) (empty : is_empty_at tree k ≡ true) where
-  gone : Tree
-  gone = remove tree k
-
   files_stay : (q : Bytes) → file_at (remove tree k) q ≡ file_at tree q
   files_stay [] = refl
   files_stay (b ∷ q) = go (same_path (b ∷ q) k) refl
@@ -265,9 +258,6 @@ folder_there tree (b ∷ k) some is = by_node (get tree (b ∷ k)) is
     by_node None h = cc
     by_node (Some (file bytes)) h = cc
     by_node (Some folder) h = refl
-
-path_not_root : (k : Bytes) → IsTrue (is_path k) → k ≢ []
-path_not_root k is none = root_is_no_path (subst (λ p. IsTrue (is_path p)) none is)
 
 named_not_root : (k : Bytes) → (is_below (codes "refs") k || is_below (codes "logs") k) ≡ true → k ≢ []
 named_not_root k named none = let wrong : false ≡ true = ap (λ p. is_below (codes "refs") p || is_below (codes "logs") p) (sym none) ∙ named in cc wrong

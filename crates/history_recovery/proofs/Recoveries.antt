@@ -12,11 +12,11 @@ use Rattle.gix_ref_file.proofs.Histories.{adds_weaker, adds_joined}
 use Rattle.gix_ref_file.proofs.Rooted.{adds_now}
 use Rattle.gix_ref_file.proofs.Trees.{same_tree, get-removed, same_path_itself}
 use Rattle.history_model.specs.Bytes.{Bytes}
-use Rattle.history_model.specs.NameStates.{NameState, Absent, is_absent, name_state, packed_text_state}
+use Rattle.history_model.specs.NameStates.{NameState, Absent, is_absent, packed_text_state}
 use Rattle.history_model.specs.Places.{file_at, packed_place}
 use Rattle.history_model.specs.Recovery.{is_deserted, recovered_files, recovered_names, recovered_node}
 use Rattle.gix_hash.specs.declared.kind.Kind.{Kind}
-use Rattle.history_model.proofs.RecoveryLemmas.{get-recovered_names, recovery_reads, file_kept}
+use Rattle.history_model.proofs.RecoveryLemmas.{get-recovered_names, file_kept}
 use Rattle.history_recovery.specs.Clearing.{is_over, Tells, IsKept, AreKeptBelow, AreAllKept, IsCut, Clears}
 use Rattle.history_recovery.specs.declared.packed.Packed.{Packed}
 use Rattle.std.proofs.Math.ListN.{get_or}
@@ -75,10 +75,6 @@ while_folder_goes kind k old new alike adds = adds_weaker old new adds (λ x lef
     go x (inr (n, may, is)) = subst (Clears kind old.tree) (sym is) (clears_one kind old.tree k (alike may))
 
 -- ---- what is known stays so
-
--- what recovers alike reads alike
-pub reads_later : (kind : Kind) (old new : Tree) → recovered_names kind new ≡ recovered_names kind old → (name : Bytes) → name_state kind new name ≡ name_state kind old name
-reads_later kind old new alike name = sym (recovery_reads kind new name) ∙ ap (λ t. name_state kind t name) alike ∙ recovery_reads kind old name
 
 pub told_later : (kind : Kind) (old new : Tree) (packed : Packed) → recovered_names kind new ≡ recovered_names kind old → Tells kind old packed → Tells kind new packed
 told_later kind old new packed alike tells = λ name named.

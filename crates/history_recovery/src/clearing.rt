@@ -1,4 +1,4 @@
-//! Removes leftovers, and the folders that are then deserted.
+//! Removes files that are left over, and then folders below `refs` and `logs` that are empty, the deepest first.
 ghost use Rattle.std.specs.Prelude.{◌≡◌, ◌||◌, codes, OnOk, IsErrOf, IsTrue};
 ghost use Rattle.gix_ref_file.specs.Calls.{HasFault, Passes};
 ghost use Rattle.gix_ref_file.specs.Tree.{node_at, is_folder};

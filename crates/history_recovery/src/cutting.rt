@@ -1,4 +1,4 @@
-//! Cuts logs after their last line feeds.
+//! Cuts logs after their last line feeds: finds the last one, copies whole lines to a lock file, and renames it.
 ghost use Rattle.std.specs.Prelude.{◌≡◌, length, take, IfOk, IsErrOf, IsTrue};
 ghost use Rattle.gix_ref_file.specs.Calls.{Achieves, Finds, HasFault, Passes};
 ghost use Rattle.gix_ref_file.specs.Tree.{bytes_at};

@@ -1,4 +1,4 @@
-//! Which names read as absent, by `packed-refs`, which is read once.
+//! Whether a file is left over: a lock file, or the log of an absent name, by files and `packed-refs`, read once.
 ghost use Rattle.std.specs.Prelude.{◌≡◌, is_none, IfOk, IsErrOf, IsTrue};
 ghost use Rattle.gix_ref_format.specs.Lookup.{packed_hit};
 ghost use Rattle.gix_ref_format.specs.PackedKept.{kept};

@@ -1,4 +1,4 @@
-//! Files that are read and copied in pieces, whatever their size.
+//! Files of any size read and copied in pieces: one piece at a position, or a file's first bytes to another.
 ghost use Rattle.std.specs.Prelude.{◌≡◌, ◌≢◌, ◌≤◌, min, take, IfOk, IsErrOf, IsTrue, length};
 ghost use Rattle.std.specs.FinMap.{insert};
 ghost use Rattle.gix_ref_file.specs.Calls.{Achieves, Finds, HasFault, Passes};

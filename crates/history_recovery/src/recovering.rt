@@ -1,4 +1,4 @@
-//! Recovers the two parts of a repository.
+//! Recovers the two parts: the objects' unfinished file goes, then leftovers among the names; logs are cut.
 ghost use Rattle.std.specs.Prelude.{◌≡◌, ◌⊎◌, OnOk, IsErrOf};
 ghost use Rattle.gix_ref_file.specs.Calls.{Achieves, HasFault, Passes};
 ghost use Rattle.gix_ref_file.specs.declared.files.FileError.TheVariants.{Failed};

@@ -99,20 +99,6 @@ whole_actor actor order is good =
       kept_whole 512 actor.email order.email is.email (part_fits order.email (not-false (is_actor_part order.email) parts.1)),
     )
 
--- a part within its limit is good if it passes the other tests
-pub part_within : (part : Bytes) → length part ≤ 512 → list_any (λ b. has_byte b (60 ∷ 62 ∷ 0 ∷ 9 ∷ 13 ∷ 10 ∷ [])) part ≡ false → begins (32 ∷ []) part ≡ false → not (ends (32 ∷ []) part) ≡ is_actor_part part
-part_within part small clean front = sym (
-    ap (λ barred. not barred && not (begins (32 ∷ []) part) && not (ends (32 ∷ []) part) && nat_le (length part) 512) clean
-    ∙ ap (λ spaced. not spaced && not (ends (32 ∷ []) part) && nat_le (length part) 512) front
-    ∙ ap (λ fits. not (ends (32 ∷ []) part) && fits) fits ∙ also (not (ends (32 ∷ []) part)))
-  where
-    fits : nat_le (length part) 512 ≡ true
-    fits = grind (arith, nat_tests)
-
-    also : (a : Bool) → (a && true) ≡ a
-    also true = refl
-    also false = refl
-
 -- ---- fields that are kept whole
 
 -- a path that isn't bad is kept whole

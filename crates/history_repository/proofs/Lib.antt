@@ -1,6 +1,7 @@
 pub mod Befores
 pub mod Extended
 pub mod FieldLemmas
+pub mod HeldKept
 pub mod HeldLemmas
 pub mod Items
 pub mod Joined

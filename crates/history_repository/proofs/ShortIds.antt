@@ -1,9 +1,9 @@
 -- Short ids: which words are ones, and what the prefix that one spells names among what is stored.
-use Rattle.std.proofs.Common.{◌≡◌, ◌∙◌, ap, refl, sym, subst, ℕ, zero, suc, ◌+◌, ◌<◌, ◌≤◌, Bool, true, false, cond, ◌&&◌, ◌==◌, List, [], ◌∷◌, ◌++◌, map, length, filter, Option, Some, None, is_some, unwrap_or, Result, arith, tests, inl, inr, eq-eqb, ◌⊎◌}
+use Rattle.std.proofs.Common.{◌≡◌, ◌∙◌, ap, refl, sym, subst, ℕ, zero, suc, ◌+◌, ◌<◌, ◌≤◌, Bool, true, false, cond, ◌&&◌, ◌==◌, List, [], ◌∷◌, ◌++◌, map, length, filter, Option, Some, None, is_some, unwrap_or, arith, tests, inl, inr, eq-eqb, ◌⊎◌}
 use Rattle.std.specs.Prelude.{nat_le, T}
 use Rattle.std.specs.Char.{to_ascii_lowercase}
 use Rattle.std.specs.Str.{IsAscii, IsUtf8}
-use Rattle.std.specs.List.{list_all, slice_index_or}
+use Rattle.std.specs.List.{list_all}
 use Rattle.std.specs.Ordering.{eq_by_cmp, is_eq, is_lt, ordering_reverse}
 use Rattle.std.specs.declared.cmp.Ordering.{Ordering}
 use Rattle.std.specs.declared.cmp.Ordering.TheVariants.{Less, Equal, Greater}
@@ -11,7 +11,6 @@ use Rattle.std.specs.FinMap.{contains_key, contains_key-keys, entries, entries_s
 use Rattle.std.specs.FinMap.Entries.{below_all}
 use Rattle.std.proofs.lemmas.Bool.{and_from, and_parts, cases_lt, eqb-true}
 use Rattle.std.proofs.lemmas.List.{length-map}
-use Rattle.std.proofs.lemmas.List.Recursion.{and_fails_at}
 use Rattle.std.proofs.lemmas.Str.{IsUtf8-from_ascii}
 use Rattle.std.proofs.lemmas.Str.Ascii.{IsAscii-nil, IsAscii-cons}
 use Rattle.hex.specs.Hex.{hex_digit_value, is_hex_digit}
@@ -21,19 +20,14 @@ use Rattle.gix_hash.specs.Kind.{hex_len}
 use Rattle.gix_hash.specs.OrderLaws.{id_total}
 use Rattle.gix_hash.specs.Spelling.{hex_character, hex_text, IsHexOf}
 use Rattle.gix_hash.specs.declared.kind.Kind.{Kind}
-use Rattle.gix_hash.specs.declared.kind.Kind.TheVariants.{Sha1, Sha256}
 use Rattle.gix_hash.specs.declared.object_id.ObjectId.{ObjectId}
 use Rattle.gix_hash.proofs.LawLemmas.{AreDigits, none, more}
 use Rattle.gix_hash.specs.Beginnings.{IsBeginningOf}
-use Rattle.gix_hash.specs.Prefix.{IsTextFault}
-use Rattle.gix_hash.specs.declared.prefix.from_hex.Error.{Error}
-use Rattle.gix_hash.specs.declared.prefix.from_hex.Error.TheVariants.{TooShort, TooLong, Invalid}
 use Rattle.gix_ref_file.specs.History.{History}
 use Rattle.gix_ref_file.proofs.Below.{when_lt}
 use Rattle.history_model.specs.Bytes.{Bytes, begins, lower}
 use Rattle.history_model.specs.Objects.{Value, by_id, hex, value_text}
 use Rattle.history_model.specs.Forms.{is_id}
-use Rattle.history_model.specs.declared.Cause.{Cause}
 use Rattle.history_model.specs.Repository.{Repository}
 use Rattle.history_model.specs.Words.{id_meaning, is_short_id, matches, only_one}
 use Rattle.history_model.proofs.IdLemmas.{HasKind, digest_is_id, has_kind, same_id_tie}
@@ -42,12 +36,9 @@ use Rattle.history_store.specs.ObjectsFace.{kind_of_objects}
 use Rattle.history_store.specs.Ids.{AreOfKind}
 use Rattle.history_store.specs.Prefixes.{CanName, IsHit, IsMatch}
 use Rattle.history_store.specs.declared.prefixes.Hit.TheVariants.{Absent, One, Several}
-use Rattle.history_repository.specs.Reads.{GivesMeant}
 use Rattle.history_repository.specs.Face.{known_ids}
-use Rattle.history_repository.specs.Meanings.{meaning_of, SpellsPrefix}
+use Rattle.history_repository.specs.Meanings.{SpellsPrefix}
 use Rattle.history_repository.specs.Stands.{Stands}
-use Rattle.history_repository.specs.declared.stopped.Stopped.{Stopped}
-use Rattle.history_repository.specs.declared.words.WordMeaning.{WordMeaning}
 use Rattle.gix_hash.specs.Prefix as prefixes
 use Rattle.history_model.specs.Words as model
 use Rattle.history_repository.specs.declared.repository.Repository as own
@@ -120,42 +111,13 @@ last_false : (a b : Bool) → b ≡ false → (a && b) ≡ false
 last_false true b e = e
 last_false false b e = refl
 
-first_false : (a b c : Bool) → a ≡ false → ((a && b) && c) ≡ false
-first_false true b c e = cc
-first_false false b c e = refl
-
-middle_false : (a b c : Bool) → b ≡ false → ((a && b) && c) ≡ false
-middle_false true true c e = cc
-middle_false true false c e = refl
-middle_false false b c e = refl
-
-fits_kind : (kind : Kind) → hex_len kind ≤ 64
-fits_kind Sha1 = omega arith
-fits_kind Sha256 = omega arith
-
 module _ (kind : Kind) (word : Bytes) where
-  pub too_long : hex_len kind < length word → is_short_id kind word ≡ false
-  too_long over =
-      let fails : nat_le (length word) (hex_len kind) ≡ false = grind (arith, tests) in
-      middle_false (nat_le 4 (length word)) (nat_le (length word) (hex_len kind)) (list_all is_hex_digit word) fails
-
   pub no_text : (IsUtf8 word → ⊥) → is_short_id kind word ≡ false
   no_text bad = by_test (list_all is_hex_digit word) refl
     where
       by_test : (b : Bool) → list_all is_hex_digit word ≡ b → ((nat_le 4 (length word) && nat_le (length word) (hex_len kind)) && list_all is_hex_digit word) ≡ false
       by_test true e = absurd (bad (IsUtf8-from_ascii word (are_ascii word e)))
       by_test false e = last_false (nat_le 4 (length word) && nat_le (length word) (hex_len kind)) (list_all is_hex_digit word) e
-
-  pub no_prefix : (error : Error) → length word ≤ hex_len kind → IsTextFault hex_digit_value 4 word error → is_short_id kind word ≡ false
-  no_prefix (TooShort n) fits (is, few) =
-      let fails : nat_le 4 (length word) ≡ false = grind (arith, tests) in
-      first_false (nat_le 4 (length word)) (nat_le (length word) (hex_len kind)) (list_all is_hex_digit word) fails
-  no_prefix (TooLong n) fits (is, many) =
-      let most = fits_kind kind in
-      absurd (omega (arith, is, many, fits, most))
-  no_prefix Invalid fits (enough, few, (k, c, within, at, bad)) =
-      let fails : is_hex_digit (slice_index_or word k c) ≡ false = ap is_hex_digit at ∙ ap is_some bad in
-      last_false (nat_le 4 (length word) && nat_le (length word) (hex_len kind)) (list_all is_hex_digit word) (and_fails_at (list_all is_hex_digit) is_hex_digit refl (λ _ _. refl) word k c within fails)
 
   pub spells : (prefix : Id) → length word ≤ hex_len kind → prefixes.SpellsPrefix hex_digit_value 4 word prefix → SpellsPrefix kind word prefix
   spells prefix fits spelled =
@@ -354,9 +316,3 @@ module _ {F : Type 0} (IsHonest : F → Type 0) (history : F → History) (repos
 -- a word that is no short id means none
 pub no_short_id : (r : Repository) (kind : Kind) (word : Bytes) → kind ≡ r.kind → is_short_id kind word ≡ false → id_meaning r word ≡ model.Unknown
 no_short_id r kind word same refused = ap (λ b. cond b (only_one (matches r word)) model.Unknown) (ap (λ k. is_short_id k word) (sym same) ∙ refused)
-
--- ---- what is given of a word
-
--- what is given of a meaning is given of the same
-pub given_alike : (MayFail : Type 0) (one other : Result Id Cause) → one ≡ other → (result : Result WordMeaning Stopped) → GivesMeant MayFail (λ (m : WordMeaning). meaning_of m ≡ one) result → GivesMeant MayFail (λ (m : WordMeaning). meaning_of m ≡ other) result
-given_alike MayFail one other same result h = subst (λ (x : Result Id Cause). GivesMeant MayFail (λ (m : WordMeaning). meaning_of m ≡ x) result) same h

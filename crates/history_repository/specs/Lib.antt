@@ -3,6 +3,7 @@ pub mod Face
 pub mod Faults
 pub mod Fields
 pub mod Held
+pub mod HeldObjects
 pub mod KeptRows
 pub mod Known
 pub mod Meanings

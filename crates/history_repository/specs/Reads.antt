@@ -48,13 +48,6 @@ ReadsMore MayFail r before now IsMeant result =
 abbrev pub AreTrees : plain.Repository → ReadTrees → Type 0
 AreTrees r read = AreOf (table_of r) read
 
--- if the trees that were read before are so, what is meant, and all that were read since are so too;
--- or a fault of reading
-abbrev pub ReadsTrees : {T : Type 0} → Type 0 → plain.Repository → ReadTrees → ReadTrees
-    → (T → Type 0) → Result T Stopped → Type 0
-ReadsTrees MayFail r before now IsMeant result =
-    AreTrees r before → GivesMeant MayFail (λ value. IsMeant value × AreTrees r now) result
-
 -- ---- words
 
 -- the word means this commit, of which no content but its own was read; or it means none, for this

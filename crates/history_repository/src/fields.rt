@@ -1,4 +1,4 @@
-//! The fields of a command, as far as they are kept.
+//! The fields of a command: whether one is too long or no path, and those of its bytes that are kept.
 
 ghost use Rattle.std.specs.Prelude.{◌≡◌, ℕ, length, nat_lt};
 ghost use Rattle.history_model.specs.Bytes.{Bytes};

@@ -1,4 +1,4 @@
-//! The two parts of a folder, opened.
+//! Opens the two parts of a folder as objects, names and HEAD's branch (`open_folder`).
 
 ghost use Rattle.std.specs.Prelude.{◌≡◌, IfOk};
 ghost use Rattle.history_store.specs.NamesFace.{files_of_names, kind_of_names};

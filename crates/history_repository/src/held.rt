@@ -1,4 +1,4 @@
-//! What a name holds.
+//! What a name holds (`Held`): its id, the commit that it peels to, whether it is a tag; its id before a move.
 
 ghost use Rattle.std.specs.Prelude.{◌≡◌, not, option_map, unwrap_or};
 ghost use Rattle.gix_hash.specs.Id.{id_of, null_id};

@@ -4,6 +4,7 @@
 mod fields;
 mod folder;
 mod held;
+mod held_objects;
 mod naming;
 mod open;
 mod open_error;
@@ -16,6 +17,7 @@ mod words;
 
 pub use fields::{into_kept, is_bad_path, is_too_long, kept};
 pub use held::{Held, commit_held, id_before, id_held, peeled_held, read_held};
+pub use held_objects::{HeldObjects, HeldStore};
 pub use history_texts::{NamedBy, OpenError};
 pub use naming::{is_private, test_name};
 pub use open_error::OpenRefusal;

@@ -1,4 +1,4 @@
-//! Which names a command may move.
+//! Whether a repository may hold a name (`test_name`), and whether it is a single working tree's.
 
 ghost use Rattle.std.specs.Prelude.{◌≡◌, MatchResult, None, Some};
 ghost use Rattle.history_model.specs.Forms.{is_private};

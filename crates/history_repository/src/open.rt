@@ -1,4 +1,4 @@
-//! Opening a repository.
+//! Opens a repository from its two parts (`Repository::open`).
 
 ghost use Rattle.std.specs.Prelude.{◌≡◌, false, None, IfOk};
 ghost use Rattle.history_model.specs.StandsFor.{StandsWhole};

@@ -1,4 +1,4 @@
-//! Why a folder isn't opened, and its parts.
+//! Why a folder isn't opened, with its two parts (`OpenRefusal`).
 
 use gix_ref_file::Files;
 use history_texts::OpenError;

@@ -1,4 +1,4 @@
-//! What a command has read of objects, so that it reads none of them again.
+//! What a command has read, so that it isn't read again: which commit each object peels to, commits' contents.
 
 ghost use Rattle.std.specs.Prelude.{◌≡◌, OnOk, Some};
 ghost use Rattle.std.specs.FinMap.{get};

@@ -1,4 +1,4 @@
-//! A repository over two file trees.
+//! A repository over two file trees (`Repository`): its parts, the rows of its commits, whether it has failed.
 
 ghost use Rattle.std.specs.Prelude.{◌≡◌, option_map};
 ghost use Rattle.history_repository.specs.Face.{objects_part, names_part, has_failed, rows_in};

@@ -1,4 +1,4 @@
-//! Existing names, with what they hold.
+//! Existing names, with what each holds (`read_shown`), as they are listed.
 
 ghost use Rattle.std.specs.Prelude.{◌≡◌, map};
 ghost use Rattle.history_repository.specs.NamesShown.{ArePeeled, shown_name, told_name};

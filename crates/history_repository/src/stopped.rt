@@ -1,4 +1,4 @@
-//! Why a command has no result.
+//! Why a command has no result (`Stopped`): refused for a cause or failed with a fault, from all other errors.
 
 ghost use Rattle.std.specs.Prelude.{◌≡◌};
 ghost use Rattle.history_model.specs.declared.Fault.TheVariants.{Memory};

@@ -1,4 +1,4 @@
-//! The objects that a repository reads.
+//! Stored objects read: a content, a tag's commit, what an id peels to, a commit's root, what is at a path.
 
 ghost use Rattle.std.specs.Prelude.{◌≡◌, ⊤, IfSome, MatchOption, Some, map, option_map};
 ghost use Rattle.std.specs.FinMap.{get};

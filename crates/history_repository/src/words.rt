@@ -1,4 +1,4 @@
-//! What a word of a command means.
+//! What a word of a command means: HEAD, a name that exists or a short id, then a commit or the cause of none.
 
 ghost use Rattle.std.specs.Prelude.{◌≡◌, ◌++◌, ◌&&◌, not, Some, None, Ok, Err, IfOk, IsFalse, MatchOption, MatchResult, map};
 ghost use Rattle.std.specs.List.{list_any};

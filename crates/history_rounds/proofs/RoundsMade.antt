@@ -20,11 +20,10 @@ use Rattle.history_model.proofs.Joining.{begins_there, now_at, of_each, stops_ma
 use Rattle.history_repository.specs.Face.{has_failed, names_part, objects_part}
 use Rattle.history_repository.specs.declared.repository.Repository.{Repository}
 use Rattle.gix_ref_file.specs.declared.files.Files.{Ghosts}
-use Rattle.history.specs.Acts.{CountsFailure}
+use Rattle.history.specs.Runs.{CountsFailure, EndsRun}
 use Rattle.history.specs.Calls.{KeepsBoth, KeepsHonesty}
 use Rattle.history.specs.Moments.{GoesLater, IsTraced, moment_of}
 use Rattle.history.specs.NameFiles.{AllLeaveAsSaid}
-use Rattle.history.specs.Runs.{EndsRun}
 use Rattle.history.specs.declared.running.RunError.{RunError}
 use Rattle.history.proofs.Counts.{risen_before, risen_later}
 use Rattle.history_model.specs.declared.End.{End}

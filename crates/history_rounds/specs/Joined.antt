@@ -9,7 +9,8 @@ use Rattle.history_model.specs.Replies.{Reply}
 use Rattle.history_model.specs.Places.{Pair}
 use Rattle.history_model.specs.StandsFor.{StandsWhole}
 use Rattle.history_model.specs.Recovery.{recovered}
-use Rattle.history_model.specs.Moments.{Moment, GoesOnFrom, IsRunPair, last_moment}
+use Rattle.history_model.specs.Moments.{Moment, GoesOnFrom, last_moment}
+use Rattle.history_model.specs.laws.Joining.{IsRunPair}
 use Rattle.history_model.specs.Rounds.{Round, IsRound, AreRounds, Outcomes, last_left, stopped_round}
 use Rattle.history_model.specs.Joined.{pair_now}
 use Rattle.history_model.specs.declared.End.{End}

@@ -1,4 +1,4 @@
-//! A round: a repository is opened, a run is made over it, and what a fault left is recovered.
+//! A round: a repository is opened, a run is made over it, and what a fault left is recovered; or one more.
 
 ghost use Rattle.std.specs.Prelude.{◌≡◌, ◌⊎◌, List, true, Err, Some};
 ghost use Rattle.history_model.specs.Places.{Pair};

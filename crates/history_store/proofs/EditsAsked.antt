@@ -1,7 +1,7 @@
 -- The edits of a change of names are those that it asks for, and test what the names hold.
-use Rattle.std.proofs.Common.{◌≡◌, ◌≢◌, inl, inr, ℕ, ◌+◌, ◌<◌, ◌≤◌, zero, suc, true, List, [], ◌∷◌, ◌++◌, map, take, length, get_or, refl, sym, ◌∙◌, ap, subst, arith, Option, Some, None, option_map, unwrap_or}
+use Rattle.std.proofs.Common.{◌≡◌, ◌≢◌, inl, inr, ℕ, ◌+◌, ◌<◌, ◌≤◌, true, List, [], ◌∷◌, ◌++◌, map, take, length, get_or, refl, sym, ◌∙◌, ap, subst, Option, Some, None, option_map, unwrap_or}
 use Rattle.std.specs.List.{AllByRecursion, AllZip}
-use Rattle.std.proofs.lemmas.List.{map_more, take_all}
+use Rattle.std.proofs.lemmas.List.{map_more}
 use Rattle.gix_hash.specs.Id.{Id, null_id}
 use Rattle.gix_hash.specs.declared.kind.Kind.{Kind}
 use Rattle.gix_object_lines.specs.declared.lines.actor.ActorRef.{ActorRef}
@@ -146,15 +146,6 @@ pub one_more : (moved : List MovedName) (i : ℕ) (d m : MovedName) (asked : Lis
 one_more moved i d m asked edit after inside is pushed zip one =
     subst (AllZip AsksAs (map moved_in (take (i + 1) moved))) (sym pushed)
     (subst (λ ms. AllZip AsksAs ms (asked ++ edit ∷ [])) (sym (map_more moved_in moved i d inside ∙ ap (λ x. map moved_in (take i moved) ++ moved_in x ∷ []) (sym is))) (zip_more (map moved_in (take i moved)) asked (moved_in m) edit zip one))
-
-pub all_more : (moved : List MovedName) (i : ℕ) (asked : List RefEdit) → length moved ≤ i → AllZip AsksAs (map moved_in (take i moved)) asked → AllZip AsksAs (map moved_in moved) asked
-all_more moved i asked over zip = subst (λ ms. AllZip AsksAs (map moved_in ms) asked) (take_all i moved over) zip
-
--- the name at this place
-pub named_at : (moved : List MovedName) (i : ℕ) (d m : MovedName) → i < length moved → m ≡ get_or moved i d → AllByRecursion (λ m. is_name (moved_text m) ≡ true) moved → is_name (moved_text m) ≡ true
-named_at [] i d m inside is all = let none : ⊥ = omega (arith, inside) in absurd none
-named_at (x ∷ moved) zero d m inside is all = ap (λ y. is_name (moved_text y)) is ∙ all.0
-named_at (x ∷ moved) (suc i) d m inside is all = named_at moved i d m (omega (arith, inside)) is all.1
 
 -- ---- what is asked of a transaction
 

@@ -1,11 +1,9 @@
 -- The folders of objects and names, below which their files are.
 use Rattle.std.proofs.Common.{◌≡◌, ◌⊎◌, inl, inr, refl, sym, ◌∙◌, ap, ℕ, zero, suc, ◌<◌, ◌≤◌, Bool, true, false, ◌&&◌, ◌||◌, List, [], ◌∷◌, ◌++◌, take, drop, length, arith}
-use Rattle.std.specs.Prelude.{IsTrue, ◌==◌, nat_lt, Some, codes}
+use Rattle.std.specs.Prelude.{◌==◌, nat_lt, codes}
 use Rattle.std.specs.List.{list_all}
-use Rattle.std.specs.FinMap.{get}
 use Rattle.std.proofs.lemmas.Bool.Decides.{Decides-eqb}
 use borrow.Author.Tests.{ltb-true}
-use Rattle.gix_ref_file.specs.Tree.{Tree, folder}
 use Rattle.history_model.specs.Bytes.{Bytes, has_byte}
 use Rattle.history_model.specs.Objects.{hex}
 use Rattle.history_model.specs.Forms.{is_id}
@@ -15,8 +13,8 @@ use Rattle.gix_hash.specs.Kind.{hex_len}
 use Rattle.gix_hash.specs.Spelling.{hex_character, hex_text}
 use Rattle.gix_hash.specs.declared.kind.Kind.{Kind}
 use Rattle.gix_hash.specs.declared.kind.Kind.TheVariants.{Sha1, Sha256}
-use Rattle.history_model.specs.Places.{object_place, is_lower_hex, is_object_folder}
-use Rattle.gix_ref_way.specs.Ways.{IsAbove, FoldersAbove}
+use Rattle.history_model.specs.Places.{is_lower_hex, is_object_folder}
+use Rattle.gix_ref_way.specs.Ways.{IsAbove}
 use Rattle.std.proofs.lemmas.Bool.{and_parts}
 use Rattle.history_texts.proofs.FirstParts.{Behind, behind, none_above}
 
@@ -87,12 +85,3 @@ object_above (a ∷ b ∷ h) place long lower (rest, is) = from_first (behind (c
     from_first : Behind (codes "objects") (a ∷ b ∷ 47 ∷ h) place rest → is_object_folder place ≡ true
     from_first (inl same) = ap is_object_folder same
     from_first (inr (inner, same, left)) = ap is_object_folder same ∙ from_second inner (behind (a ∷ b ∷ []) h inner rest (no_slash_lower (a ∷ b ∷ []) two_lower) left)
-
--- If all folders were object folders, they are after a put.
-pub object_folders_stay : (kind : Kind) (id : Id) (old new : Tree) → is_id kind id ≡ true → FoldersAbove (object_place id) old new
-    → ((path : Bytes) → get old path ≡ Some folder → IsTrue (is_object_folder path)) → (path : Bytes) → get new path ≡ Some folder → IsTrue (is_object_folder path)
-object_folders_stay kind id old new formed above before path is = by_case (above path is)
-  where
-    by_case : (get old path ≡ Some folder) ⊎ IsAbove path (object_place id) → IsTrue (is_object_folder path)
-    by_case (inl stood) = before path stood
-    by_case (inr placed) = object_above (hex id) path (two_digits kind id formed) (hex_lower kind id formed) placed

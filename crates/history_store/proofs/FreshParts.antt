@@ -3,7 +3,8 @@ use Rattle.std.proofs.Common.{◌≡◌, refl, sym, ◌∙◌, ap, Bool, true, f
 use Rattle.std.proofs.lemmas.Slice.Eq.{bytes_eq-Decides}
 use Rattle.gix_ref_file.specs.Tree.{Tree, is_folder}
 use Rattle.history_model.specs.Bytes.{Bytes}
-use Rattle.history_model.specs.StandsFor.{IsFresh, StandsFor, StandsWhole, head_text}
+use Rattle.history_model.specs.StandsFor.{StandsFor, StandsWhole, head_text}
+use Rattle.history_model.specs.laws.Folders.{IsFresh}
 use Rattle.history_model.specs.Places.{file_at, head_place}
 use Rattle.history_model.specs.Repository.{fresh}
 use Rattle.gix_hash.specs.declared.kind.Kind.{Kind}

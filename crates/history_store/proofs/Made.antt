@@ -1,10 +1,9 @@
 -- What the changes of making a repository leave.
-use Rattle.std.proofs.Common.{◌≡◌, refl, ◌∙◌, ap, []}
-use Rattle.std.specs.Prelude.{Option, Some, None, unwrap_or}
+use Rattle.std.proofs.Common.{◌≡◌, ◌∙◌, ap, []}
+use Rattle.std.specs.Prelude.{Some, unwrap_or}
 use Rattle.std.specs.FinMap.{remove}
-use Rattle.gix_ref_file.specs.Tree.{Tree, Node, file, folder, node_at, place_of, bytes_of, bytes_at}
+use Rattle.gix_ref_file.specs.Tree.{Tree, file, bytes_of, bytes_at}
 use Rattle.gix_ref_file.specs.Changes.{to_write, to_rename, to_remove_file, after}
-use Rattle.gix_ref_file.specs.declared.files.Place.TheVariants.{Absent}
 use Rattle.gix_ref_file.proofs.Trees.{get_inserted}
 use Rattle.history_model.specs.Bytes.{Bytes}
 use Rattle.history_model.specs.Repository.{first_branch}
@@ -14,14 +13,6 @@ use Rattle.history_store.specs.References.{head_lock}
 use Rattle.history_store.specs.Creation.{IsCleared, HasHead}
 use Rattle.gix_ref_way.proofs.Stored.{apart_from_inserted, apart_from_removed}
 use Rattle.history_store.proofs.Beside.{file_removed}
-
-no_file : (o : Option Node) → Absent ≡ place_of o → bytes_of o ≡ None
-no_file None is = refl
-no_file (Some (file bytes)) is = cc
-no_file (Some folder) is = cc
-
-pub nothing_to_clear : (t : Tree) → Absent ≡ place_of (node_at t unfinished_place) → IsCleared t t
-nothing_to_clear t is = record { gone = no_file _ is; others = λ path apart. refl }
 
 pub cleared : (old new : Tree) → new ≡ after (to_remove_file unfinished_place) old → IsCleared old new
 cleared old new is = record {

@@ -1,16 +1,15 @@
 -- What a new repository's parts hold.
 use Rattle.std.proofs.Common.{◌≡◌, ◌≢◌, Bool, true, false, [], ◌∷◌, Option, Some, None, refl, sym, ◌∙◌, ap}
-use Rattle.std.specs.Prelude.{IsTrue, IsFalse, is_some}
+use Rattle.std.specs.Prelude.{IsTrue}
 use Rattle.std.specs.FinMap.{get}
 use Rattle.gix_ref_file.specs.Tree.{Tree, Node, file, folder, same_path, bytes_of, is_folder}
-use Rattle.gix_ref_file.specs.Changes.{is_file_at}
 use Rattle.gix_ref_file.proofs.Trees.{one_path, same_path_itself}
 use Rattle.history_model.specs.Bytes.{Bytes}
 use Rattle.history_model.specs.Places.{file_at, head_place, unfinished_place}
 use Rattle.history_store.specs.Creation.{HasHead, IsCleared, IsNew}
 use Rattle.gix_ref_way.specs.Ways.{SameFolders}
 use Rattle.history_store.specs.References.{head_lock}
-use Rattle.history_texts.specs.Parts.{may_hold_folder, IsClearAt, IsClear, IsStrayAt}
+use Rattle.history_texts.specs.Parts.{may_hold_folder, IsClearAt, IsClear}
 use Rattle.history_texts.specs.declared.parts.Part.{Part}
 use Rattle.history_texts.specs.declared.parts.Part.TheVariants.{Objects, Names}
 
@@ -34,23 +33,6 @@ clear_may part permitted tree clear path is = by_case (get tree path) is (clear 
     by_case None h is = cc
     by_case (Some (file bytes)) h is = cc
     by_case (Some folder) h is = is
-
-pub file_stray : (part : Part) (permitted : Bytes) (tree : Tree) (path : Bytes) → IsTrue (is_file_at tree path) → path ≢ permitted → IsStrayAt part permitted path tree
-file_stray part permitted tree [] there other clear = cc
-file_stray part permitted tree (b ∷ path) there other clear = by_case (get tree (b ∷ path)) there clear
-  where
-    by_case : (o : Option Node) → IsTrue (is_some (bytes_of o)) → IsClearAt part permitted (b ∷ path) o → ⊥
-    by_case None h is = cc
-    by_case (Some (file bytes)) h is = other is
-    by_case (Some folder) h is = cc
-
-pub folder_stray : (part : Part) (permitted : Bytes) (tree : Tree) (path : Bytes) → IsTrue (is_folder (get tree path)) → IsFalse (may_hold_folder part path) → IsStrayAt part permitted path tree
-folder_stray part permitted tree path there not_held clear = by_case (get tree path) there clear
-  where
-    by_case : (o : Option Node) → IsTrue (is_folder o) → IsClearAt part permitted path o → ⊥
-    by_case None h is = cc
-    by_case (Some (file bytes)) h is = cc
-    by_case (Some folder) h is = cc (is, not_held)
 
 -- ---- the two parts
 no_object : (old new : Tree) → IsClear Objects unfinished_place old → IsCleared old new → (path : Bytes) → file_at new path ≡ None

@@ -6,7 +6,7 @@ use Rattle.std.specs.FinMap.{get}
 use Rattle.std.proofs.lemmas.Bool.Decides.{Decides-eqb}
 use Rattle.std.proofs.lemmas.Slice.Eq.{bytes_eq-Decides}
 use borrow.Author.Tests.{eqb-true, ltb-false}
-use Rattle.gix_ref_file.specs.Tree.{Tree, Node, file, folder, node_at, is_folder, is_slash, is_component, is_path}
+use Rattle.gix_ref_file.specs.Tree.{Tree, Node, file, folder, node_at, parent, is_folder, is_slash, is_component, is_path}
 use Rattle.history_model.specs.Bytes.{Bytes, begins}
 use Rattle.history_model.specs.Objects.{hex}
 use Rattle.gix_hash.specs.Id.{Id}
@@ -22,7 +22,8 @@ use Rattle.gix_ref_way.specs.Ways.{IsAbove, NoFileAbove, HasFoldersAbove, Folder
 use Rattle.history_store.specs.Stores.{IsObjectPlace, IsObjectPart}
 use Rattle.history_texts.proofs.FirstParts.{behind, none_above}
 use Rattle.history_store.proofs.FolderPlaces.{object_above, two_digits, hex_lower}
-use Rattle.gix_ref_way.proofs.FoldersMade.{split_joined}
+use Rattle.history_store.proofs.OwnFolders.{own_folder}
+use Rattle.gix_ref_way.proofs.FoldersMade.{above_above, above_shorter, in_root_or_below, split_joined}
 use Rattle.std.proofs.lemmas.Bool.{and_parts}
 use Rattle.history_model.proofs.IdLemmas.{length-hex}
 
@@ -51,12 +52,19 @@ object_place_length path (kind, id, is, at) = by_kind kind (ap length at ∙ pla
     by_kind Sha1 long = (omega (arith, long), omega (arith, long))
     by_kind Sha256 long = (omega (arith, long), omega (arith, long))
 
-folder_short : (path : Bytes) → is_object_folder path ≡ true → length path ≤ 10
-folder_short path is = by_root (bytes_eq path (codes "objects")) refl is
+folder_length : (path : Bytes) → is_object_folder path ≡ true → (length path ≡ 7) ⊎ (length path ≡ 10)
+folder_length path is = by_root (bytes_eq path (codes "objects")) refl is
   where
-    by_root : (b : Bool) → bytes_eq path (codes "objects") ≡ b → (b || (begins (codes "objects/") path && length path == 10 && list_all is_lower_hex (drop 8 path))) ≡ true → length path ≤ 10
-    by_root true root h = omega (arith, ap length ((bytes_eq-Decides path (codes "objects")).0 root))
-    by_root false other h = omega (arith, eqb-true _ _ (and_parts (begins (codes "objects/") path) (length path == 10) (and_parts (begins (codes "objects/") path && length path == 10) (list_all is_lower_hex (drop 8 path)) h).0).1)
+    by_root : (b : Bool) → bytes_eq path (codes "objects") ≡ b → (b || (begins (codes "objects/") path && length path == 10 && list_all is_lower_hex (drop 8 path))) ≡ true → (length path ≡ 7) ⊎ (length path ≡ 10)
+    by_root true root h = inl (ap length ((bytes_eq-Decides path (codes "objects")).0 root))
+    by_root false other h = inr (eqb-true _ _ (and_parts (begins (codes "objects/") path) (length path == 10) (and_parts (begins (codes "objects/") path && length path == 10) (list_all is_lower_hex (drop 8 path)) h).0).1)
+
+folder_short : (path : Bytes) → is_object_folder path ≡ true → length path ≤ 10
+folder_short path is = by_length (folder_length path is)
+  where
+    by_length : (length path ≡ 7) ⊎ (length path ≡ 10) → length path ≤ 10
+    by_length (inl root) = omega (arith, root)
+    by_length (inr inner) = omega (arith, inner)
 
 -- files are deep in the part, and no folder is
 file_long : (tree : Tree) (path text : Bytes) → IsObjectPart tree → file_at tree path ≡ Some text → 10 < length path
@@ -79,6 +87,28 @@ no_deep_folder tree folders (b ∷ path) deep = by_case (get tree (b ∷ path)) 
 pub place_above : (place path : Bytes) → IsObjectPlace path → IsAbove place path → IsTrue (is_object_folder place)
 place_above place path (kind, id, is, at) (rest, below) =
     object_above (hex id) place (two_digits kind id is) (hex_lower kind id is) (rest, sym at ∙ below)
+
+-- the folder that its own folder is in is in the root
+pub outer_in_root : (path own outer : Bytes) → IsObjectPlace path → own ≡ parent path → outer ≡ parent own → parent outer ≡ []
+outer_in_root path own outer placed is out = by_case (in_root_or_below outer) (own_folder own outer out) (own_folder path own is)
+  where
+    no_third : (n m k : ℕ) → (n ≡ 7) ⊎ (n ≡ 10) → n < m → (m ≡ 7) ⊎ (m ≡ 10) → m < k → k ≤ 10 → ⊥
+    no_third n m k (inl is_n) first (inl is_m) second last = omega (arith, is_n, first, is_m)
+    no_third n m k (inl is_n) first (inr is_m) second last = omega (arith, is_m, second, last)
+    no_third n m k (inr is_n) first (inl is_m) second last = omega (arith, is_n, first, is_m)
+    no_third n m k (inr is_n) first (inr is_m) second last = omega (arith, is_n, first, is_m)
+
+    by_case : (parent outer ≡ []) ⊎ IsAbove (parent outer) outer → (outer ≡ []) ⊎ IsAbove outer own → (own ≡ []) ⊎ IsAbove own path → parent outer ≡ []
+    by_case (inl root) second third = root
+    by_case (inr first) (inl root) third = absurd (omega (arith, above_shorter (parent outer) outer first, ap length root))
+    by_case (inr first) (inr second) (inl root) = absurd (omega (arith, above_shorter outer own second, ap length root))
+    by_case (inr first) (inr second) (inr third) =
+        let within = above_above outer own path second third in
+        let outermost = above_above (parent outer) outer path first within in
+        absurd (no_third (length (parent outer)) (length outer) (length own)
+        (folder_length (parent outer) (place_above (parent outer) path placed outermost)) (above_shorter (parent outer) outer first)
+        (folder_length outer (place_above outer path placed within)) (above_shorter outer own second)
+        (folder_short own (place_above own path placed third)))
 
 pub no_file_above : (tree : Tree) (path : Bytes) → IsObjectPart tree → IsObjectPlace path → NoFileAbove path tree
 no_file_above tree path part placed place above = by_case (file_at tree place) refl

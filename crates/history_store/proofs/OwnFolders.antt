@@ -1,5 +1,5 @@
--- The folder that a path is in: no file is in it if it is missing, and it may be made then.
-use Rattle.std.proofs.Common.{◌≡◌, ◌⊎◌, inl, inr, refl, sym, ◌∙◌, ap, subst, true, false, [], ◌∷◌, length, arith}
+-- The folders that a path is in: nothing is in one that is missing, and it may be made then.
+use Rattle.std.proofs.Common.{◌≡◌, ◌⊎◌, inl, inr, refl, sym, ◌∙◌, ap, subst, Bool, true, false, [], ◌∷◌, length, arith}
 use Rattle.std.specs.Prelude.{IsTrue, IsFalse, Option, Some, None, is_some}
 use Rattle.std.specs.FinMap.{get}
 use Rattle.gix_ref_file.specs.Tree.{Tree, Node, file, folder, is_path, parent, node_at, place_of, bytes_of, is_folder, IsRooted}
@@ -10,7 +10,19 @@ use Rattle.gix_ref_file.proofs.Histories.{adds_weaker, adds_joined}
 use Rattle.gix_ref_way.specs.Ways.{Bytes, IsAbove, FoldersAbove, HasFoldersAbove, NoFileAbove, SameFiles}
 use Rattle.gix_ref_way.proofs.Above.{now_above, while_one_made}
 use Rattle.gix_ref_way.proofs.FoldersMade.{above_above, above_shorter, folder_there, in_root_or_below, may_make, none_there, path_above}
+use Rattle.gix_ref_way.proofs.Stored.{while_made}
 use Rattle.gix_ref_way.proofs.Upward.{all_above}
+use Rattle.gix_ref_way.proofs.Walked.{parent_of_folder}
+
+-- no folder is in a folder that is missing
+pub missing_in_missing : (tree : Tree) (path : Bytes) → IsRooted tree → false ≡ is_folder (node_at tree (parent path)) → false ≡ is_folder (node_at tree path)
+missing_in_missing tree path rooted none = by_test (is_folder (node_at tree path)) refl
+  where
+    by_test : (b : Bool) → is_folder (node_at tree path) ≡ b → false ≡ is_folder (node_at tree path)
+    by_test false is = sym is
+    by_test true is =
+        let wrong : false ≡ true = none ∙ parent_of_folder tree path rooted is in
+        absurd (cc wrong)
 
 -- no file is in a folder that is missing
 pub none_in_missing : (tree : Tree) (path : Bytes) → IsRooted tree → false ≡ is_folder (node_at tree (parent path)) → false ≡ is_file_at tree path
@@ -32,25 +44,30 @@ own_folder path own is = by_case (in_root_or_below path)
     by_case (inl root) = inl (is ∙ root)
     by_case (inr below) = inr (subst (λ p. IsAbove p path) (sym is) below)
 
+-- and so is the folder that it is in
+pub outer_folder : (path own outer : Bytes) → own ≡ parent path → outer ≡ parent own → (outer ≡ []) ⊎ IsAbove outer path
+outer_folder path own outer is out = by_case (own_folder path own is) (own_folder own outer out)
+  where
+    by_case : (own ≡ []) ⊎ IsAbove own path → (outer ≡ []) ⊎ IsAbove outer own → (outer ≡ []) ⊎ IsAbove outer path
+    by_case at (inl root) = inl root
+    by_case (inl root) (inr within) = absurd (omega (arith, above_shorter outer own within, ap length root))
+    by_case (inr below) (inr within) = inr (above_above outer own path within below)
+
 -- if it is made, all folders above the path exist
 pub own_there : (path own : Bytes) → own ≡ parent path → (mid new : Tree) → new ≡ after (to_make_folder own) mid → IsRooted new → HasFoldersAbove path new
 own_there path own is mid new made rooted =
     all_above new path rooted (ap (λ p. is_folder (node_at new p)) (sym is) ∙ ap (λ t. is_folder (node_at t own)) made ∙ folder_there mid own)
 
+-- folders that are made one after another, all above the path
+pub above_joined : (path : Bytes) (old mid new : History) → Adds (FoldersAbove path old.tree) old mid → Adds (FoldersAbove path mid.tree) mid new → Adds (FoldersAbove path old.tree) old new
+above_joined path old mid new first second = adds_joined old mid new first (adds_weaker mid new second (λ x above q is. from q (above q is)))
+  where
+    from : (q : Bytes) → (get mid.tree q ≡ Some folder) ⊎ IsAbove q path → (get old.tree q ≡ Some folder) ⊎ IsAbove q path
+    from q (inl stood) = now_above path old mid first q stood
+    from q (inr within) = inr within
+
 module _ (path own : Bytes) (at : (own ≡ []) ⊎ IsAbove own path) where
-  -- the folders above it are above the path
-  outer_above : (old x : Tree) → FoldersAbove own old x → FoldersAbove path old x
-  outer_above old x above q is = by_case (above q is)
-    where
-      out : (own ≡ []) ⊎ IsAbove own path → IsAbove q own → IsAbove q path
-      out (inl root) within = absurd (omega (arith, above_shorter q own within, ap length root))
-      out (inr below) within = above_above q own path within below
-
-      by_case : (get old q ≡ Some folder) ⊎ IsAbove q own → (get old q ≡ Some folder) ⊎ IsAbove q path
-      by_case (inl stood) = inl stood
-      by_case (inr within) = inr (out at within)
-
-  own_above : (t x : Tree) → MayLeave (to_make_folder own) t x → FoldersAbove path t x
+  pub own_above : (t x : Tree) → MayLeave (to_make_folder own) t x → FoldersAbove path t x
   own_above t x left q is = by_case at left
     where
       more : IsAbove own path → (get t q ≡ Some folder) ⊎ (q ≡ own) → (get t q ≡ Some folder) ⊎ IsAbove q path
@@ -64,44 +81,39 @@ module _ (path own : Bytes) (at : (own ≡ []) ⊎ IsAbove own path) where
           absurd (cc wrong)
       by_case (inr below) left = more below (while_one_made own t x left q is)
 
-  pub outer_made : (old mid : History) → Adds (FoldersAbove own old.tree) old mid → Adds (FoldersAbove path old.tree) old mid
-  outer_made old mid first = adds_weaker old mid first (λ x above. outer_above old.tree x above)
+  pub own_made : (old new : History) → Adds (MayLeave (to_make_folder own) old.tree) old new → Adds (FoldersAbove path old.tree) old new
+  own_made old new made = adds_weaker old new made (λ x left. own_above old.tree x left)
 
-  pub own_made : (old mid new : History) → Adds (FoldersAbove own old.tree) old mid → Adds (MayLeave (to_make_folder own) mid.tree) mid new → Adds (FoldersAbove path old.tree) old new
-  own_made old mid new first second =
-      adds_joined old mid new (outer_made old mid first) (adds_weaker mid new second (λ x left q is. from q (own_above mid.tree x left q is)))
+  -- one that is missing may be made in a folder that exists
+  pub may_make_own : (tree : Tree) → false ≡ is_folder (node_at tree own) → IsTrue (is_path path) → NoFileAbove path tree → IsTrue (is_folder (node_at tree (parent own))) → allows tree (to_make_folder own) ≡ true
+  may_make_own tree missing whole none inside = may_make tree own (path_above own path below whole) inside (absent (node_at tree own) (none own below) (sym missing))
     where
-      from : (q : Bytes) → (get mid.tree q ≡ Some folder) ⊎ IsAbove q path → (get old.tree q ≡ Some folder) ⊎ IsAbove q path
-      from q (inl stood) = now_above path old mid (outer_made old mid first) q stood
-      from q (inr within) = inr within
+      below : IsAbove own path
+      below = by_case at
+        where
+          by_case : (own ≡ []) ⊎ IsAbove own path → IsAbove own path
+          by_case (inl root) =
+              let wrong : false ≡ true = missing ∙ ap (λ p. is_folder (node_at tree p)) root in
+              absurd (cc wrong)
+          by_case (inr above) = above
 
-  module _ (old : Tree) (missing : false ≡ is_folder (node_at old own)) where
-    -- one that is missing isn't the root
-    below : IsAbove own path
-    below = by_case at
-      where
-        by_case : (own ≡ []) ⊎ IsAbove own path → IsAbove own path
-        by_case (inl root) =
-            let wrong : false ≡ true = missing ∙ ap (λ p. is_folder (node_at old p)) root in
-            absurd (cc wrong)
-        by_case (inr above) = above
+      absent : (o : Option Node) → bytes_of o ≡ None → IsFalse (is_folder o) → place_of o ≡ places.Absent
+      absent None no_file no_folder = refl
+      absent (Some (file bytes)) no_file no_folder = absurd (cc no_file)
+      absent (Some folder) no_file no_folder = absurd (cc no_folder)
 
-    pub no_file_outer : NoFileAbove path old → NoFileAbove own old
-    no_file_outer none place above = none place (above_above place own path above below)
+-- so may the folder of a path in the outer one that was just made
+pub may_make_inner : (path own outer : Bytes) (old mid : Tree) → own ≡ parent path → outer ≡ parent own → IsRooted old → false ≡ is_folder (node_at old outer) → IsTrue (is_path path) → NoFileAbove path old
+    → IsTrue (allows old (to_make_folder outer)) → mid ≡ after (to_make_folder outer) old → allows mid (to_make_folder own) ≡ true
+may_make_inner path own outer old mid is out rooted missing whole none may made =
+    may_make_own path own (own_folder path own is) mid (sym (none_there own old mid (own_above own outer (own_folder own outer out) old mid left) (sym inner))) whole (λ place above. same place ∙ none place above)
+    (ap (λ p. is_folder (node_at mid p)) (sym out) ∙ ap (λ t. is_folder (node_at t outer)) made ∙ folder_there old outer)
+  where
+    left : MayLeave (to_make_folder outer) old mid
+    left = inr (0, may, made)
 
-    pub own_is_path : IsTrue (is_path path) → IsTrue (is_path own)
-    own_is_path whole = path_above own path below whole
+    same : SameFiles old mid
+    same = while_made outer old mid left
 
-    -- it may be made once those above it exist
-    pub may_make_own : (mid : Tree) → IsTrue (is_path path) → NoFileAbove path old → SameFiles old mid → FoldersAbove own old mid → HasFoldersAbove own mid → allows mid (to_make_folder own) ≡ true
-    may_make_own mid whole none same above folders =
-        may_make mid own (own_is_path whole) (inside (in_root_or_below own)) (absent (node_at mid own) (same own ∙ none own below) (none_there own old mid above (sym missing)))
-      where
-        inside : (parent own ≡ []) ⊎ IsAbove (parent own) own → IsTrue (is_folder (node_at mid (parent own)))
-        inside (inl root) = ap (λ p. is_folder (node_at mid p)) root
-        inside (inr outer) = folders (parent own) outer
-
-        absent : (o : Option Node) → bytes_of o ≡ None → IsFalse (is_folder o) → place_of o ≡ places.Absent
-        absent None no_file no_folder = refl
-        absent (Some (file bytes)) no_file no_folder = absurd (cc no_file)
-        absent (Some folder) no_file no_folder = absurd (cc no_folder)
+    inner : false ≡ is_folder (node_at old own)
+    inner = missing_in_missing old own rooted (missing ∙ ap (λ p. is_folder (node_at old p)) out)

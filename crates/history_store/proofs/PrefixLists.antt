@@ -91,10 +91,6 @@ module _ (ids : List ObjectId) (order : AreInOrder ids) (kind : Kind) where
       let under = up k (length ids - 1) d (omega (arith, within)) top in
       told_by_rank (slice_index_or ids k d) kind (omega (arith, low, high, above, under))
 
-  -- one of another kind, as the first or the last
-  pub each : All (λ id. (id_of id).kind ≡ kind) ids → (k : ℕ) (x : ObjectId) → k < length ids → x ≡ slice_index_or ids k x → (id_of x).kind ≡ kind
-  each all k x within at = ap (λ (id : ObjectId). (id_of id).kind) at ∙ all k x within
-
   pub ascends : All (λ id. (id_of id).kind ≡ kind) ids → IsAscending ids
   ascends all = λ i j d lt within.
       let one : (id_of (slice_index_or ids i d)).kind ≡ (id_of (slice_index_or ids j d)).kind = all i d (omega (arith, lt, within)) ∙ sym (all j d within) in

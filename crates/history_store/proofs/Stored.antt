@@ -133,9 +133,6 @@ pub on_err_weaker : {T E P Q : Type 0} (r : Result T E) → (P → Q) → OnErr 
 on_err_weaker (Ok x) f p = tt
 on_err_weaker (Err e) f p = f p
 
-pub told_err : {T E P : Type 0} (r : Result T E) (e : E) → r ≡ Err e → OnErr r P → P
-told_err {T} {E} {P} r e is p = subst (λ (answer : Result T E). OnErr answer P) is p
-
 -- ---- the unfinished file
 pub gone : (place : Bytes) (t new : Tree) → place ≢ unfinished_place → new ≡ after (to_rename unfinished_place place) t → file_at new unfinished_place ≡ None
 gone place t new apart is_new =

@@ -17,6 +17,7 @@ pub mod Prefixes
 pub mod Puts
 pub mod References
 pub mod RootStore
+pub mod Seen
 pub mod Stores
 pub use Rattle.gix_hash.specs.Id
 pub use Rattle.gix_hash.specs.Run

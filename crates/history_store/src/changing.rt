@@ -1,20 +1,18 @@
-//! Moves and deletions of names: all those of a command are one transaction.
-ghost use Rattle.std.specs.Prelude.{◌≡◌, List, Option, None, IsErrOf, IsTrue, OnOk, map, option_map};
-ghost use Rattle.gix_ref_file.specs.Calls.{Achieves, Finds, HasFault, Passes};
+//! A command's moves of names and deletion of one (`change`): one transaction, which is prepared and committed.
+ghost use Rattle.std.specs.Prelude.{◌≡◌, List, Option, IsErrOf, map, option_map};
+ghost use Rattle.gix_ref_file.specs.Calls.{Achieves, HasFault, Passes};
 ghost use Rattle.gix_ref_file.specs.declared.files.FileError.TheVariants.{Failed};
 ghost use Rattle.gix_ref_lock.specs.Committing.{IsCommitted, OnTheWay};
 ghost use Rattle.gix_ref_lock.specs.Needs.{CanCommit, log_paths};
 ghost use Rattle.gix_ref_way.specs.Ways.{FoldersOnlyOf};
 ghost use Rattle.history_model.specs.Bytes.{Bytes};
-ghost use Rattle.history_model.specs.Forms.{is_name};
 ghost use Rattle.history_model.specs.Repository.{Repository};
 ghost use Rattle.history_layout.specs.EditSteps as steps;
 ghost use Rattle.history_store.specs.Calls.{ChangesNames, KeepsNames, Transacts};
-ghost use Rattle.history_store.specs.Changing.{AsksChange, IsReadable, MayChange, moved_in};
-ghost use Rattle.history_store.specs.Packing.{KeepsRecords, kept_hit};
+ghost use Rattle.history_store.specs.Changing.{AsksChange, MayChange, moved_in};
 
 use crate::edits::{committer_of, time_of};
-use crate::faults::{of_committing, of_opening, of_preparing};
+use crate::faults::{of_committing, of_preparing};
 use crate::names::Names;
 use gix_object_lines::lines::ActorRef;
 use gix_object_lookup::find::Never;
@@ -92,13 +90,13 @@ impl<F: Files> Names<F> {
         let records = self.packed.as_ref();
         let mode = PackedRefs::<Never>::DeletionsOnly;
         match prepare_with(alloc, &mut self.store, records, edits, committer, mode) {
-            Ok(made) => self.finish(alloc, made),
+            Ok(made) => self.commit_made(alloc, made),
             Err(error) => Err(of_preparing(error)),
         }
     }
 
     // Commits what is prepared.
-    pub(crate) fn finish(&mut self, alloc: Global, made: Transaction) -> Result<(), FileError>
+    pub(crate) fn commit_made(&mut self, alloc: Global, made: Transaction) -> Result<(), FileError>
         ensures keeps { KeepsNames F.Files (IsErrOf result Failed) self.old self.new }
         ensures packed { self.new.packed ≡ self.old.packed }
         ensures moments { Passes F.is_honest F.history self.old.store.files self.new.store.files
@@ -115,37 +113,6 @@ impl<F: Files> Names<F> {
         match made.commit(alloc, &mut self.store.files) {
             Ok(_edits) => Ok(()),
             Err(error) => Err(of_committing(error)),
-        }
-    }
-
-    // Reads the records anew if the name, which is deleted, had one.
-    fn reread(&mut self, alloc: Global, name: &[u8]) -> Result<(), FileError>
-        ensures files { self.new.store.files ≡ self.old.store.files }
-        ensures kind { self.new.kind ≡ self.old.kind }
-        ensures keeps { Finds F.is_honest F.history self.new.store.files (λ tree.
-            (kept_hit self.old.packed name.now ≡ None → KeepsRecords self.old tree)
-            → IsTrue (is_name name.now) → OnOk result (KeepsRecords self.new tree)) }
-        ensures failed { Finds F.is_honest F.history self.new.store.files (λ tree.
-            IsReadable self.new.kind tree → IsErrOf result Failed → F.reading_may_fail) }
-    {
-        if !self.has_record(name) {
-            return Ok(());
-        }
-        self.read_anew(alloc, Some(name))
-    }
-
-    // Reads the records anew, from which only this name's went if one is given.
-    pub(crate) fn read_anew(&mut self, alloc: Global, gone: Option<&[u8]>) -> Result<(), FileError>
-        ensures files { self.new.store.files ≡ self.old.store.files }
-        ensures kind { self.new.kind ≡ self.old.kind }
-        ensures keeps { Finds F.is_honest F.history self.new.store.files
-            (λ tree. OnOk result (KeepsRecords self.new tree)) }
-        ensures failed { Finds F.is_honest F.history self.new.store.files (λ tree.
-            IsReadable self.new.kind tree → IsErrOf result Failed → F.reading_may_fail) }
-    {
-        match self.read_less(alloc, gone) {
-            Ok(()) => Ok(()),
-            Err(error) => Err(of_opening(error)),
         }
     }
 }

@@ -1,4 +1,4 @@
-//! The edits of a change of names, and by whom they are made.
+//! The edits by which names move or one is deleted, if each is as expected, and their committer and time.
 ghost use Rattle.std.specs.Prelude.{◌≢◌, Err, None, IfOk, IsErrOf, IsTrue, map, option_map};
 ghost use Rattle.std.specs.List.{AllByRecursion, AllZip};
 ghost use Rattle.gix_ref_file.specs.Calls.{Finds};
@@ -104,7 +104,7 @@ fn update_of(alloc: Global, named: &MovedName) -> Result<RefEdit, FileError>
     Ok(RefEdit {
         change: Change::Update {
             log,
-            expected: expected(named.entry.before),
+            expected: previous_value(named.entry.before),
             new: Target::Object(named.entry.after),
         },
         name: full_name(alloc, &named.name)?,
@@ -113,7 +113,7 @@ fn update_of(alloc: Global, named: &MovedName) -> Result<RefEdit, FileError>
 }
 
 // Returns what is expected of a name that an entry moves from this id.
-fn expected(before: ObjectId) -> PreviousValue
+fn previous_value(before: ObjectId) -> PreviousValue
     ensures { ExpectsId (id_of before) result }
 {
     if before.is_null() {

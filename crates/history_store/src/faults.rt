@@ -1,4 +1,4 @@
-//! Transactions' errors as those of file calls: want of memory is `Memory`, and all else is `Failed`.
+//! Transactions' errors as file calls', `Memory` or else `Failed`; and the full name (`FullName`) of some bytes.
 ghost use Rattle.std.specs.Prelude.{◌≡◌, ◌≢◌, Err, IfOk, IsTrue};
 ghost use Rattle.gix_object_lines.specs.NameTest.{is_full_name};
 ghost use Rattle.gix_ref_file.specs.declared.files.FileError.TheVariants.{Failed};

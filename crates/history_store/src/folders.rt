@@ -1,23 +1,37 @@
-//! The folder that an object's file is in.
-ghost use Rattle.std.specs.Prelude.{◌≡◌, ◌≤◌, OnOk, IsErrOf, IsTrue};
-ghost use Rattle.gix_ref_file.specs.Calls.{HasFault, Passes};
-ghost use Rattle.gix_ref_file.specs.Tree.{is_path, parent, node_at, is_folder};
+//! Makes the folder that an object's file is in, and those above it, if they are missing.
+ghost use Rattle.std.specs.Prelude.{◌≡◌, ◌≤◌, OnOk, IsErrOf};
+ghost use Rattle.gix_ref_file.specs.Calls.{Passes};
+ghost use Rattle.gix_ref_file.specs.History.{HasRisen};
 ghost use Rattle.gix_ref_file.specs.declared.files.FileError.TheVariants.{Failed, Memory};
 ghost use Rattle.gix_ref_way.specs.Ways.{SameFiles, FoldersAbove, NoFileAbove, HasFoldersAbove, KeepsFolders};
+ghost use Rattle.history_store.specs.Seen.{seen_at};
+ghost use Rattle.history_store.specs.Stores.{IsObjectPlace};
 
 use gix_ref_file::paths::parent;
 use gix_ref_file::{FileError, Files};
-use gix_ref_way::make_folders;
 use std::alloc::Global;
 
-/// Makes the folder that a path is in, and those above it that are missing; no call is made if it
-/// exists, which the caller has seen. Files stay. Returns `Failed` if a file exists
-/// at one of the folders or a call of the files failed, and `Memory` if no memory is left.
+/// What exists at an object's place, or of the two folders that it is in.
+#[derive(Clone, Copy, PartialEq, Eq, Debug)]
+pub(crate) enum Seen {
+    /// Nothing: the folder of all objects is missing too.
+    Nothing,
+    /// The folder of all objects; the object's own is missing.
+    Top,
+    /// The object's own folder; no file is at the place.
+    Folder,
+    /// A file at the place.
+    File,
+}
+
+/// Makes those of an object's two folders that are missing, as the caller has seen: nothing is
+/// looked up. Files stay. Returns `Failed` if a file exists at one of the folders or a call of the
+/// files failed, and `Memory` if no memory is left.
 pub(crate) fn make_missing<F: Files>(
     alloc: Global,
     files: &mut F,
     path: &[u8],
-    has_folder: bool,
+    seen: Seen,
 ) -> Result<(), FileError>
     ensures honest { F.is_honest files.old → F.is_honest files.new }
     ensures moments { Passes F.is_honest F.history files.old files.new SameFiles }
@@ -26,18 +40,20 @@ pub(crate) fn make_missing<F: Files>(
     ensures later { F.failures files.old ≤ F.failures files.new }
     ensures unfailed { OnOk result (F.failures files.new ≡ F.failures files.old) }
     ensures memory { IsErrOf result Memory → F.failures files.new ≡ F.failures files.old }
-    ensures made { F.is_honest files.old
-        → has_folder ≡ is_folder (node_at (F.history files.old).tree (parent path.now))
+    ensures made { F.is_honest files.old → seen ≡ seen_at (F.history files.old).tree path.now
         → OnOk result (HasFoldersAbove path.now (F.history files.new).tree) }
     ensures failed { F.is_honest files.old → NoFileAbove path.now (F.history files.old).tree
-        → has_folder ≡ is_folder (node_at (F.history files.old).tree (parent path.now))
-        → IsTrue (is_path path.now)
-        → IsErrOf result Failed → HasFault F.failures F.reading_may_fail files.old files.new }
+        → seen ≡ seen_at (F.history files.old).tree path.now
+        → IsObjectPlace path.now
+        → IsErrOf result Failed → HasRisen (F.failures files.old) (F.failures files.new) }
 {
-    if has_folder {
-        return Ok(());
-    }
     let folder = parent(path);
-    make_folders(alloc, files, folder)?;
-    files.make_folder(alloc, folder)
+    match seen {
+        Seen::Nothing => {
+            files.make_folder(alloc, parent(folder))?;
+            files.make_folder(alloc, folder)
+        }
+        Seen::Top => files.make_folder(alloc, folder),
+        Seen::Folder | Seen::File => Ok(()),
+    }
 }

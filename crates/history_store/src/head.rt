@@ -1,4 +1,4 @@
-//! HEAD of an existing repository: it is changed by a transaction.
+//! HEAD of an existing repository, made to name another branch by a transaction (`switch`).
 ghost use Rattle.std.specs.Prelude.{◌≡◌, ◌≢◌, Err, [], ◌∷◌, IfOk, IsErrOf, IsTrue};
 ghost use Rattle.gix_ref_edit.specs.declared.change.RefEdit.{RefEdit};
 ghost use Rattle.gix_ref_file.specs.declared.files.FileError.TheVariants.{Failed};
@@ -58,7 +58,7 @@ impl<F: Files> Names<F> {
         let records = self.packed.as_ref();
         let mode = PackedRefs::<Never>::DeletionsOnly;
         match prepare_with(alloc, &mut self.store, records, edits, None, mode) {
-            Ok(made) => self.finish(alloc, made),
+            Ok(made) => self.commit_made(alloc, made),
             Err(error) => Err(of_preparing(error)),
         }
     }

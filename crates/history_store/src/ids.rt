@@ -1,4 +1,4 @@
-//! The ids of what is stored: ascending lists, one for each first byte.
+//! A set of ids (`Ids`), one ascending list for each first byte: added to, searched by id or prefix, iterated.
 ghost use Rattle.std.specs.Prelude.{IsTrue};
 ghost use Rattle.history_store.specs.Ids.{are_lists};
 

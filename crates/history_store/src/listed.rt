@@ -1,4 +1,4 @@
-//! The ids that names read as: one name's, and those of the names below a folder.
+//! The id that one name reads as (`find`), and the names below a folder that read as ids (`list_all`).
 ghost use Rattle.std.specs.Prelude.{◌≡◌, ◌++◌, ◌∷◌, [], false, map, option_map, IfOk, OnOk, IsErrOf};
 ghost use Rattle.gix_hash.specs.Id.{id_of};
 ghost use Rattle.gix_object_lines.specs.NameTest.{begins};

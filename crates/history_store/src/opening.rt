@@ -1,4 +1,4 @@
-//! Opening a part as a store of objects.
+//! Opens a part that is whole as a store of objects, with what is known of them, or returns why it isn't.
 ghost use Rattle.std.specs.Prelude.{◌≡◌, IfErr, IfOk};
 ghost use Rattle.history_store.specs.ObjectsFace.{files_of_objects, ids_of_objects, kind_of_objects};
 ghost use Rattle.history_store.specs.KnownObjects.{HoldsKnown};

@@ -1,5 +1,5 @@
-//! The records of `packed-refs`: read, kept and looked up.
-ghost use Rattle.std.specs.Prelude.{◌≡◌, IfErr, IfOk, MatchResult, OnOk, IsErrOf, IsTrue, is_some, option_map};
+//! The records of `packed-refs`: read and kept, read anew after a transaction, and looked up by name.
+ghost use Rattle.std.specs.Prelude.{◌≡◌, IfErr, IfOk, MatchResult, None, OnOk, IsErrOf, IsTrue, is_some, option_map};
 ghost use Rattle.gix_ref_file.specs.Calls.{Finds};
 ghost use Rattle.gix_ref_file.specs.declared.files.FileError.TheVariants.{Failed};
 ghost use Rattle.gix_ref_format.specs.Packed.{record_of};
@@ -9,8 +9,10 @@ ghost use Rattle.gix_ref_format.specs.declared.packed.buffer.Error.TheVariants.{
 ghost use Rattle.gix_ref_name.specs.Names.{name_of};
 ghost use Rattle.history_model.specs.Forms.{is_name};
 ghost use Rattle.history_model.specs.Places.{file_at, packed_place};
+ghost use Rattle.history_store.specs.Changing.{IsReadable};
 ghost use Rattle.history_store.specs.Packing.{KeepsRecords, kept_hit};
 
+use crate::faults::of_opening;
 use crate::names::Names;
 use gix_ref_file::{FileError, Files};
 use gix_ref_format::packed::buffer::Error;
@@ -93,6 +95,37 @@ impl<F: Files> Names<F> {
                 before.open_without(alloc, &self.store.files, PACKED, self.kind, gone)
             }
             _ => Buffer::open(alloc, &self.store.files, PACKED, self.kind),
+        }
+    }
+
+    // Reads the records anew if the name, which is deleted, had one.
+    pub(crate) fn reread(&mut self, alloc: Global, name: &[u8]) -> Result<(), FileError>
+        ensures files { self.new.store.files ≡ self.old.store.files }
+        ensures kind { self.new.kind ≡ self.old.kind }
+        ensures keeps { Finds F.is_honest F.history self.new.store.files (λ tree.
+            (kept_hit self.old.packed name.now ≡ None → KeepsRecords self.old tree)
+            → IsTrue (is_name name.now) → OnOk result (KeepsRecords self.new tree)) }
+        ensures failed { Finds F.is_honest F.history self.new.store.files (λ tree.
+            IsReadable self.new.kind tree → IsErrOf result Failed → F.reading_may_fail) }
+    {
+        if !self.has_record(name) {
+            return Ok(());
+        }
+        self.read_anew(alloc, Some(name))
+    }
+
+    // Reads the records anew, from which only this name's went if one is given.
+    pub(crate) fn read_anew(&mut self, alloc: Global, gone: Option<&[u8]>) -> Result<(), FileError>
+        ensures files { self.new.store.files ≡ self.old.store.files }
+        ensures kind { self.new.kind ≡ self.old.kind }
+        ensures keeps { Finds F.is_honest F.history self.new.store.files
+            (λ tree. OnOk result (KeepsRecords self.new tree)) }
+        ensures failed { Finds F.is_honest F.history self.new.store.files (λ tree.
+            IsReadable self.new.kind tree → IsErrOf result Failed → F.reading_may_fail) }
+    {
+        match self.read_less(alloc, gone) {
+            Ok(()) => Ok(()),
+            Err(error) => Err(of_opening(error)),
         }
     }
 

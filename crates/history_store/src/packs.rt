@@ -1,4 +1,4 @@
-//! Packing of names: all those that aren't packed yet are packed by one transaction.
+//! Packing of names: all those that aren't packed yet, by one transaction; whether a name is packed.
 ghost use Rattle.std.specs.Prelude.{◌≡◌, ◌≢◌, ◌++◌, ◌∷◌, Err, [], List, Some, IfOk, IsErrOf, IsTrue, OnOk, option_map, unwrap_or};
 ghost use Rattle.gix_hash.specs.Id.{id_of};
 ghost use Rattle.gix_ref_file.specs.Calls.{Finds};
@@ -131,7 +131,7 @@ impl<F: Files> Names<F> {
         let records = self.packed.as_ref();
         let mode = PackedRefs::DeletionsAndNonSymbolicUpdatesRemoveLooseSourceReference(objects);
         match prepare_with(alloc, &mut self.store, records, edits, None, mode) {
-            Ok(made) => self.finish(alloc, made),
+            Ok(made) => self.commit_made(alloc, made),
             Err(error) => Err(of_preparing(error)),
         }
     }
@@ -145,14 +145,14 @@ fn is_record(found: Option<Reference<'_>>, named: &PackedName) -> bool
         Some(record) => {
             record.name.to_path() == named.name.to_path()
                 && record.target == named.id
-                && is_same(record.object, named.peeled)
+                && are_same_id(record.object, named.peeled)
         }
         None => false,
     }
 }
 
 // Returns whether both are one id, or none.
-fn is_same(one: Option<ObjectId>, other: Option<ObjectId>) -> bool
+fn are_same_id(one: Option<ObjectId>, other: Option<ObjectId>) -> bool
     ensures { IsTrue result → option_map id_of one ≡ option_map id_of other }
 {
     match (one, other) {

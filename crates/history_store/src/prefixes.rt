@@ -1,4 +1,4 @@
-//! Which of some ids a prefix names.
+//! Which of some ids a prefix names (`Lookup`, `Hit`), and whether ascending ids are all of one kind.
 ghost use Rattle.std.specs.Prelude.{◌≡◌, ◌≤◌, ◌↔◌, length, IsTrue};
 ghost use Rattle.std.specs.FinMap.{is_sorted};
 ghost use Rattle.std.specs.List.{All};

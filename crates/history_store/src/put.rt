@@ -1,4 +1,4 @@
-//! Putting contents as objects: in written form, and naming only what is stored.
+//! Puts a content as an object of a kind, if it is in written form and all that it names is stored (`put`).
 ghost use Rattle.std.specs.Prelude.{◌≡◌, ◌↔◌, ◌<◌, length, map, IfErr, IfOk, IsErrOf, IsTrue, OnOk};
 ghost use Rattle.std.specs.List.{All};
 ghost use Rattle.gix_object_lookup.specs.declared.find.Error.TheVariants as found;

@@ -5,53 +5,67 @@ use gix_ref_file::{Files, MemoryFiles};
 use gix_ref_fuse::Fuse;
 use history::{Bytes, Collected, End, Kind, Repository, create, run};
 use history_store::{ObjectKind, Objects, PutError};
-use std::alloc::{AllocError, Global};
+use std::alloc::Global;
 use std::process::Abort;
 
-// The folder of the blob `hello`.
+// A blob, another of the same folder, and one of another folder.
+const HELLO: &[u8] = b"hello";
+
+const BESIDE: &[u8] = b"hello 345";
+
+const ELSEWHERE: &[u8] = b"world";
+
+// The folder of the first two.
 const FOLDER: &[u8] = b"objects/b6";
 
-// Whether its folder exists, whether a file is at its place, its text, its place.
-const IN_A_FOLDER: u64 = 4;
+// While no object is known: whether `objects` exists, it, its folder, its text, its place. Or, of
+// what exists already: whether `objects` does, whether its folder does, and its folder or whether a
+// file is at its place.
+const THE_FIRST: u64 = 5;
 
 // Whether its folder exists, whether `objects` does, its folder, its text, its place.
 const IN_A_NEW_FOLDER: u64 = 5;
 
-// The same, and whether `objects` is a file, and `objects`.
-const IN_A_NEW_PART: u64 = 7;
+// Whether its folder exists, whether a file is at its place, its text, its place.
+const IN_A_FOLDER: u64 = 4;
 
 // Whether its folder exists, whether a file is at its place, what it holds.
 const STORED_ALREADY: u64 = 3;
 
 // A blob, three trees and the commit, none of which has a folder before; nothing is read.
-const OF_A_FIRST_COMMIT: u64 = IN_A_NEW_PART + 4 * IN_A_NEW_FOLDER;
+const OF_A_FIRST_COMMIT: u64 = THE_FIRST + 4 * IN_A_NEW_FOLDER;
 
 const COMMIT: &[u8] =
     b"commit refs/heads/main new\nput file 5 5\na/b/c\nhello\nauthor 1 3 1 +0000\nA\na@b\ncommitter 1 3 1 +0000\nA\na@b\nmessage 3\none\nend\n";
 
-fn hello(alloc: Global) -> Result<Vec<u8>, AllocError> {
-    b"hello".as_slice().to_vec(alloc)
+// Returns how many calls of the files it takes to put a blob.
+fn calls_of_putting(
+    objects: &mut Objects<Fuse<MemoryFiles>>,
+    alloc: Global,
+    text: &[u8],
+) -> Result<u64, PutError> {
+    let before = objects.files().calls();
+    objects.put(alloc, ObjectKind::Blob, text.to_vec(alloc)?)?;
+    Ok(objects.files().calls().saturating_sub(before))
 }
 
-// Puts a blob twice into a part that has these folders.
-fn check_puts<R: Abort>(
-    rt: &R,
-    alloc: Global,
-    folders: &[&[u8]],
-    most: u64,
-) -> Result<(), PutError> {
+// Puts blobs into a part that has these folders and no file.
+fn check_puts<R: Abort>(rt: &R, alloc: Global, folders: &[&[u8]]) -> Result<(), PutError> {
     let mut files = MemoryFiles::new(alloc);
     for folder in folders {
         assert!(rt; files.make_folder(alloc, folder).is_ok());
     }
     let files = Fuse::failing_at(files, 0, None);
     let mut objects = Objects::new(alloc, files, Kind::Sha1);
-    objects.put(alloc, ObjectKind::Blob, hello(alloc)?)?;
-    let first = objects.files().calls();
-    assert!(rt; first <= most, "{first}");
-    objects.put(alloc, ObjectKind::Blob, hello(alloc)?)?;
-    let second = objects.files().calls().saturating_sub(first);
-    assert!(rt; second <= STORED_ALREADY, "{second}");
+    for (text, most) in [
+        (HELLO, THE_FIRST),
+        (BESIDE, IN_A_FOLDER),
+        (ELSEWHERE, IN_A_NEW_FOLDER),
+        (HELLO, STORED_ALREADY),
+    ] {
+        let met = calls_of_putting(&mut objects, alloc, text)?;
+        assert!(rt; met <= most, "{met} for {most}");
+    }
     Ok(())
 }
 
@@ -59,9 +73,9 @@ fn check_puts<R: Abort>(
 fn an_object_takes_few_calls(rt: HostRuntime) -> Result<(), PutError> {
     let alloc = rt.alloc();
     let root = b"objects".as_slice();
-    check_puts(&rt, alloc, &[], IN_A_NEW_PART)?;
-    check_puts(&rt, alloc, &[root], IN_A_NEW_FOLDER)?;
-    check_puts(&rt, alloc, &[root, FOLDER], IN_A_FOLDER)
+    check_puts(&rt, alloc, &[])?;
+    check_puts(&rt, alloc, &[root])?;
+    check_puts(&rt, alloc, &[root, FOLDER])
 }
 
 // Returns how many calls on the objects part a run makes over a new repository.

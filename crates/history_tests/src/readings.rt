@@ -188,6 +188,13 @@ const LOGGED_AT_BOTH: (&[u8], u64) = (
     6,
 );
 
+/// Three commits on `main`: a file is put, removed, and put again.
+const BACK_AND_FORTH: &[u8] =
+    b"commit refs/heads/main any\nput file 1 4\nd\nmore\nauthor 1 3 2 +0000\nA\na@b\ncommitter 1 3 2 +0000\nA\na@b\nmessage 3\ntwo\nend\ncommit refs/heads/main any\nremove 1\nd\nauthor 1 3 3 +0000\nA\na@b\ncommitter 1 3 3 +0000\nA\na@b\nmessage 5\nthree\nend\ncommit refs/heads/main any\nput file 1 4\nd\nmore\nauthor 1 3 4 +0000\nA\na@b\ncommitter 1 3 4 +0000\nA\na@b\nmessage 4\nfour\nend\n";
+
+/// The four commits, and the two roots that they have in turn.
+const LOGGED_BACK_AND_FORTH: (&[u8], u64) = (b"log topological all +main path 1\nd\n", 6);
+
 /// The commit, the root, and the folders `a` and `a/x`, which are also `b` and `b/x`.
 const CHANGED_AT_BOTH: (&[u8], u64) = (
     b"commit refs/heads/main any\nput file 5 3\na/x/c\nbye\nput file 5 3\nb/x/c\nhey\nauthor 1 3 3 +0000\nA\na@b\ncommitter 1 3 3 +0000\nA\na@b\nmessage 5\nthree\nend\n",
@@ -433,6 +440,37 @@ fn trees_at_several_paths_are_read_once(rt: HostRuntime) {
             assert!(rt; met == wanted, "{met} for {wanted}");
         }
     }
+}
+
+/// Returns a commit on `main` whose root has more than half a megabyte: 300 files, whose names have
+/// 2000 bytes each.
+fn with_long_names(alloc: Global) -> Result<Vec<u8>, AllocError> {
+    let mut input = b"commit refs/heads/main new\n".to_vec(alloc)?;
+    for number in 100..400u32 {
+        let mut name = format!(in alloc; "{number}")?.as_bytes().to_vec(alloc)?;
+        name.resize(2000, b'n')?;
+        input.extend_from_slice(b"put file 2000 1\n")?;
+        input.extend_from_slice(&name)?;
+        input.extend_from_slice(b"\nx\n")?;
+    }
+    input.extend_from_slice(
+        b"author 1 3 1 +0000\nA\na@b\ncommitter 1 3 1 +0000\nA\na@b\nmessage 3\none\nend\n",
+    )?;
+    Ok(input)
+}
+
+// Both roots together have more than a megabyte.
+#[test]
+fn a_log_reads_large_trees_once(rt: HostRuntime) -> Result<(), AllocError> {
+    let alloc = rt.alloc();
+    let long = with_long_names(alloc)?;
+    for kind in KINDS {
+        let repository = counted(&rt, alloc, kind, &[long.as_slice(), BACK_AND_FORTH]);
+        let (input, wanted) = LOGGED_BACK_AND_FORTH;
+        let met = readings(&rt, &repository, alloc, input);
+        assert!(rt; met == wanted, "{met} for {wanted}");
+    }
+    Ok(())
 }
 
 #[test]

@@ -1,10 +1,7 @@
 -- What an actor's text says.
 use Rattle.std.proofs.Common.{inl, inr, ◌≡◌, ◌≢◌, ◌∙◌, ap, refl, sym, subst, ℕ, ◌≤◌, true, not, ◌&&◌, ◌∷◌, ◌++◌, append_assoc, arith, tests}
-use Rattle.std.specs.Prelude.{nat_le, Option, Some, None, Result, Ok, Err, MatchOption, MatchResult, IsTrue, IsFalse, codes, decimal}
-use Rattle.std.specs.Result.{result_ok}
-use Rattle.std.specs.Str.{IsUtf8}
-use Rattle.std.proofs.lemmas.Str.{IsUtf8-from_ascii}
-use Rattle.std.proofs.lemmas.Fmt.{IsAscii-decimal, decimal_injective}
+use Rattle.std.specs.Prelude.{nat_le, Option, Some, None, MatchOption, IsTrue, IsFalse, codes, decimal}
+use Rattle.std.proofs.lemmas.Fmt.{decimal_injective}
 use Rattle.history_model.specs.Bytes.{Bytes, has_byte, is_empty}
 use Rattle.history_model.specs.Objects.{Actor, actor_text}
 use Rattle.history_model.specs.Forms.{is_actor, is_actor_part, is_offset, max_seconds}
@@ -50,15 +47,6 @@ actor_parts actor h =
   where
     small : (n : ℕ) → nat_le n max_seconds ≡ true → n ≤ max_seconds
     small n k = grind (arith, tests)
-
--- ---- seconds
-
-pub no_text : {S E : Type 0} (P : S → Type 0) (Q : E → Type 0) (word : Bytes) (r : Result S E) → MatchResult r P (λ e. (IsUtf8 word → ⊥) × Q e) → result_ok r ≡ None → IsUtf8 word → ⊥
-no_text P Q word (Ok s) h e = cc
-no_text P Q word (Err e) h is = h.0
-
-pub decimal_is_text : (n : ℕ) → n ≤ max_seconds → IsUtf8 (decimal n)
-decimal_is_text n small = IsUtf8-from_ascii (decimal n) (IsAscii-decimal n (omega arith))
 
 -- ---- texts
 

@@ -20,10 +20,6 @@ use Rattle.history_model.specs.Objects.{CommitValue, hex, commit_content, folder
 use Rattle.history_model.proofs.IdLemmas.{has_kind, length-hex}
 use Rattle.history_texts.proofs.CommitTexts.{id_formed, value_forms, content_of_parts}
 
--- the first line names this tree
-abbrev pub Names : Kind → Bytes → Id → Type 0
-Names kind content id = (rest : Bytes) × IsIdLine kind (codes "tree") content id rest
-
 abbrev pub Tells : Kind → Bytes → Option ObjectId → Type 0
 Tells kind content found =
     MatchOption found ((id : Id) (rest : Bytes) → ¬ IsIdLine kind (codes "tree") content id rest)

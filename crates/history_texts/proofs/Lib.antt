@@ -2,7 +2,6 @@ pub mod ActorTexts
 mod CommitNames
 pub mod CommitTexts
 pub mod CommitWrites
-mod Cuts
 mod FirstLine
 pub mod FirstParts
 pub mod LogLines

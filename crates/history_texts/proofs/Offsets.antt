@@ -106,9 +106,6 @@ offset_told (s ∷ a ∷ b ∷ c ∷ d ∷ e ∷ more) h = cc
 low_digit : (n : ℕ) → n < 10 → is_ascii_digit (48 + n) ≡ true
 low_digit n low = grind (arith, tests)
 
-tens_low : (n : ℕ) → n < 6 → nat_lt (48 + n) 54 ≡ true
-tens_low n low = grind (arith, tests)
-
 all_four : (a b c d : Bool) → a ≡ true → b ≡ true → c ≡ true → d ≡ true → (a && (b && (c && (d && true)))) ≡ true
 all_four a b c d p q r t = λ i. p i && (q i && (r i && (t i && true)))
 
@@ -117,20 +114,6 @@ digits_formed h m hl ml = all_four _ _ _ _ (low_digit (h / 10) (omega arith)) (l
 
 four_true : (a b c d : Bool) → a ≡ true → b ≡ true → c ≡ true → d ≡ true → (a && b && c && d) ≡ true
 four_true a b c d p q r t = λ i. p i && q i && r i && t i
-
-not_zero : (n : ℕ) → (suc n % 60 ≡ 0) × (suc n < 360_000) → 45 ∷ two_digits (suc n / 3600) ++ two_digits (suc n / 60 % 60) ≡ codes "-0000" → ⊥
-not_zero n whole e =
-    let a : 48 + suc n / 3600 / 10 ≡ 48 = cc in
-    let b : 48 + suc n / 3600 % 10 ≡ 48 = cc in
-    let c : 48 + suc n / 60 % 60 / 10 ≡ 48 = cc in
-    let d : 48 + suc n / 60 % 60 % 10 ≡ 48 = cc in
-    omega (arith, whole.0, whole.1)
-
-pub written_formed : (z : ℤ) → IsSpellableOffset z → is_offset (offset_text z) ≡ true
-written_formed (pos n) whole = four_true _ _ _ _ refl (digits_formed (n / 3600) (n / 60 % 60) (omega (arith, whole.1)) (omega arith)) (tens_low (n / 60 % 60 / 10) (omega arith)) refl
-written_formed (negsuc n) whole =
-    four_true _ _ _ _ refl (digits_formed (suc n / 3600) (suc n / 60 % 60) (omega (arith, whole.1)) (omega arith)) (tens_low (suc n / 60 % 60 / 10) (omega arith))
-    (ap not (false_from_ne_true (bytes_eq (45 ∷ two_digits (suc n / 3600) ++ two_digits (suc n / 60 % 60)) (codes "-0000")) (λ e. not_zero n whole (one_text _ _ e))))
 
 -- what is spelled is in written form if its minutes are below 60 and it isn't `-0000`
 pub spelled_formed : (s a b c d : ℕ) (z : ℤ) → SpellsOffset (s ∷ a ∷ b ∷ c ∷ d ∷ []) z → nat_lt c 54 ≡ true → bytes_eq (s ∷ a ∷ b ∷ c ∷ d ∷ []) (codes "-0000") ≡ false → is_offset (s ∷ a ∷ b ∷ c ∷ d ∷ []) ≡ true

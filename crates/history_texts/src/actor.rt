@@ -1,4 +1,4 @@
-//! Who made a change, and when: `Name <email> seconds offset`.
+//! Actors, `Name <email> seconds offset`: made, written and parsed; which names, emails and times they may have.
 ghost use Rattle.std.specs.Prelude.{◌≡◌, ◌≤◌, ℕ, [], ◌∷◌, decimal, IsTrue, IsFalse, MatchOption, ◌≢◌, ◌↔◌};
 ghost use Rattle.std.specs.List.{list_any};
 ghost use Rattle.history_model.specs.Bytes.{has_byte};

@@ -1,4 +1,4 @@
-//! Commits of the store, which are `gix_object`'s: what they hold, and their contents.
+//! Commits of the store, which are `gix_object`'s: made of values, written, parsed, and the tree that one names.
 ghost use Rattle.std.specs.Prelude.{◌≡◌, ◌≢◌, ◌↔◌, ℕ, List, codes, None, map, IfOk, IfSome, IfNone, MatchOption, IsTrue, IsFalse};
 ghost use Rattle.std.specs.List.{list_all};
 ghost use Rattle.bstr.specs.BStr.{bstr_bytes};

@@ -1,4 +1,4 @@
-//! Ids as Git's texts spell them: in lower-case hexadecimal, and read in either letter case.
+//! Ids in lower-case hexadecimal digits, written and parsed.
 ghost use Rattle.std.specs.Prelude.{◌≡◌, ◌≢◌, MatchOption, IsTrue};
 ghost use Rattle.gix_hash.specs.Id.{Id, id_of};
 ghost use Rattle.history_model.specs.Forms.{is_id};

@@ -1,4 +1,4 @@
-//! Laws on the forms of objects, over the definitions alone.
+//! The law that no commit or tag in written form has a time before 1970, and no such tag is of another object.
 
 ghost use Rattle.history_texts.specs.Malformed.{BeforeIsMalformed, OfOtherIsMalformed};
 

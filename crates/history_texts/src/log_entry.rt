@@ -1,4 +1,4 @@
-//! The lines of a name's log: each is `<old> <new> <actor>`, a tab, the message and a line feed.
+//! A log's lines, each `<old> <new> <actor>`, a tab, the message and a line feed, listed newest first.
 ghost use Rattle.std.specs.Prelude.{◌≡◌, ◌++◌, List, IfOk, map, reverse};
 ghost use Rattle.std.specs.List.{All, flat_map};
 ghost use Rattle.gix_object_lines.specs.Bytes.{Lacks};

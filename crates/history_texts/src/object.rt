@@ -1,4 +1,4 @@
-//! The text of an object: the header of its kind and of its content's length, and the content.
+//! The text of an object, a header `<kind> <length>` and the content: its id, and its header parsed.
 ghost use Rattle.std.specs.Prelude.{◌≡◌, ◌≤◌, length, drop, IfSome, IfNone};
 ghost use Rattle.history_model.specs.Objects.{digest, object_text};
 ghost use Rattle.history_texts.specs.ObjectTexts.{IsNoObject, IsIdOf};

@@ -1,4 +1,4 @@
-//! Why a repository's folder isn't opened.
+//! Why a repository's folder isn't opened (`OpenError`), also as made of an error of files or of memory.
 ghost use Rattle.std.specs.Prelude.{◌≡◌};
 ghost use Rattle.history_texts.specs.OpenErrors.{file_error};
 ghost use Rattle.history_texts.specs.declared.open_error.OpenError.TheVariants.{Memory};

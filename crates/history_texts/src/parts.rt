@@ -1,4 +1,4 @@
-//! What is in a part of the folder.
+//! The two parts of a folder: which folders each may hold, and the first stray file or folder in one.
 ghost use Rattle.std.specs.Prelude.{◌≡◌, IfOk, IsErrOf, MatchOption, codes};
 ghost use Rattle.std.specs.List.{list_all};
 ghost use Rattle.gix_ref_file.specs.Calls.{Finds};

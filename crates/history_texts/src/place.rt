@@ -1,4 +1,4 @@
-//! Where the files of objects are.
+//! The path of an object's file by its id, and that of the unfinished file.
 ghost use Rattle.std.specs.Prelude.{◌≡◌, IfOk};
 ghost use Rattle.gix_hash.specs.Id.{id_of};
 ghost use Rattle.history_model.specs.Places.{object_place};

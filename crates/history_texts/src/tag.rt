@@ -1,4 +1,4 @@
-//! Tags of the store, which are `gix_object`'s: the commits that they are of, and their contents.
+//! Tags of the store, which are `gix_object`'s: made, written, and the id of the object that one names.
 ghost use Rattle.std.specs.Prelude.{◌≡◌, ◌≢◌, List, [], ℕ, None, IfOk, IsTrue, MatchOption};
 ghost use Rattle.gix_hash.specs.Id.{Id, id_of};
 ghost use Rattle.gix_hash.specs.declared.kind.Kind as hash;
@@ -52,7 +52,7 @@ pub fn tag_bytes(
         → IfOk result (λ found. MatchOption found ⊥ (λ text. text.items ≡ tag_content value)) }
 {
     let lines = bare_tag(alloc, target, name, tagger);
-    let Some(mut text) = written(alloc, &lines)? else {
+    let Some(mut text) = content_of_tag(alloc, &lines)? else {
         return Ok(None);
     };
     text.extend_from_slice(message)?;
@@ -80,7 +80,7 @@ fn bare_tag(alloc: Global, target: ObjectId, name: Vec<u8>, tagger: Actor) -> Ta
 }
 
 // Returns the tag's content; `None` if a part of it can't be written.
-fn written(alloc: Global, tag: &Tag) -> Result<Option<Vec<u8>>, AllocError>
+fn content_of_tag(alloc: Global, tag: &Tag) -> Result<Option<Vec<u8>>, AllocError>
     ensures { IfOk result (λ found. MatchOption found
         (tag_refusal (own_parts tag.now) (is_bad_actor (tag.now).tagger) ≢ None)
         (λ text. (tag_refusal (own_parts tag.now) (is_bad_actor (tag.now).tagger) ≡ None)

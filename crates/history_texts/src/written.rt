@@ -1,4 +1,4 @@
-//! What a store takes: the contents of objects in written form, and the objects that they name.
+//! The objects that a content of any kind names if it is in written form, and the title of a message.
 ghost use Rattle.std.specs.Prelude.{◌≡◌, IfOk, MatchOption, map};
 ghost use Rattle.history_model.specs.Forms.{title};
 ghost use Rattle.history_texts.specs.Written.{IsMalformed, NamesObjects, naming_of};

@@ -1,4 +1,4 @@
-//! Why commits aren't listed.
+//! Why commits aren't listed (`WalkError`), from the errors of lookups and walks.
 
 ghost use Rattle.std.specs.Prelude.{◌≡◌};
 ghost use Rattle.history_walks.specs.Faults.{as_found, as_looked_up, as_sorted, as_walked};

@@ -1,4 +1,4 @@
-//! Lists of commits.
+//! Lists of commits on request (`Request`): in an order, by time with a cutoff, from tips past hidden commits.
 
 ghost use Rattle.std.specs.Prelude.{◌≡◌, IfOk, IfErr, Some};
 ghost use Rattle.gix_traverse_graph.specs.Sorting.{timing_of};

@@ -1,4 +1,4 @@
-//! Commits that were read from a store.
+//! Commits kept by id (`ReadCommits`), all that a walk reaches, and a store that looks them up before others.
 
 ghost use Rattle.std.specs.Prelude.{◌≡◌, ◌++◌, ⊤, true, List, None, Contains, IfOk, IfErr, MatchOption, OnOk};
 ghost use Rattle.gix_hash.specs.Id.{Id, id_of};

@@ -1,4 +1,4 @@
-//! Rows, each made after those of its parents.
+//! Rows of all commits, each made after its parents', with its generation: the greatest of theirs plus one.
 
 ghost use Rattle.std.specs.Prelude.{◌≡◌, IfOk, fold, map, max, unwrap_or};
 ghost use Rattle.std.specs.HashMap.{get};

@@ -1,4 +1,4 @@
-//! Lists in breadth order and by time.
+//! Lists in breadth order and by time: all that a `Simple` walk gives, by time over commits read first.
 
 ghost use Rattle.std.specs.Prelude.{◌≡◌, true, IfOk, IfErr};
 ghost use Rattle.gix_traverse_graph.specs.declared.parents.Parents.TheVariants.{All as AllParents};
@@ -73,11 +73,11 @@ pub(crate) fn listed<F: FindInto + Drop>(
         .commit_graph(rows)
         .parents(parents)
         .hide(hidden)?;
-    given(alloc, walk.sorting(sorting)?)
+    collect_ids(alloc, walk.sorting(sorting)?)
 }
 
 // Returns all commits of a walk. The errors are those of `list_commits`.
-fn given<F: FindInto + Drop>(
+fn collect_ids<F: FindInto + Drop>(
     alloc: Global,
     walk: Simple<F, All>,
 ) -> Result<Vec<ObjectId>, WalkError>

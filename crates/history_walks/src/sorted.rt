@@ -1,4 +1,4 @@
-//! Lists by date and in topological order.
+//! Lists by date and in topological order, parents after children: all that a `Topo` walk gives.
 
 ghost use Rattle.std.specs.Prelude.{◌≡◌, ◌⊎◌, true, [], List, Option, Some, IfOk, IfErr};
 ghost use Rattle.gix_hash.specs.declared.object_id.ObjectId.{ObjectId};
@@ -42,11 +42,11 @@ pub(crate) fn listed<S: FindInto>(
         tips.now hidden.now)) }
 {
     let builder = Builder::from_iters(alloc, store, tips, Some(hidden))?.with_commit_graph(rows);
-    given(alloc, builder.parents(parents).sorting(sorting).build()?)
+    collect_ids(alloc, builder.parents(parents).sorting(sorting).build()?)
 }
 
 // Returns all commits of a walk. The errors are those of `list_commits`.
-fn given(alloc: Global, walk: Topo<All>) -> Result<Vec<ObjectId>, WalkError>
+fn collect_ids(alloc: Global, walk: Topo<All>) -> Result<Vec<ObjectId>, WalkError>
     ensures lists { (sorting : Sorting) (rows : List Row) (faults : ObjectId → Option Error)
         (g : Commits ObjectId) (tips ends : List ObjectId)
         → HasGiven (λ _ _. true) walk sorting rows faults g tips ends []

@@ -1,4 +1,4 @@
-//! What is said of a commit.
+//! What a commit says, of which its row is made: its tree, parents and time (`Told`).
 
 use gix_hash::ObjectId;
 use gix_traverse_graph::ParentIds;

@@ -8,17 +8,12 @@ use Rattle.history_model.specs.Grammar.{Spells}
 use Rattle.history_word.specs.LineTable as table
 use Rattle.history_word.specs.TableRuns.{at, reached}
 use Rattle.history_word.proofs.TableLaws.{parts_fit}
-use Rattle.history_word.specs.Drafts.{IsDraft, place_of}
+use Rattle.history_word.specs.Drafts.{IsDraft}
 use Rattle.history_word.specs.Come.{HasEnough}
 use Rattle.history_word.specs.declared.place.Place.{Place}
-use Rattle.history_word.specs.declared.place.Place.TheVariants as place
 use Rattle.history_word.specs.declared.draft.Draft.{Draft}
 use Rattle.history_word.specs.declared.draft.Draft.TheVariants as draft
 use Rattle.std.proofs.lemmas.Bool.{and_from}
-
-pub live : (p : Place) → p ≢ place.Done → place_of p ≢ table.Done
-live place.Done h e = h refl
-live p h e = cc
 
 spoken : (d : Draft) (sent : model.Command) → IsDraft d sent → is_spoken sent ≡ true
 spoken (draft.Commit c) (model.Commit sent) h = refl

@@ -11,6 +11,7 @@ use Rattle.history_model.specs.CommandParts.{option_expect}
 use Rattle.history_model.specs.Commands as model
 use Rattle.history_model.specs.Spelling as spelling
 use Rattle.history_model.specs.Lines as lines
+use Rattle.history_model.specs.LineWords as wording
 use Rattle.history_word.specs.LineTable as table
 use Rattle.history_word.specs.TableRuns.{at, run_from, next_offered}
 use Rattle.history_word.specs.Commands.{IsExpect, IsTo, IsEdit}
@@ -53,11 +54,11 @@ line_some text = omega (arith, length-append text (10 ∷ []))
 pub takes_parts : (p q : Place) (said : Heading) (xs ys : Bytes) (old new : Draft) → TakesLine p said q xs → TakesFields said old new ys → TakesParts p old q new (xs ++ ys)
 takes_parts p q said xs ys old new t took =
     let h = t.heading in
-    let sizes : lines.sizes h ≡ map length took.fields = heading_sizes_are said h t.is ∙ took.heads in
+    let sizes : wording.sizes h ≡ map length took.fields = heading_sizes_are said h t.is ∙ took.heads in
     record {
       parts = parts_with h took.fields;
-      spelled = ap (λ y. xs ++ y) took.spelled ∙ ap (λ x. x ++ flat_map line took.fields) t.spelled ∙ ap (λ t. spelling.part_text (spelling.Line (lines.words_of h)) ++ t) (sym (fields_text took.fields));
-      some = omega (arith, length-append xs ys, ap length t.spelled, line_some (join_with_byte 32 (lines.words_of h)));
+      spelled = ap (λ y. xs ++ y) took.spelled ∙ ap (λ x. x ++ flat_map line took.fields) t.spelled ∙ ap (λ t. spelling.part_text (spelling.Line (wording.words_of h)) ++ t) (sym (fields_text took.fields));
+      some = omega (arith, length-append xs ys, ap length t.spelled, line_some (join_with_byte 32 (wording.words_of h)));
       leads = leads_line (place_of p) (place_of q) h (map spelling.Field took.fields) t.stands t.known t.sized
           ∙ ap (λ s. run_from (at s (place_of q)) (map spelling.Field took.fields)) sizes ∙ leads_fields took.fields (place_of q);
       come = took.come h t.is p q t.stands;
@@ -196,7 +197,7 @@ past_opens word = record { fields = []; heads = refl; spelled = refl; begins = p
 abbrev log_heading : model.LogCommand → List ℕ → lines.Heading
 log_heading log sizes = lines.LogHeading log.order log.first_parents log.items sizes
 
-paths_words : (paths : List Bytes) → flat_map lines.size_words (map length paths) ≡ flat_map spelling.path_words paths
+paths_words : (paths : List Bytes) → flat_map wording.size_words (map length paths) ≡ flat_map spelling.path_words paths
 paths_words [] = refl
 paths_words (path ∷ paths) = ap (λ words. spelling.path_words path ++ words) (paths_words paths)
 

@@ -4,7 +4,6 @@ mod TableRunLemmas
 mod TableReaches
 mod TableRests
 mod TableStops
-mod TableWords
 pub mod TableLaws
 pub mod HeldLemmas
 pub mod UnbrokenLemmas

@@ -4,6 +4,7 @@ use Rattle.std.proofs.lemmas.List.{append-nil}
 use Rattle.history_model.specs.Bytes.{Bytes, line}
 use Rattle.history_model.specs.Spelling as spelling
 use Rattle.history_model.specs.Lines as lines
+use Rattle.history_model.specs.LineWords as wording
 use Rattle.history_word.specs.LineTable as table
 use Rattle.history_word.specs.TableRuns.{at, run_from}
 use Rattle.history_model.specs.declared.Cause.{Cause}
@@ -21,14 +22,14 @@ use Rattle.history_word.proofs.ProgressLemmas.{leads_line, leads_field, stops_he
 
 -- ---- the lengths of the fields that follow
 
-edit_sizes_are : (said : EditHeading) (h : lines.Heading) → IsEditHeading said h → lines.sizes h ≡ edit_sizes said
+edit_sizes_are : (said : EditHeading) (h : lines.Heading) → IsEditHeading said h → wording.sizes h ≡ edit_sizes said
 edit_sizes_are (edit.Put kind m n) (lines.PutHeading k a b) e = λ i. sym e.1 i ∷ sym e.2 i ∷ []
 edit_sizes_are (edit.Remove n) (lines.RemoveHeading a) e = λ i. sym e i ∷ []
 edit_sizes_are (edit.RemoveFile n) (lines.RemoveFileHeading a) e = λ i. sym e i ∷ []
 edit_sizes_are (edit.Graft m word n) (lines.GraftHeading a w b) e = λ i. sym e.0 i ∷ sym e.2 i ∷ []
 edit_sizes_are said h e = absurd e
 
-opening_sizes_are : (said : Opening) (h : lines.Heading) → IsOpening said h → lines.sizes h ≡ opening_sizes said
+opening_sizes_are : (said : Opening) (h : lines.Heading) → IsOpening said h → wording.sizes h ≡ opening_sizes said
 opening_sizes_are (opening.Commit name expect) (lines.CommitHeading n x) e = refl
 opening_sizes_are (opening.Tag target) (lines.TagHeading n x w) e = refl
 opening_sizes_are opening.Move lines.MoveHeading e = refl
@@ -46,7 +47,7 @@ opening_sizes_are opening.Index lines.IndexHeading e = refl
 opening_sizes_are (opening.Log said) (lines.LogHeading sent first_parents items paths) e = sym e.1
 opening_sizes_are said h e = absurd e
 
-pub heading_sizes_are : (said : Heading) (h : lines.Heading) → IsHeading said h → lines.sizes h ≡ heading_sizes said
+pub heading_sizes_are : (said : Heading) (h : lines.Heading) → IsHeading said h → wording.sizes h ≡ heading_sizes said
 heading_sizes_are (heading.Opening said) h e = opening_sizes_are said h e
 heading_sizes_are (heading.Parent word) (lines.ParentHeading w) e = refl
 heading_sizes_are (heading.To to) (lines.ToHeading name expect word) e = refl
@@ -104,9 +105,9 @@ field_later_stops sizes done size later place e ys cause bad =
 pub fields_stop : (p q : Place) (said : Heading) (xs : Bytes) (t : TakesLine p said q xs) (ys : Bytes) (cause : Cause) → ((place : table.Place) → StopsFrom (heading_sizes said) place ys cause)
     → StopsFrom [] (place_of p) (xs ++ ys) cause
 fields_stop p q said xs t ys cause bad =
-    stops_after [] (heading_sizes said) (place_of p) (place_of q) (spelling.Line (lines.words_of t.heading) ∷ []) xs ys cause
+    stops_after [] (heading_sizes said) (place_of p) (place_of q) (spelling.Line (wording.words_of t.heading) ∷ []) xs ys cause
     (leads_line (place_of p) (place_of q) t.heading [] t.stands t.known t.sized ∙ ap (λ s. Some (at s (place_of q))) (heading_sizes_are said t.heading t.is))
-    (t.spelled ∙ sym (append-nil (spelling.part_text (spelling.Line (lines.words_of t.heading)))))
+    (t.spelled ∙ sym (append-nil (spelling.part_text (spelling.Line (wording.words_of t.heading)))))
     (bad (place_of q))
 
 -- ---- the text of the fields

@@ -10,7 +10,7 @@ use Rattle.history_model.specs.Bytes.{Bytes, has_byte, is_empty}
 use Rattle.history_model.specs.Spelling.{Line, is_word, is_part, max_line}
 use Rattle.history_model.specs.Lines as lines
 use Rattle.history_word.specs.LineTable as table
-use Rattle.history_model.specs.Lines.{words_of}
+use Rattle.history_model.specs.LineWords.{words_of}
 use Rattle.history_word.specs.LineTable.{heading_of, number_of}
 use Rattle.history_word.specs.TableRuns.{IsLineAt}
 use Rattle.history_word.proofs.TableLaws.{number_decimal, decimal_number, heading_told, heading_reads, heading_words, some_words}

@@ -1,5 +1,5 @@
 -- What the words of a log's line say, word by word.
-use Rattle.std.proofs.Common.{◌≡◌, ◌≢◌, ℕ, Bool, true, false, not, ◌&&◌, ◌||◌, List, [], ◌∷◌, ◌++◌, Option, Some, None, Vec, Global, refl, sym, ap, subst, ◌∙◌, append_assoc, append-nil, if◌then◌else◌, option_map, option_and_then, bytes_eq, codes}
+use Rattle.std.proofs.Common.{◌≡◌, ◌≢◌, Bool, true, false, not, ◌&&◌, ◌||◌, List, [], ◌∷◌, ◌++◌, Option, Some, None, Vec, Global, refl, sym, ap, subst, ◌∙◌, append_assoc, if◌then◌else◌, option_map, option_and_then, bytes_eq, codes}
 use Rattle.std.specs.Prelude.{IfSome, MatchOption}
 use Rattle.std.specs.List.{AllZip, list_all, list_any}
 use Rattle.history_model.specs.Bytes.{Bytes, is_empty}
@@ -12,7 +12,6 @@ use Rattle.history_word.specs.Commands.{IsOrder, IsLogItem}
 use Rattle.history_word.specs.Drafts.{SaysLog, SaysOrder, SaysItems, item_with}
 use Rattle.history_word.specs.declared.command.Order.{Order}
 use Rattle.history_word.specs.declared.command.LogItem.{LogItem}
-use Rattle.history_word.specs.Sizes.{listed}
 use Rattle.history_word.specs.declared.logs.LogLine.{LogLine}
 use Rattle.history_word.specs.declared.sizes.Sizes.{Sizes}
 use Rattle.history_word.proofs.PushLemmas.{pushed_zip}
@@ -98,22 +97,6 @@ one_more all words left word old new x has_tip tip target h split e some is push
 }
 
 -- ---- at the end, or at a word that is no item
-
-come_to : (all words : List Bytes) (items : Option (Vec LogItem Global)) (has_tip : Bool) (paths : List ℕ) (h : HaveCome all words items has_tip) → items_of words ≡ Some ([], paths) → items_of all ≡ Some (h.done, paths)
-come_to all words items has_tip paths h e = h.said ∙ ap (before h.done) e ∙ ap (λ done. Some (done, paths)) (append-nil h.done)
-
-pub all_come : (all words : List Bytes) (items : Option (Vec LogItem Global)) (has_tip : Bool) (sizes : Sizes) → HaveCome all words items has_tip → items_of words ≡ Some ([], listed sizes) → has_tip ≡ true → SaysItems (Some (items, sizes)) (items_of all)
-all_come all words items has_tip sizes h e tip =
-    subst (SaysItems (Some (items, sizes))) (sym (come_to all words items has_tip (listed sizes) h e)) (and_from (list_any is_tip h.done) (list_all has_target h.done) (h.begins ∙ tip) h.whole, h.kept, refl)
-
-pub no_tip_came : (all words : List Bytes) (items : Option (Vec LogItem Global)) (has_tip : Bool) (sizes : Sizes) → HaveCome all words items has_tip → items_of words ≡ Some ([], listed sizes) → has_tip ≡ false → SaysItems None (items_of all)
-no_tip_came all words items has_tip sizes h e tip = subst (SaysItems None) (sym (come_to all words items has_tip (listed sizes) h e)) (ap (λ b. b && list_all has_target h.done) (h.begins ∙ tip))
-
-pub none_left : (words : List Bytes) (sizes : Sizes) → listed sizes ≡ [] → words ≡ [] → items_of words ≡ Some ([], listed sizes)
-none_left words sizes none e = ap items_of e ∙ ap (λ ns. Some ([], ns)) (sym none)
-
-pub paths_left : (words left : List Bytes) (word : Bytes) (sizes : Sizes) → words ≡ word ∷ left → word ≡ codes "path" → Some (listed sizes) ≡ paths_of (codes "path" ∷ left) → items_of words ≡ Some ([], listed sizes)
-paths_left words left word sizes split is told = ap items_of (split ∙ ap (λ w. w ∷ left) is) ∙ ap (option_map (λ ns. ([], ns))) (sym told)
 
 -- words that say no items say none after others
 pub none_said : (all words : List Bytes) (items : Option (Vec LogItem Global)) (has_tip : Bool) → HaveCome all words items has_tip → items_of words ≡ None → SaysItems None (items_of all)

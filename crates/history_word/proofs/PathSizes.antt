@@ -1,5 +1,5 @@
 -- The sizes that words say, each after the word `path`.
-use Rattle.std.proofs.Common.{◌≡◌, ℕ, ◌+◌, ◌*◌, ◌≤◌, ◌<◌, List, [], ◌∷◌, ◌++◌, length, Option, Some, None, refl, sym, ap, ◌∙◌, append_assoc, append-nil, if◌then◌else◌, option_map, option_and_then, bytes_eq, codes, false, arith}
+use Rattle.std.proofs.Common.{◌≡◌, ℕ, ◌+◌, ◌*◌, ◌≤◌, ◌<◌, List, [], ◌∷◌, ◌++◌, length, Option, Some, None, refl, sym, ap, ◌∙◌, append_assoc, if◌then◌else◌, option_map, option_and_then, codes, arith}
 use Rattle.std.proofs.lemmas.List.{length-append}
 use Rattle.history_model.specs.Bytes.{Bytes}
 use Rattle.history_word.specs.LineTable.{paths_of, number_of}
@@ -39,38 +39,3 @@ next_size all words behind left word size n done new h split is follows e added 
   told = h.told ∙ ap (λ ws. sizes_before done (paths_of ws)) (split ∙ (λ i. is i ∷ follows i)) ∙ ap (sizes_before done) (path_told size left n e) ∙ one_more done n (paths_of left) ∙ ap (λ done. sizes_before done (paths_of left)) (sym added);
   room = omega (arith, h.room, ap words_size split, ap words_size follows, four, some_digit size n e, ap length added, length-append done (n ∷ []));
 }
-
--- there is room for one more
-pub one_fits : (all words behind left : List Bytes) (word size : Bytes) (n : ℕ) (done : List ℕ) → HaveSizes all words done → words ≡ word ∷ behind → word ≡ codes "path" → behind ≡ size ∷ left → number_of size ≡ Some n → length done < 586
-one_fits all words behind left word size n done h split is follows e =
-    let four : length word ≡ 4 = ap length is in
-    omega (arith, h.room, ap words_size split, ap words_size follows, four, some_digit size n e)
-
-pub all_told : (all left : List Bytes) (done : List ℕ) → HaveSizes all left done → left ≡ [] → Some done ≡ paths_of (codes "path" ∷ all)
-all_told all left done h none = sym (h.told ∙ ap (λ ws. sizes_before done (paths_of ws)) none ∙ ap Some (append-nil done))
-
--- ---- if no size is said
-
-pub no_first : (all : List Bytes) → all ≡ [] → None ≡ paths_of (codes "path" ∷ all)
-no_first all none = sym (ap (λ ws. paths_of (codes "path" ∷ ws)) none)
-
-pub bad_first : (all left : List Bytes) (size : Bytes) → all ≡ size ∷ left → number_of size ≡ None → None ≡ paths_of (codes "path" ∷ all)
-bad_first all left size split e = sym (ap (λ ws. paths_of (codes "path" ∷ ws)) split ∙ ap (option_and_then (λ n. option_map (λ ns. n ∷ ns) (paths_of left))) e)
-
--- nor after other sizes
-none_behind : (all words : List Bytes) (done : List ℕ) → HaveSizes all words done → paths_of words ≡ None → None ≡ paths_of (codes "path" ∷ all)
-none_behind all words done h none = sym (h.told ∙ ap (sizes_before done) none)
-
-pub other_word : (all words behind : List Bytes) (word : Bytes) (done : List ℕ) → HaveSizes all words done → words ≡ word ∷ behind → bytes_eq word (codes "path") ≡ false → None ≡ paths_of (codes "path" ∷ all)
-other_word all words behind word done h split other = none_behind all words done h (ap paths_of split ∙ none behind)
-  where
-    none : (behind : List Bytes) → paths_of (word ∷ behind) ≡ None
-    none [] = refl
-    none (size ∷ left) = ap (λ b. if b then option_and_then (λ n. option_map (λ ns. n ∷ ns) (paths_of left)) (number_of size) else None) other
-
-pub no_next : (all words behind : List Bytes) (word : Bytes) (done : List ℕ) → HaveSizes all words done → words ≡ word ∷ behind → word ≡ codes "path" → behind ≡ [] → None ≡ paths_of (codes "path" ∷ all)
-no_next all words behind word done h split is none = none_behind all words done h (ap paths_of (split ∙ (λ i. is i ∷ none i)))
-
-pub bad_next : (all words behind left : List Bytes) (word size : Bytes) (done : List ℕ) → HaveSizes all words done → words ≡ word ∷ behind → word ≡ codes "path" → behind ≡ size ∷ left → number_of size ≡ None → None ≡ paths_of (codes "path" ∷ all)
-bad_next all words behind left word size done h split is follows e =
-    none_behind all words done h (ap paths_of (split ∙ (λ i. is i ∷ follows i)) ∙ ap (option_and_then (λ n. option_map (λ ns. n ∷ ns) (paths_of left))) e)

@@ -7,14 +7,15 @@ use Rattle.std.proofs.lemmas.List.{length-append, length-take, take_more, take-a
 use Rattle.history_model.specs.Bytes.{Bytes, line}
 use Rattle.history_model.specs.Spelling.{Part, Line, Field, part_text, parts_text, is_part}
 use Rattle.history_model.specs.Stage.{opens}
-use Rattle.history_model.specs.Lines.{Heading, words_of, sizes, are_sizes}
+use Rattle.history_model.specs.Lines.{Heading}
+use Rattle.history_model.specs.LineWords.{words_of, sizes, are_sizes}
 use Rattle.history_word.specs.LineTable.{heading_of, Place, Start, Done}
 use Rattle.history_word.specs.TableRuns.{at, run_from, next_offered, StopsAt, IsLineAt}
 use Rattle.history_model.specs.declared.Cause.{Cause}
 use Rattle.history_model.specs.declared.Cause.TheVariants.{Syntax, Truncated, LineTooLong}
 use Rattle.history_word.proofs.TableLaws.{line_goes, field_goes, run_append, heading_reads, heading_words, some_words, line_words, table_tells_stops}
 use Rattle.history_word.specs.Held.{IsLineOf}
-use Rattle.history_word.specs.Progress.{IsEndless, IsNoField, StopsFrom, IsCauseOf}
+use Rattle.history_word.specs.Progress.{IsNoField, StopsFrom, IsCauseOf}
 use Rattle.std.proofs.lemmas.Option.{same_Some}
 
 -- ---- what was taken leads on
@@ -56,11 +57,6 @@ field_stops size fields place bytes Syntax h = (
   h.1,
 )
 field_stops size fields place bytes cause h = absurd h
-
-pub endless_stops : (place : Place) (bytes : Bytes) (cause : Cause) → place ≢ Done → IsEndless bytes cause → StopsAt [] place bytes cause
-endless_stops place bytes Truncated live h = (live, h.0, h.1)
-endless_stops place bytes LineTooLong live h = (live, h.0, h.1)
-endless_stops place bytes cause live h = absurd h
 
 pub line_taken : (n : ℕ) (xs : Bytes) → IsLineOf n xs → take (n + 1) xs ≡ line (take n xs)
 line_taken n xs h = take_more xs n 0 h.within ∙ ap (λ b. take n xs ++ b ∷ []) h.ends

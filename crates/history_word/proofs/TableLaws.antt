@@ -12,7 +12,6 @@ pub use Rattle.history_word.proofs.TableLines.{words_are_headings, expect_told, 
 pub use Rattle.history_word.proofs.TableRunLemmas.{LineStep, line_step, line_goes, field_step, field_goes, run_append, parts_fit}
 pub use Rattle.history_word.proofs.TableReaches.{run_on, step_on, step_of}
 pub use Rattle.history_word.proofs.TableRests.{line_words, line_words_of, heading_words, some_words, text_on}
-pub use Rattle.history_word.proofs.TableWords.{split_words_are_words, line_spelled, line_reads, line_has_words, rest_has_cause}
 
 pub table_tells_stops : TableTellsStops opens
 table_tells_stops = stops.table_tells_stops opens refl

@@ -9,7 +9,8 @@ use Rattle.history_model.specs.Commands.{Expect, Any, New, At, Order, Breadth, N
 use Rattle.history_model.specs.Spelling.{expect_words, kind_word, option_list, order_words, parents_word, item_word}
 use Rattle.history_model.specs.declared.FileKind.{FileKind}
 use Rattle.history_model.specs.declared.FileKind.TheVariants.{File, Exec, Link}
-use Rattle.history_model.specs.Lines.{Role, Author, Committer, Tagger, Mover, Heading, CommitHeading, ParentHeading, PutHeading, RemoveHeading, RemoveFileHeading, GraftHeading, ActorHeading, MessageHeading, EndHeading, TagHeading, MoveHeading, ToHeading, RenameHeading, DeleteHeading, SwitchHeading, PackHeading, IndexHeading, NamesHeading, FilesHeading, PastHeading, LogHeading, ShowHeading, role_word, size_words, words_of, sizes, are_sizes}
+use Rattle.history_model.specs.Lines.{Role, Author, Committer, Tagger, Mover, Heading, CommitHeading, ParentHeading, PutHeading, RemoveHeading, RemoveFileHeading, GraftHeading, ActorHeading, MessageHeading, EndHeading, TagHeading, MoveHeading, ToHeading, RenameHeading, DeleteHeading, SwitchHeading, PackHeading, IndexHeading, NamesHeading, FilesHeading, PastHeading, LogHeading, ShowHeading}
+use Rattle.history_model.specs.LineWords.{role_word, size_words, words_of, sizes, are_sizes}
 use Rattle.history_word.specs.LineTable.{number_of, kind_of, expect_of, end_of_words, word_of_words, size_of_words, commit_of_words, put_of_words, graft_of_words, actor_of_words, show_of_words, target_of_words, rename_of_words, delete_of_words, names_of_words, since_of, order_of, first_parents_of, item_of, Items, paths_of, with_item, items_of, walk_of_words, log_of_words, name_heading_of, heading_of, WordsAreHeadings}
 use Rattle.history_model.proofs.PartLemmas.{below}
 use Rattle.std.proofs.lemmas.Bool.{and_from, eqb-true, and_parts}

@@ -8,7 +8,8 @@ use Rattle.history_model.specs.Spelling.{Part, Line, Field, parts_of, edit_parts
 use Rattle.history_model.specs.Commands as commands
 use Rattle.history_model.specs.Grammar.{GoesOnOf, LineStandsOf, FieldStandsOf, LineFitsOf}
 use Rattle.history_word.specs.LineTable as whole
-use Rattle.history_model.specs.Lines.{Role, Author, Committer, Tagger, Mover, Heading, CommitHeading, ParentHeading, PutHeading, RemoveHeading, RemoveFileHeading, GraftHeading, ActorHeading, MessageHeading, EndHeading, TagHeading, MoveHeading, ToHeading, RenameHeading, DeleteHeading, SwitchHeading, PackHeading, IndexHeading, NamesHeading, FilesHeading, PastHeading, LogHeading, ShowHeading, role_word, words_of, size_words, sizes, are_sizes, first_line}
+use Rattle.history_model.specs.Lines.{Role, Author, Committer, Tagger, Mover, Heading, CommitHeading, ParentHeading, PutHeading, RemoveHeading, RemoveFileHeading, GraftHeading, ActorHeading, MessageHeading, EndHeading, TagHeading, MoveHeading, ToHeading, RenameHeading, DeleteHeading, SwitchHeading, PackHeading, IndexHeading, NamesHeading, FilesHeading, PastHeading, LogHeading, ShowHeading, first_line}
+use Rattle.history_model.specs.LineWords.{role_word, words_of, size_words, sizes, are_sizes}
 use Rattle.history_word.specs.LineTable.{Place, Start, Parents, Edits, ToCommitter, ToTagger, ToFirst, ToMore, ToMessage, ToEnd, Done, next_edit}
 use Rattle.history_word.specs.TableRuns.{Progress, at, begin, done, is_told, next_of, part_step_of, run_from_of, reached_of, IsLineAtOf}
 use Rattle.std.proofs.lemmas.List.{length-replicate}

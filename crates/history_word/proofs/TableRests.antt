@@ -9,7 +9,8 @@ use Rattle.history_model.specs.Grammar.{LineFitsOf, FieldStandsOf, StopsByOf, Ha
 use Rattle.history_model.specs.laws.Grammars.{RestBeginsOrHasCause}
 use Rattle.history_model.specs.declared.Cause.{Cause}
 use Rattle.history_model.specs.declared.Cause.TheVariants.{Syntax, Truncated, LineTooLong}
-use Rattle.history_model.specs.Lines.{Heading, CommitHeading, ParentHeading, PutHeading, RemoveHeading, RemoveFileHeading, GraftHeading, ActorHeading, MessageHeading, EndHeading, TagHeading, MoveHeading, ToHeading, RenameHeading, DeleteHeading, SwitchHeading, PackHeading, IndexHeading, NamesHeading, FilesHeading, PastHeading, LogHeading, ShowHeading, words_of}
+use Rattle.history_model.specs.Lines.{Heading, CommitHeading, ParentHeading, PutHeading, RemoveHeading, RemoveFileHeading, GraftHeading, ActorHeading, MessageHeading, EndHeading, TagHeading, MoveHeading, ToHeading, RenameHeading, DeleteHeading, SwitchHeading, PackHeading, IndexHeading, NamesHeading, FilesHeading, PastHeading, LogHeading, ShowHeading}
+use Rattle.history_model.specs.LineWords.{words_of}
 use Rattle.history_word.specs.LineTable.{Place, Start, Done}
 use Rattle.history_word.specs.TableRuns.{Progress, at, is_told, part_step_of, reached_of}
 use Rattle.history_word.proofs.TableRunLemmas.{line_goes, commands_run}

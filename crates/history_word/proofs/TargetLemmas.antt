@@ -1,5 +1,5 @@
 -- What is expected of a name, and the lines that say it.
-use Rattle.std.proofs.Common.{◌≡◌, List, [], ◌∷◌, ◌++◌, Option, Some, None, refl, sym, ap, subst, ◌∙◌, append_assoc, option_map, Vec, Global, ℕ}
+use Rattle.std.proofs.Common.{◌≡◌, List, [], ◌∷◌, ◌++◌, Option, Some, None, refl, sym, ap, subst, ◌∙◌, option_map, Vec, Global, ℕ}
 use Rattle.std.specs.Prelude.{IfSome, MatchOption, IsSomeAnd}
 use Rattle.std.proofs.lemmas.List.{append-nil}
 use Rattle.history_model.specs.Bytes.{Bytes}
@@ -48,9 +48,6 @@ commit_bare words rest name split says =
     subst (λ ws. Says None (commit_of_words ws)) (sym split) (subst (λ o. Says None (option_map (lines.CommitHeading name) o)) (sym (no_expect rest says)) tt)
 
 -- ---- a name that is to move
-
-assoc : (e : model.Expect) (more : List Bytes) (word : Bytes) → (expect_words e ++ more) ++ word ∷ [] ≡ expect_words e ++ (more ++ word ∷ [])
-assoc e more word = append_assoc (expect_words e) more (word ∷ [])
 
 -- words that aren't such a name's say no line
 bare_none : (g : Bytes → model.Expect → Bytes → lines.Heading) (words : List Bytes) → SaysTarget None words → target_of_words g words ≡ None

@@ -3,7 +3,7 @@ use Rattle.std.proofs.Common.{◌≡◌, ◌⊎◌, inl, inr, ℕ, zero, suc, �
 use Rattle.std.specs.Prelude.{nat_le}
 use borrow.Author.Tests.{leb-true}
 use Rattle.std.proofs.Math.ListN.{get_or-append}
-use Rattle.std.proofs.lemmas.List.{take-append-drop, take-append-le, take_all, length-take, length-drop, get_or-take, get_or-drop}
+use Rattle.std.proofs.lemmas.List.{take-append-le, take_all, length-take, length-drop, get_or-take, get_or-drop}
 use Rattle.std.proofs.Math.Seq.{take-add}
 use Rattle.std.proofs.lemmas.Bool.Decides.{nat_tests}
 use Rattle.history_model.specs.Bytes.{has_byte}
@@ -23,9 +23,6 @@ unbroken_front a b h = (or_parts (has_byte 10 a) (has_byte 10 b) (sym (has_byte-
 
 pub unbroken_both : (a b : List ℕ) → IsUnbroken a → IsUnbroken b → IsUnbroken (a ++ b)
 unbroken_both a b h k = has_byte-append 10 a b ∙ or_from (has_byte 10 a) (has_byte 10 b) h k
-
-pub unbroken_take : (n : ℕ) (xs : List ℕ) → IsUnbroken xs → IsUnbroken (take n xs)
-unbroken_take n xs h = unbroken_front (take n xs) (drop n xs) (subst IsUnbroken (sym (take-append-drop n xs)) h)
 
 -- fewer bytes of the front
 pub unbroken_less : (m n : ℕ) (xs : List ℕ) → m ≤ n → IsUnbroken (take n xs) → IsUnbroken (take m xs)

@@ -6,6 +6,7 @@ use Rattle.history_model.specs.Bytes.{Bytes, line}
 use Rattle.history_model.specs.Commands as model
 use Rattle.history_model.specs.Spelling as spelling
 use Rattle.history_model.specs.Lines as lines
+use Rattle.history_model.specs.LineWords as wording
 use Rattle.history_word.specs.LineTable as table
 use Rattle.history_word.specs.TableRuns as runs
 use Rattle.history_word.specs.Commands.{IsEdit, IsActor, ArePaths, IsLog}
@@ -102,17 +103,17 @@ HasCome place.Done d parts =
 -- the line, without its line feed, is one of the table's
 pub record IsLine (line : Heading) (text : Bytes) : Type 0 where
   pub heading : lines.Heading
-  pub spelled : text ≡ join_with_byte 32 (lines.words_of heading)
-  pub known : IsTrue (spelling.is_part (spelling.Line (lines.words_of heading)))
-  pub sized : IsTrue (lines.are_sizes (lines.sizes heading))
+  pub spelled : text ≡ join_with_byte 32 (wording.words_of heading)
+  pub known : IsTrue (spelling.is_part (spelling.Line (wording.words_of heading)))
+  pub sized : IsTrue (wording.are_sizes (wording.sizes heading))
   pub is : IsHeading line heading
 
 -- the line was taken, and leads from the one place to the other
 pub record TakesLine (place : Place) (line : Heading) (next : Place) (taken : Bytes) : Type 0 where
   pub heading : lines.Heading
-  pub spelled : taken ≡ spelling.part_text (spelling.Line (lines.words_of heading))
-  pub known : IsTrue (spelling.is_part (spelling.Line (lines.words_of heading)))
-  pub sized : IsTrue (lines.are_sizes (lines.sizes heading))
+  pub spelled : taken ≡ spelling.part_text (spelling.Line (wording.words_of heading))
+  pub known : IsTrue (spelling.is_part (spelling.Line (wording.words_of heading)))
+  pub sized : IsTrue (wording.are_sizes (wording.sizes heading))
   pub stands : runs.next_offered (place_of place) heading ≡ Some (place_of next)
   pub is : IsHeading line heading
 
@@ -139,7 +140,7 @@ heading_sizes _ = []
 
 -- a line, and these fields after it
 abbrev pub parts_with : lines.Heading → List Bytes → List spelling.Part
-parts_with heading fields = spelling.Line (lines.words_of heading) ∷ map spelling.Field fields
+parts_with heading fields = spelling.Line (wording.words_of heading) ∷ map spelling.Field fields
 
 -- the line of an edit, and the fields that follow it
 abbrev pub edit_heading : model.EditLine → lines.Heading

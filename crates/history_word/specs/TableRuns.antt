@@ -6,7 +6,8 @@ use Rattle.std.specs.Option.{option_and_then}
 use Rattle.history_model.specs.Bytes.{Bytes, has_byte, line}
 use Rattle.history_model.specs.Commands.{Command}
 use Rattle.history_model.specs.Spelling.{Part, Line, Field, is_part, parts_of, has_spelling, max_line}
-use Rattle.history_model.specs.Lines.{Heading, words_of, sizes, are_sizes, first_line}
+use Rattle.history_model.specs.Lines.{Heading, first_line}
+use Rattle.history_model.specs.LineWords.{words_of, sizes, are_sizes}
 use Rattle.history_model.specs.Stage.{opens}
 use Rattle.history_model.specs.Grammar.{GoesOnOf, LineStandsOf, FieldStandsOf, LineFitsOf, StopsByOf}
 use Rattle.history_word.specs.LineTable.{heading_of, Place, Start, Done, next}
@@ -94,9 +95,6 @@ module _ (is_known : Heading → Bool) where
 
 abbrev pub next_offered : Place → Heading → Option Place
 next_offered = next_of opens
-
-abbrev pub part_step : List ℕ → Place → Part → Option Progress
-part_step = part_step_of opens
 
 abbrev pub run_from : Progress → List Part → Option Progress
 run_from = run_from_of opens

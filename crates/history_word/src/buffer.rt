@@ -1,4 +1,4 @@
-//! The bytes that were read from a source and not yet taken.
+//! The buffer over a source: bytes read and not yet taken, the end of its first line, and a count of readings.
 
 ghost use Rattle.std.specs.Prelude.{◌≡◌, ◌≢◌, ◌-◌, ◌^◌, ◌+◌, ◌<◌, ◌≤◌, ◌⊎◌, true, [], length, take, drop, IfOk, OnErr, IfSome, IfNone};
 ghost use Rattle.std.specs.Bool.{MatchBool};
@@ -15,7 +15,7 @@ const ROOM: usize = 8_192;
 
 /// Returns the count of readings after this one, which gave so many bytes. A reading that gave none
 /// isn't counted, since it ends a run; but the last that a `u64` counts is, whatever it gave.
-fn counted(before: u64, reading: u64, count: usize) -> u64
+fn readings_after(before: u64, reading: u64, count: usize) -> u64
     ensures gave { 0 < count → result ≡ reading }
     ensures idle { count ≡ 0 → reading ≢ 2 ^ 64 - 1 → result ≡ before }
     ensures last { reading ≡ 2 ^ 64 - 1 → result ≡ reading }
@@ -135,7 +135,7 @@ impl Buffer {
         let end = self.end;
         let count = source.read(&mut self.bytes[end..])?;
         self.end += count;
-        self.readings = counted(self.readings, readings, count);
+        self.readings = readings_after(self.readings, readings, count);
         if readings == u64::MAX {
             return Err(Broken);
         }

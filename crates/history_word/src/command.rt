@@ -1,4 +1,4 @@
-//! The commands of the program, as they are read.
+//! The commands of the program as they are read, and their fields: what is kept of one, and what changes files.
 
 use history_model::FileKind;
 use history_model::limits::MAX_TITLE;

@@ -1,4 +1,4 @@
-//! A command that is being read: the parts that it has so far.
+//! A command that is being read: parts are added to a draft, items to lists; edits and actors of their fields.
 
 ghost use Rattle.std.specs.Prelude.{◌≡◌, [], ◌∷◌, ◌++◌, None, Some, IfSome, MatchOption, Option};
 ghost use Rattle.history_model.specs.Bytes.{Bytes};

@@ -1,4 +1,4 @@
-//! What the first line of a part says.
+//! Parses a line that begins a part (`commit`, `put`, `author`, ..) into a `Heading`, with copies of its words.
 
 ghost use Rattle.std.specs.Prelude.{◌≡◌, ◌∷◌, ◌≤◌, length, IfSome, IfNone, OnSome, IsTrue};
 ghost use Rattle.history_model.specs.Lines.{ParentHeading, RemoveHeading, RemoveFileHeading, MessageHeading, EndHeading, MoveHeading, FilesHeading, PastHeading, SwitchHeading, PackHeading, IndexHeading};
@@ -373,7 +373,7 @@ fn delete(alloc: Global, words: &mut Words) -> Option<Heading>
 }
 
 /// Returns what a line says that begins with this word and is about names or a log.
-fn said_of_names(alloc: Global, first: &[u8], words: &mut Words) -> Option<Heading>
+fn heading_of_name_line(alloc: Global, first: &[u8], words: &mut Words) -> Option<Heading>
     ensures { Says result (name_heading_of first.now (left words.old)) }
 {
     if first == b"tag".as_slice() {
@@ -408,7 +408,7 @@ fn said_of_names(alloc: Global, first: &[u8], words: &mut Words) -> Option<Headi
 }
 
 /// Returns what the line says, of whose words none is empty.
-fn said(alloc: Global, line: &[u8]) -> Option<Heading>
+fn heading_of_line(alloc: Global, line: &[u8]) -> Option<Heading>
     requires { length line.now ≤ max_line }
     ensures { Says result (heading_of (split_words line.now)) }
 {
@@ -439,7 +439,7 @@ fn said(alloc: Global, line: &[u8]) -> Option<Heading>
     } else if first == b"show".as_slice() {
         show(alloc, &mut words)
     } else {
-        said_of_names(alloc, first, &mut words)
+        heading_of_name_line(alloc, first, &mut words)
     }
 }
 
@@ -454,5 +454,5 @@ pub(crate) fn parse(alloc: Global, line: &[u8]) -> Option<Heading>
     if !are_words(line) {
         return None;
     }
-    said(alloc, line)
+    heading_of_line(alloc, line)
 }

@@ -1,4 +1,4 @@
-//! Laws of the table of lines, over the definitions alone: of all commands, and of those offered.
+//! Laws of the table of lines: what it has a step for, its places and fields, and the causes of rests.
 
 ghost use Rattle.history_word.specs.LineTable.{WordsAreHeadings};
 ghost use Rattle.history_word.specs.TableRuns.{all_lines, TableTellsCommands, TableTellsWhatGoesOn, TableTellsFields, TableTellsLines, TableTellsWhatFits, TableTellsStops, TableTakesLines, TableTakesFields};

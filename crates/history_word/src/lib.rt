@@ -1,4 +1,4 @@
-//! Where the program's bytes come from and go to, and the reader that makes commands of them.
+//! Sources and sinks of the program's bytes, the reader that makes commands of them, and the lines of replies.
 #![tactic(auto)]
 
 mod buffer;

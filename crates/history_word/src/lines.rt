@@ -1,4 +1,4 @@
-//! The lines and the fields of replies.
+//! Writes replies: a line of words, a field, and the word for a file's kind.
 
 ghost use Rattle.std.specs.Prelude.{◌≡◌, ◌∷◌, ◌++◌, map, OnOk};
 ghost use Rattle.std.specs.List.{flat_map};

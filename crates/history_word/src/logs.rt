@@ -1,4 +1,4 @@
-//! What a line of `log` says.
+//! Parses what follows `log`: the order, whether by first parents, tips, hidden words, and sizes of paths.
 
 ghost use Rattle.std.specs.Prelude.{◌≡◌, ◌≢◌, List, [], ◌∷◌, codes, Some, IfSome, IfNone, option_map};
 ghost use Rattle.history_model.specs.Bytes.{Bytes};

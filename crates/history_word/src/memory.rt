@@ -1,4 +1,4 @@
-//! A reader over bytes in memory and a writer into memory.
+//! Bytes in memory as a source (`Bytes`), and a vector of what is written as a sink (`Collected`).
 
 ghost use Rattle.std.specs.Prelude.{◌≡◌, Some, false, [], ◌≤◌, length, take, drop, min, IsOk, is_err};
 

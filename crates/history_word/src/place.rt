@@ -1,4 +1,4 @@
-//! Which line may come next.
+//! Which line of a command may come next: the place after its first line, after an actor's, after any other.
 
 ghost use Rattle.std.specs.Prelude.{◌≡◌, ℕ, Some, option_map};
 ghost use Rattle.history_model.specs.Bytes.{Bytes};

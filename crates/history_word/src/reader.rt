@@ -1,4 +1,4 @@
-//! Reads one command: its lines and its fields.
+//! Reads one command: its lines, its fields, edits, paths and actors, or why none was read (`Stop`).
 
 ghost use Rattle.std.specs.Prelude.{◌≡◌, ◌≢◌, ◌<◌, ℕ, List, [], ◌∷◌, ◌++◌, length, IfSome};
 ghost use Rattle.history_model.specs.Bytes.{Bytes, line};
@@ -135,7 +135,7 @@ fn read_field<R: Source>(
             return Err(Stop::Refused(Cause::Truncated));
         }
         let count = rest.min(buffer.unread().len() as u64) as usize;
-        field = added(field, &buffer.unread()[..count]);
+        field = field_with_bytes(field, &buffer.unread()[..count]);
         buffer.skip(count);
         rest -= count as u64;
     }
@@ -150,7 +150,7 @@ fn read_field<R: Source>(
 }
 
 /// Returns the field with its next bytes, if there is memory for them.
-fn added(field: Option<Field>, bytes: &[u8]) -> Option<Field>
+fn field_with_bytes(field: Option<Field>, bytes: &[u8]) -> Option<Field>
     ensures { (limit size : ℕ) (front : Bytes)
         → IfSome field (λ kept. KeepsFront limit size kept front)
         → IfSome result (λ kept. KeepsFront limit size kept (front ++ bytes.now)) }

@@ -1,4 +1,4 @@
-//! The sizes of the fields that follow a line of `log`.
+//! The sizes of the fields that follow a line of `log`: a list of fixed room, which takes no memory.
 
 ghost use Rattle.std.specs.Prelude.{◌≤◌, ◌≡◌, length};
 ghost use Rattle.history_word.specs.Lines.{max_sizes};

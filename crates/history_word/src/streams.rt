@@ -1,4 +1,4 @@
-//! Where the bytes come from, and where they go to.
+//! The traits of a source and a sink of bytes (`Source`, `Sink`), and the writing of all of some bytes.
 
 ghost use Rattle.std.specs.Prelude.{◌≡◌, ℕ, List, Option, Bool, true, ◌<◌, length, IfOk, OnOk, OnErr, is_err};
 ghost use Rattle.std.specs.Io.{ReadsAtMost, WritesAtMost};

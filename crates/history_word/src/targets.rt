@@ -1,4 +1,4 @@
-//! What is expected of a name, and what the lines `tag` and `to` say.
+//! Parses what is expected of a name (`any`, `new`, `at`), and what follows `tag` and `to`.
 
 ghost use Rattle.std.specs.Prelude.{◌≡◌, IfSome};
 ghost use Rattle.history_model.specs.Commands as model;

@@ -1,4 +1,4 @@
-//! The words of a line.
+//! The words of a line, one after another, and a word as a number or as a file's kind.
 
 ghost use Rattle.std.specs.Prelude.{◌≡◌, ◌↔◌, ◌≤◌, ◌+◌, ℕ, [], ◌∷◌, length, Bool, true, IsTrue, MatchOption, IfSome, IfNone};
 ghost use Rattle.std.specs.Option.{option_copied};

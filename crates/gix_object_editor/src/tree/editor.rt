@@ -1,4 +1,4 @@
-//! Edits of a tree and the trees below it.
+//! `Editor`: made of a root, its store and lookups, its calls `get`, `remove`, `remove_leaf`, `upsert`, `graft`.
 
 ghost use Rattle.std.specs.Prelude.{◌≡◌, map, option_map, IfOk, IfErr, OnOk, OnErr, ⊤};
 ghost use Rattle.std.specs.Borrow.{sem};

@@ -1,4 +1,4 @@
-//! Handing out the trees below an opened one.
+//! Handing out the changed trees below an opened one to be written, each after those that lie in it.
 
 ghost use Rattle.std.specs.Prelude.{◌≡◌, ◌<◌, ◌+◌, List, [], length, IfOk, IfErr};
 ghost use Rattle.std.specs.List.{FoldsTo};

@@ -1,4 +1,4 @@
-//! The entries of an opened tree, as they are written.
+//! The `Tree` that an opened one is written as: its entries in Git's order, none with a null id.
 
 ghost use Rattle.std.specs.Prelude.{◌≡◌, ◌<◌, ℕ, Some, length, map, IfOk};
 ghost use Rattle.std.specs.Option.{option_map};

@@ -1,4 +1,4 @@
-//! Which changed trees another still leads down to.
+//! Which changed trees an opened one still leads down to, each marked in turn; edits may have cut off others.
 
 ghost use Rattle.std.specs.Prelude.{◌≡◌, ◌<◌, ◌↔◌, ◌⊎◌, ℕ, Some, length, slice_index_or, true, false, IfOk, IsTrue};
 ghost use Rattle.gix_object_nodes.specs.Files.{Bytes, Path};
@@ -24,14 +24,14 @@ pub(crate) fn reached(nodes: &[Node], from: NodeId, alloc: Global) -> Result<Vec
     marks[from.0] = true;
     for (i, node) in nodes.iter().enumerate() {
         if marks[i] {
-            mark(nodes, node, marks.as_mut_slice());
+            mark_children(nodes, node, marks.as_mut_slice());
         }
     }
     Ok(marks)
 }
 
 // Marks the changed trees that lie in a tree.
-fn mark(nodes: &[Node], node: &Node, marks: &mut [bool])
+fn mark_children(nodes: &[Node], node: &Node, marks: &mut [bool])
     requires opened { (m : Bytes) (c : ℕ) → child_of (slot_in node.now m) ≡ Some c
         → c < length nodes.now }
     requires within { (m : Bytes) (c : ℕ) → child_of (slot_in node.now m) ≡ Some c

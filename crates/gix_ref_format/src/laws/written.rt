@@ -1,4 +1,4 @@
-//! What is written of records is read back.
+//! Laws of `packed-refs`: what is written of records is read back, and each record may be in a file.
 
 ghost use Rattle.std.specs.Prelude.{◌≡◌, map, Some};
 ghost use Rattle.gix_hash.specs.Id.{id_of};

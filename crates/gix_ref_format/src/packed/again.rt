@@ -1,4 +1,4 @@
-//! Reading `packed-refs` again: what is known of it isn't parsed a second time.
+//! Opening `packed-refs` again, or after a name's deletion: known records are kept if the bytes and kinds fit.
 
 ghost use Rattle.std.specs.Prelude.{◌≡◌, ◌++◌, Some, bytes_eq, map, not, option_map, IfErr, IfOk, IfSome, IsErrOf, IsTrue, MatchResult};
 ghost use Rattle.std.specs.List.{filter};
@@ -95,7 +95,7 @@ impl Buffer {
         if !self.has_become(&bytes, gone.to_path()) {
             return Buffer::from_bytes(alloc, bytes, kind);
         }
-        let entries = others(self.entries, gone.to_path());
+        let entries = entries_without(self.entries, gone.to_path());
         if !have_kind(&entries, kind) {
             return Buffer::from_bytes(alloc, bytes, kind);
         }
@@ -130,7 +130,7 @@ fn again(alloc: Global, bytes: Vec<u8>, kind: Kind, known: Option<&Buffer>) -> R
 {
     if let Some(buffer) = known {
         if buffer.as_ref() == bytes.as_slice() {
-            let entries = copied(alloc, &buffer.entries)?;
+            let entries = copied_entries(alloc, &buffer.entries)?;
             let is_written = buffer.is_written;
             return Ok(Buffer {
                 bytes,
@@ -142,7 +142,7 @@ fn again(alloc: Global, bytes: Vec<u8>, kind: Kind, known: Option<&Buffer>) -> R
     Buffer::from_bytes(alloc, bytes, kind)
 }
 
-fn copied(alloc: Global, entries: &[Entry]) -> Result<Vec<Entry>, AllocError>
+fn copied_entries(alloc: Global, entries: &[Entry]) -> Result<Vec<Entry>, AllocError>
     ensures { IfOk result (λ copies. copies.items ≡ entries.now) }
 {
     let mut copies = Vec::new(alloc);
@@ -157,7 +157,7 @@ fn copied(alloc: Global, entries: &[Entry]) -> Result<Vec<Entry>, AllocError>
 }
 
 // The entries of other names, in their order.
-fn others(mut entries: Vec<Entry>, gone: &[u8]) -> Vec<Entry>
+fn entries_without(mut entries: Vec<Entry>, gone: &[u8]) -> Vec<Entry>
     ensures order { IsInOrder entries.items → IsInOrder result.items }
     ensures others { entry_records result.items
         ≡ filter (λ r. not (bytes_eq r.name gone.now)) (entry_records entries.items) }

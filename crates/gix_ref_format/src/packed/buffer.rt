@@ -1,10 +1,12 @@
-//! The whole of `packed-refs`: what a buffer keeps, and why a file isn't opened.
+//! The types `Buffer` and `Entry`: the bytes and records of a whole `packed-refs`; why a file isn't opened.
 
 ghost use Rattle.std.specs.Prelude.{◌≡◌, IsTrue};
 ghost use Rattle.gix_ref_format.specs.declared.packed.buffer.Error.TheVariants.{Memory};
-ghost use Rattle.gix_ref_format.specs.PackedBuffer.{IsInOrder, entry_records};
+ghost use Rattle.gix_ref_format.specs.Packed.{record_of};
+ghost use Rattle.gix_ref_format.specs.PackedBuffer.{IsInOrder, entry_record, entry_records};
 ghost use Rattle.gix_ref_format.specs.PackedText.{IsWritten};
 
+use crate::packed::Reference;
 use gix_hash::ObjectId;
 use gix_ref_name::FullName;
 use std::alloc::{AllocError, AllocFailed};
@@ -54,6 +56,19 @@ pub(crate) struct Entry {
     pub(crate) object: Option<ObjectId>,
 }
 
+impl Entry {
+    // The record that it is.
+    pub(crate) fn as_reference(&self) -> Reference<'_>
+        ensures { record_of result ≡ entry_record self.now }
+    {
+        Reference {
+            name: self.name.as_ref(),
+            target: self.target,
+            object: self.object,
+        }
+    }
+}
+
 /// The bytes of `packed-refs`, and its records in the order of their names, whatever order the file
 /// has.
 #[derive(Debug, Drop)]
@@ -64,6 +79,15 @@ pub struct Buffer {
     pub(crate) is_written: bool,
     ghost in_order: { IsInOrder entries.items },
     ghost written: { IsTrue is_written → IsWritten (entry_records entries.items) bytes.items },
+}
+
+impl Buffer {
+    /// The bytes of the file, as they were given.
+    pub fn as_ref(&self) -> &[u8]
+        ensures { result.now ≡ self.now.bytes.items }
+    {
+        self.bytes.as_slice()
+    }
 }
 
 // The bytes of its name.

@@ -1,4 +1,4 @@
-//! The lines of `packed-refs`.
+//! Reading one line of `packed-refs`: the header's words, a record's id and name, or a peeled id.
 
 ghost use Rattle.std.specs.Prelude.{◌≡◌, ◌∷◌, [], ◌+◌, take, drop, IsTrue, IsFalse, MatchOption};
 ghost use Rattle.gix_object_lines.specs.Bytes.{is_among};

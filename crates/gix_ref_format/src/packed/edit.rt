@@ -1,4 +1,4 @@
-//! Records under edits.
+//! The type `Edit`: a name of `packed-refs` gets a record or loses it.
 
 ghost use Rattle.std.specs.Prelude.{◌≡◌};
 ghost use Rattle.gix_ref_name.specs.Names.{name_of};

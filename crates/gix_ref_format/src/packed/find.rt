@@ -1,4 +1,4 @@
-//! Lookups in `packed-refs`.
+//! Looking up a record of `packed-refs`, by full name or by a word that may be a tag, branch or remote.
 
 ghost use Rattle.std.specs.Prelude.{◌≡◌, ◌++◌, ◌∷◌, [], Some, None, IfOk, IsErrOf, option_map};
 ghost use Rattle.gix_ref_name.specs.Names.{name_of, part_of};
@@ -176,19 +176,6 @@ impl Buffer {
             Some(entry)
         } else {
             None
-        }
-    }
-}
-
-impl Entry {
-    // The record that it is.
-    pub(crate) fn as_reference(&self) -> Reference<'_>
-        ensures { record_of result ≡ entry_record self.now }
-    {
-        Reference {
-            name: self.name.as_ref(),
-            target: self.target,
-            object: self.object,
         }
     }
 }

@@ -1,4 +1,4 @@
-//! The records of `packed-refs`, line by line.
+//! `Iter`: the records of `packed-refs` line by line, each with its peeled id, and an error for a bad line.
 
 ghost use Rattle.std.specs.Prelude.{◌≡◌, ◌≢◌, ◌∷◌, [], false, Some, None, Err, MatchResult, option_map};
 ghost use Rattle.std.specs.Iterator.{YieldsFirstBy, item_count};
@@ -99,23 +99,23 @@ impl<'a> Iterator for Iter<'a> {
         if self.rest.is_empty() {
             return None;
         }
-        let (item, after) = first(*self);
+        let (item, after) = first_item(*self);
         *self = after;
         Some(item)
     }
 }
 
 // The first item, and what follows it.
-fn first<'a>(before: Iter<'a>) -> (Result<Reference<'a>, Error<'a>>, Iter<'a>)
+fn first_item<'a>(before: Iter<'a>) -> (Result<Reference<'a>, Error<'a>>, Iter<'a>)
     requires { before.rest.now ≢ [] }
     ensures { items_left before.entry ≡ item_view result.0 ∷ items_left result.1 }
 {
     let (line, rest) = split_line(before.rest);
     let after = before.behind(rest);
     let Some((name, target)) = record_in_line(line, before.kind) else {
-        return (Err(bad(line, before.line_number)), after);
+        return (Err(bad_line(line, before.line_number)), after);
     };
-    let (object, after) = peeled(after);
+    let (object, after) = next_peeled_id(after);
     let record = Reference {
         name,
         target,
@@ -125,7 +125,7 @@ fn first<'a>(before: Iter<'a>) -> (Result<Reference<'a>, Error<'a>>, Iter<'a>)
 }
 
 // The error of a bad line.
-fn bad<'a>(line: &'a [u8], line_number: u64) -> Error<'a>
+fn bad_line<'a>(line: &'a [u8], line_number: u64) -> Error<'a>
     ensures { item_view (Err result) ≡ Bad line_number line.now }
 {
     Error::Reference {
@@ -135,7 +135,7 @@ fn bad<'a>(line: &'a [u8], line_number: u64) -> Error<'a>
 }
 
 // The peeled id in the line that comes next, if it has one, and what follows it.
-fn peeled<'a>(before: Iter<'a>) -> (Option<ObjectId>, Iter<'a>)
+fn next_peeled_id<'a>(before: Iter<'a>) -> (Option<ObjectId>, Iter<'a>)
     ensures { HasPeel before.entry.kind before.entry.line_number (lines before.entry.rest.now)
         (option_map id_of result.0) (items_left result.1) }
 {

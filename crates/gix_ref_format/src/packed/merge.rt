@@ -1,4 +1,4 @@
-//! Records under edits, as a list.
+//! Merging edits with the records of `packed-refs`, sorted by name, into a list of records (`edited`, `written`).
 
 ghost use Rattle.std.specs.Prelude.{◌≡◌, ◌++◌, [], map, None, option_map, if◌then◌else◌, IfOk, OnOk};
 ghost use Rattle.std.specs.Option.{option_to_list};
@@ -26,8 +26,8 @@ pub fn edited<'a>(
     let mut lines = Vec::new(alloc);
     lines.extend_from_slice(edits)?;
     add_records(records, &mut lines)?;
-    let lines = arranged(lines)?;
-    standing(alloc, lines.as_slice())
+    let lines = sorted_by_name(lines)?;
+    one_of_each_name(alloc, lines.as_slice())
 }
 
 /// The records after the edits if there were none before, ascending by name. Of several edits of a
@@ -38,8 +38,8 @@ pub fn written<'a>(alloc: Global, edits: &[Edit<'a>]) -> Result<Vec<Reference<'a
 {
     let mut lines = Vec::new(alloc);
     lines.extend_from_slice(edits)?;
-    let lines = arranged(lines)?;
-    standing(alloc, lines.as_slice())
+    let lines = sorted_by_name(lines)?;
+    one_of_each_name(alloc, lines.as_slice())
 }
 
 // Adds each of the records.
@@ -55,7 +55,7 @@ fn add_records<'a>(records: Records<'a>, lines: &mut Vec<Edit<'a>>) -> Result<()
 }
 
 // The lines in the order of their names.
-pub(crate) fn arranged(mut lines: Vec<Edit<'_>>) -> Result<Vec<Edit<'_>>, AllocError>
+pub(crate) fn sorted_by_name(mut lines: Vec<Edit<'_>>) -> Result<Vec<Edit<'_>>, AllocError>
     ensures { IfOk result (λ found.
         spec.Arranges (spec.lines_of lines.entry.items) (spec.lines_of found.items)) }
 {
@@ -71,7 +71,7 @@ fn text_of<'a>(line: &Edit<'a>) -> &'a [u8]
 }
 
 // The records of the lines, of which each is left out whose name is that of the line before it.
-fn standing<'a>(alloc: Global, lines: &[Edit<'a>]) -> Result<Vec<Reference<'a>>, AllocError>
+fn one_of_each_name<'a>(alloc: Global, lines: &[Edit<'a>]) -> Result<Vec<Reference<'a>>, AllocError>
     ensures { IfOk result (λ records. map record_of records.items
         ≡ spec.standing None (spec.lines_of lines.now)) }
 {

@@ -1,4 +1,4 @@
-//! Opening `packed-refs`.
+//! Opening `packed-refs` as a `Buffer`: records gathered, sorted, and compared in order and text with the file.
 
 ghost use Rattle.std.specs.Prelude.{◌≡◌, Some, IfOk, IsErrOf, IsTrue, MatchResult, map, option_map};
 ghost use Rattle.gix_ref_file.specs.Tree.{node_at, bytes_of};
@@ -27,7 +27,7 @@ impl Buffer {
             (OpenFault kind bytes.items) }
         ensures bytes { IfOk result (λ buffer. buffer.bytes ≡ bytes) }
     {
-        let entries = sorted(collect(alloc, &bytes, kind)?)?;
+        let entries = sorted_entries(collect(alloc, &bytes, kind)?)?;
         let is_written = are_written(alloc, &entries, &bytes)?;
         Ok(Buffer {
             bytes,
@@ -100,7 +100,7 @@ fn owned_record(alloc: Global, item: Result<Reference<'_>, iter::Error<'_>>) -> 
 }
 
 // The entries in the order of their names; those of one name stay in theirs.
-fn sorted(mut entries: Vec<Entry>) -> Result<Vec<Entry>, AllocError>
+fn sorted_entries(mut entries: Vec<Entry>) -> Result<Vec<Entry>, AllocError>
     ensures order { IfOk result (λ found. IsInOrder found.items) }
     ensures holds { IfOk result
         (λ found. Holds (entry_records entries.items) (entry_records found.items)) }
@@ -117,7 +117,7 @@ fn are_written(alloc: Global, entries: &[Entry], bytes: &[u8]) -> Result<bool, A
     if !ascend(entries) {
         return Ok(false);
     }
-    let records = lent(alloc, entries)?;
+    let records = records_of(alloc, entries)?;
     let text = packed_text(alloc, &records)?;
     Ok(text.as_slice() == bytes)
 }
@@ -147,7 +147,7 @@ fn comes_before(entry: &Entry, others: &[Entry]) -> bool
 }
 
 // The records of the entries.
-fn lent<'a>(alloc: Global, entries: &'a [Entry]) -> Result<Vec<Reference<'a>>, AllocError>
+fn records_of<'a>(alloc: Global, entries: &'a [Entry]) -> Result<Vec<Reference<'a>>, AllocError>
     ensures { IfOk result (λ records. map record_of records.items ≡ entry_records entries.now) }
 {
     let mut records = Vec::new(alloc);

@@ -1,4 +1,4 @@
-//! The records of a buffer, in the order of their names.
+//! Walking over a buffer's records in the order of names: all, or those whose names have a prefix.
 
 ghost use Rattle.std.specs.Prelude.{◌≡◌};
 ghost use Rattle.std.specs.List.{filter};
@@ -39,20 +39,13 @@ impl Buffer {
         let first = entries.partition_point(|entry| name_of(entry).cmp(prefix) == Ordering::Less);
         let (_, above) = entries.split_at(first);
         Records {
-            rest: beginning(above, prefix),
+            rest: leading_with(above, prefix),
         }
-    }
-
-    /// The bytes of the file, as they were given.
-    pub fn as_ref(&self) -> &[u8]
-        ensures { result.now ≡ self.now.bytes.items }
-    {
-        self.bytes.as_slice()
     }
 }
 
 // The entries whose names begin with this prefix, if they come before all others.
-fn beginning<'a>(entries: &'a [Entry], prefix: &[u8]) -> &'a [Entry]
+fn leading_with<'a>(entries: &'a [Entry], prefix: &[u8]) -> &'a [Entry]
     ensures { IsPartitionedBy (has_prefix prefix.now) entries.now
         → result.now ≡ filter (has_prefix prefix.now) entries.now }
 {

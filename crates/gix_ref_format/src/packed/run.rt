@@ -1,4 +1,4 @@
-//! Records that follow one another in a file, with the bytes of their lines.
+//! `Run`: neighbouring records of a file with the bytes of their lines, split at a name; the length of lines.
 
 ghost use Rattle.std.specs.Prelude.{◌≡◌, ◌≤◌, IsTrue, length, take, drop};
 ghost use Rattle.gix_hash.specs.Id.{id_of};

@@ -1,4 +1,4 @@
-//! The text under edits: the lines of records that stay are copied.
+//! The text of `packed-refs` after edits (`edited_text`): the lines of records that stay are copied.
 
 ghost use Rattle.std.specs.Prelude.{◌≡◌, ◌++◌, true, false, IfOk, IfSome, IsTrue, OnOk, option_map};
 ghost use Rattle.std.specs.Option.{option_to_list};
@@ -12,7 +12,7 @@ ghost use Rattle.gix_ref_format.specs.Written.{records_text};
 use crate::laws::{entries_can_stand, record_can_stand, written_records_are_read};
 use crate::packed::buffer::Buffer;
 use crate::packed::edit::Edit;
-use crate::packed::merge::{arranged, edited, is_same};
+use crate::packed::merge::{edited, is_same, sorted_by_name};
 use crate::packed::run::Run;
 use crate::packed::write::{packed_text, write_header, write_record};
 use gix_hash::Kind;
@@ -54,7 +54,7 @@ impl Buffer {
         entries_can_stand(&self.entries);
         let mut lines = Vec::new(alloc);
         lines.extend_from_slice(edits)?;
-        let lines = arranged(lines)?;
+        let lines = sorted_by_name(lines)?;
         let mut text = Vec::new(alloc);
         write_header(&mut text)?;
         let rest = copy_lines(self.run(), &lines, &mut text)?;

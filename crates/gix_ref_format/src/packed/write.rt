@@ -1,4 +1,4 @@
-//! The text of `packed-refs`.
+//! Writing the text of `packed-refs`: the header, the line of a record, and that of its peeled id, in digits.
 
 ghost use Rattle.std.specs.Prelude.{◌≡◌, ◌++◌, map, option_map, IfOk, OnOk};
 ghost use Rattle.gix_hash.specs.Id.{id_of};

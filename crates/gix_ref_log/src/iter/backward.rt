@@ -1,4 +1,4 @@
-//! The lines of a log from its end.
+//! `Reverse`: the lines of a log from its end, one after the other.
 
 ghost use Rattle.std.specs.Prelude.{◌≡◌, ◌≤◌, ◌+◌, true, false, List, ℕ, length, if◌then◌else◌, Some};
 ghost use Rattle.std.specs.Iterator.{at_most};

@@ -1,4 +1,4 @@
-//! Lines of a log that are none.
+//! The error of a line that is no line of a log, with its number (`LineNumber`).
 
 use std::fmt;
 

@@ -1,4 +1,4 @@
-//! What comes of a log that is read from its end in the place of a line.
+//! Why a log that is read from its end isn't read on, or a line of it isn't read.
 
 use crate::iter::decode;
 use gix_ref_file::FileError;

@@ -1,4 +1,4 @@
-//! The lines of a log from its beginning.
+//! `Forward`: the lines of a log from its beginning, cut at line feeds, one after the other.
 
 ghost use Rattle.std.specs.Prelude.{◌≡◌, ◌∷◌};
 ghost use Rattle.std.specs.List.{slice_split};

@@ -1,4 +1,4 @@
-//! Copies of lines that a buffer holds.
+//! The last line before an offset in a log, found in the buffer and copied from it as a `Line`.
 
 ghost use Rattle.std.specs.Prelude.{◌≡◌, ◌≢◌, ◌≤◌, ◌-◌, length, take, drop, IfOk, IfErr, IsErrOf};
 ghost use Rattle.gix_ref_file.specs.declared.files.FileError.TheVariants.{Failed};

@@ -1,4 +1,4 @@
-//! Where the last line of some bytes of a log is in a buffer.
+//! The place in the buffer of a log's last line before an offset; the buffer is filled anew if it lacks it.
 
 ghost use Rattle.std.specs.Prelude.{◌≡◌, ◌≢◌, ◌≤◌, false, length, min, IfOk, IfErr, IsErrOf, MatchOption};
 ghost use Rattle.gix_object_lines.specs.Bytes.{Lacks};

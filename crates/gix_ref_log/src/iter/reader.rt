@@ -1,4 +1,4 @@
-//! What a log is read from at any place.
+//! What a log is read from at any place, and its length (`ReadAt`): bytes in memory, or a file (`FileAt`).
 
 ghost use Rattle.std.specs.Prelude.{◌≡◌, ◌≤◌, ⊤, ℕ, List, length, take, IfOk, IsErrOf};
 ghost use Rattle.gix_ref_file.specs.declared.files.FileError.TheVariants.{Failed};

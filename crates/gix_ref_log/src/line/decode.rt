@@ -1,4 +1,4 @@
-//! Reading a line of a log.
+//! Reading a line of a log (`LineRef::from_bytes`): its line feed goes, and it is cut into ids, actor and message.
 
 ghost use Rattle.std.specs.Prelude.{◌≡◌, ◌≤◌, ℕ, List, length, IfOk, IsOkAnd, MatchOption};
 ghost use Rattle.gix_object_lines.specs.Bytes.{without_last_feed};

@@ -1,4 +1,4 @@
-//! Lines that own their parts.
+//! Copies of lines: an owned line of a borrowed one (`to_owned`), and of an owned one (`try_clone`).
 
 ghost use Rattle.std.specs.Prelude.{◌≡◌, IfOk, IfErr};
 ghost use Rattle.gix_ref_log.specs.LogOwned.{IsLineOf, OwningFault};

@@ -1,4 +1,4 @@
-//! Writing a line of a log.
+//! Writing a line of a log: whether its actor and time have a spelling, then ids, actor, time and message.
 
 ghost use Rattle.std.specs.Prelude.{◌≡◌, ◌++◌, ◌∷◌, ◌↔◌, [], IsTrue, OnOk, OnErr, IsErrOf};
 ghost use Rattle.std.specs.Io.KnownBytes.{Appends};

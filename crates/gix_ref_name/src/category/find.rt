@@ -1,4 +1,4 @@
-//! Which category a full name has.
+//! Which category a full name has, by its beginning, and its short name: tags, branches, notes, worktrees' names.
 
 ghost use Rattle.std.specs.Prelude.{◌≡◌, ◌⊎◌, ℕ, List, codes, IsTrue, MatchOption};
 ghost use Rattle.bstr.specs.BStr.{bstr_bytes};
@@ -15,23 +15,23 @@ pub(crate) fn category_of(name: &[u8]) -> Option<(Category<'_>, BStr<'_>)>
     ensures { MatchOption result (HasNoCategory name.now)
         (λ found. Tells name.now found.0 (bstr_bytes found.1)) }
 {
-    if let Some(found) = shared(name) {
+    if let Some(found) = tag_or_branch(name) {
         return Some(found);
     }
-    if let Some(found) = kept_apart(name) {
+    if let Some(found) = note_or_private(name) {
         return Some(found);
     }
     if is_capitals(name) {
         return Some((Category::PseudoRef, BStr::new(name)));
     }
-    if let Some(found) = of_main(name) {
+    if let Some(found) = of_main_worktree(name) {
         return Some(found);
     }
-    of_linked(name)
+    of_linked_worktree(name)
 }
 
 // Tags and branches.
-fn shared(name: &[u8]) -> Option<(Category<'_>, BStr<'_>)>
+fn tag_or_branch(name: &[u8]) -> Option<(Category<'_>, BStr<'_>)>
     ensures { MatchOption result (SharedNone name.now)
         (λ found. Tells name.now found.0 (bstr_bytes found.1)) }
 {
@@ -46,7 +46,7 @@ fn shared(name: &[u8]) -> Option<(Category<'_>, BStr<'_>)>
 }
 
 // Notes, and what each worktree has of its own.
-fn kept_apart(name: &[u8]) -> Option<(Category<'_>, BStr<'_>)>
+fn note_or_private(name: &[u8]) -> Option<(Category<'_>, BStr<'_>)>
     ensures { MatchOption result (PrivateNone name.now)
         (λ found. Tells name.now found.0 (bstr_bytes found.1)) }
 {
@@ -74,7 +74,7 @@ fn below_refs(short: &[u8]) -> Option<Category<'_>>
     None
 }
 
-fn of_main(name: &[u8]) -> Option<(Category<'_>, BStr<'_>)>
+fn of_main_worktree(name: &[u8]) -> Option<(Category<'_>, BStr<'_>)>
     ensures { MatchOption result (MainNone name.now)
         (λ found. Tells name.now found.0 (bstr_bytes found.1)) }
 {
@@ -88,7 +88,7 @@ fn of_main(name: &[u8]) -> Option<(Category<'_>, BStr<'_>)>
     None
 }
 
-fn of_linked(name: &[u8]) -> Option<(Category<'_>, BStr<'_>)>
+fn of_linked_worktree(name: &[u8]) -> Option<(Category<'_>, BStr<'_>)>
     ensures { MatchOption result (LinkedNone name.now)
         (λ found. Tells name.now found.0 (bstr_bytes found.1)) }
 {

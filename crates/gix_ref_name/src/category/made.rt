@@ -1,4 +1,4 @@
-//! Full names by their category and short name.
+//! The calls of `Category`: its prefix, whether it is remote or private to worktrees, a short name's full name.
 
 ghost use Rattle.std.specs.Prelude.{◌≡◌, ◌++◌, IfOk, codes};
 ghost use Rattle.bstr.specs.BStr.{bstr_bytes};

@@ -1,4 +1,4 @@
-//! Conversions of full names that take no memory.
+//! `From` and `TryFrom` between full names and `ByteString`, `String` and `BStr`, which take no memory.
 
 ghost use Rattle.std.specs.Prelude.{◌≡◌, IsTrue, IsFalse, MatchResult, string_bytes};
 ghost use Rattle.bstr.specs.BStr.{bstr_bytes};

@@ -1,4 +1,4 @@
-//! Full names that own their bytes.
+//! `FullName`, which owns its bytes: made, copied, viewed, printed, its category, put into or out of a namespace.
 
 ghost use Rattle.std.specs.Prelude.{◌≡◌, ◌++◌, ◌&&◌, not, ℕ, List, IsTrue, IsFalse, IfOk, OnErr, MatchResult, MatchOption, length, drop, Some, if◌then◌else◌};
 ghost use Rattle.bstr.specs.BStr.{bstr_bytes};

@@ -1,4 +1,4 @@
-//! The calls of views of full names.
+//! The calls of `FullNameRef`: of bytes or `str`, as a partial name, category, short and file name, copied, printed.
 
 ghost use Rattle.std.specs.Prelude.{◌≡◌, ℕ, List, IsTrue, IsFalse, IfOk, MatchResult, MatchOption, unwrap_or, codes, Some};
 ghost use Rattle.bstr.specs.BStr.{bstr_bytes};

@@ -1,4 +1,4 @@
-//! Conversions of partial names that take no memory.
+//! `From` and `TryFrom` to partial names of `ByteString`, `String`, `BStr` and owned names, which take no memory.
 
 ghost use Rattle.std.specs.Prelude.{◌≡◌, IsTrue, IsFalse, MatchResult, string_bytes};
 ghost use Rattle.bstr.specs.BStr.{bstr_bytes};

@@ -1,4 +1,4 @@
-//! Partial names that own their bytes, and the calls of their views.
+//! `PartialName` and the calls of `PartialNameRef`: made of bytes, `str` or a view, joined, copied and printed.
 
 ghost use Rattle.std.specs.Prelude.{◌≡◌, ◌++◌, ◌∷◌, ℕ, List, IsTrue, IsFalse, IfOk, OnErr, MatchResult, Some, refl};
 ghost use Rattle.bstr.specs.BStr.{bstr_bytes};

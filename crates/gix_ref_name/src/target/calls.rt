@@ -1,4 +1,4 @@
-//! The calls of targets and of their views.
+//! The calls of `Target` and `TargetRef`: kind, id, name, whether null, copies, conversions, and printing.
 
 ghost use Rattle.std.specs.Prelude.{◌≡◌, ◌↔◌, ℕ, List, IsTrue, IfOk, MatchResult, Some, None};
 ghost use Rattle.std.specs.Option.{option_map};

@@ -1,4 +1,4 @@
-//! References outside a namespace.
+//! A reference without its namespace: the namespace's front taken off its name and its target.
 
 ghost use Rattle.std.specs.Prelude.{◌≡◌, ◌++◌, ℕ, List, IsFalse, IfOk, OnOk, OnErr, MatchOption};
 ghost use Rattle.gix_object_lines.specs.NameTest.{is_full_name};

@@ -1,4 +1,4 @@
-//! A store of references in a tree of files.
+//! A store of references in a tree of files (`Store`): its files, folders, options, the path of `packed-refs`.
 
 ghost use Rattle.std.specs.Prelude.{◌≡◌, IfOk, option_map};
 ghost use Rattle.gix_ref_store.specs.Places.{packed_place};

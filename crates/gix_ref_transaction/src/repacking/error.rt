@@ -1,4 +1,4 @@
-//! Why packed records aren't locked.
+//! Why packed records aren't locked (`RepackError`).
 
 ghost use Rattle.std.specs.Prelude.{◌≡◌};
 ghost use Rattle.gix_ref_transaction.specs.declared.repacking.error.RepackError.TheVariants as fault;

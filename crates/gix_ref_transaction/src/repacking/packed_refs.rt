@@ -1,4 +1,4 @@
-//! Which changes of references also change the packed ones.
+//! Which edits of references also change the packed ones (`PackedRefs`: three modes).
 
 ghost use Rattle.std.specs.Prelude.{◌≡◌, option_copied};
 ghost use Rattle.gix_ref_transaction.specs.Modes as spec;

@@ -1,4 +1,4 @@
-//! The packed records of references that are removed, and of those that are packed.
+//! The records that edits remove from `packed-refs` or write, with peeled ids; their lock (`repack`).
 
 ghost use Rattle.std.specs.Prelude.{◌≡◌, ◌≢◌, ◌++◌, [], is_some, map, option_map, IfErr, IfOk, IfSome, IsTrue, None, OnOk, Some};
 ghost use Rattle.std.specs.List.{list_any};

@@ -1,4 +1,4 @@
-//! The steps of a walk: it begins, takes the commit whose turn it is, and meets its parents.
+//! Steps of `Simple`: begins, or anew; queues tips; takes and reads the next commit, queues its parents; ends.
 
 ghost use Rattle.std.specs.Prelude.{◌≡◌, List, [], ◌∷◌, ◌++◌, IfOk, IfErr, IfSome, IfNone, IsNone, IsOk, OnOk, true};
 ghost use Rattle.gix_hash.specs.Id.{Id};
@@ -33,7 +33,7 @@ use std::mem;
 
 impl<F: FindInto + Drop, P: Accept + Drop> Simple<F, P> {
     // Lets the rest of a walk that has begun begin anew from what is queued.
-    pub(crate) fn turn(&mut self)
+    pub(crate) fn begin_anew(&mut self)
         ensures stays { self.new ≡ record self.old {
           tips = self.new.tips;
           begun = self.new.begun;
@@ -73,7 +73,7 @@ impl<F: FindInto + Drop, P: Accept + Drop> Simple<F, P> {
 
     // Makes tips of what is queued, in its order, and takes the hidden marks away. A walk that has
     // not begun has nothing queued.
-    pub(crate) fn gather(&mut self) -> Result<(), AllocError>
+    pub(crate) fn make_tips(&mut self) -> Result<(), AllocError>
         ensures stays { self.new ≡ record self.old {
           tips = self.new.tips;
           known = self.new.known;
@@ -132,7 +132,7 @@ impl<F: FindInto + Drop, P: Accept + Drop> Simple<F, P> {
 
     // Begins the walk unless that was done already: paints what is hidden, and queues the tips; if
     // the walk was begun before, what was queued then.
-    pub(crate) fn ready(&mut self) -> Result<(), Error>
+    pub(crate) fn begin(&mut self) -> Result<(), Error>
         ensures store { KeepsStore self.old self.new }
         ensures same { self.old.begun ≡ true → IsOk result × (self.new ≡ self.old) }
         ensures going { OverTold F.is_honest F.table self.old.source
@@ -153,7 +153,7 @@ impl<F: FindInto + Drop, P: Accept + Drop> Simple<F, P> {
         if self.begun {
             return Ok(());
         }
-        self.gather()?;
+        self.make_tips()?;
         let alloc: Global = *self.tips.allocator();
         let content = mem::replace(&mut self.source.buffer, Vec::new(alloc));
         if let Err(error) = paint(&mut self.source, &mut self.known, self.hidden.as_slice()) {
@@ -192,7 +192,7 @@ impl<F: FindInto + Drop, P: Accept + Drop> Simple<F, P> {
         ensures ended { IsOver self.old → IsNone result }
     {
         let Some(timing) = time_order(self.parents, self.sorting) else {
-            let id = self.known.pop()?;
+            let id = self.known.take_queued()?;
             return Some(id);
         };
         let turn = self.known.take_turn(timing.order)?;

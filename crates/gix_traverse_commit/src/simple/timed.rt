@@ -1,4 +1,4 @@
-//! Meeting commits in a walk by time: tips and parents, each once.
+//! `Simple` by time: reads tips' times, and lets tips and parents wait, each once, up to the cutoff.
 
 ghost use Rattle.std.specs.Prelude.{◌≡◌, ◌∷◌, List, true, length, if◌then◌else◌, [], false, Contains, IfOk, IfErr, IsOk, OnOk};
 ghost use Rattle.gix_hash.specs.declared.object_id.ObjectId.{ObjectId};

@@ -1,4 +1,4 @@
-//! The buffers that a walk in depth order keeps.
+//! The state of `depthfirst`: buffers for trees' contents, taken and given back for later use.
 
 ghost use Rattle.std.specs.Prelude.{◌≡◌, ◌<◌, ◌++◌, ◌∷◌, [], IfOk, IsOk};
 ghost use Rattle.gix_traverse_tree.specs.Opened.{IsGivenBack, IsTakenFrom};

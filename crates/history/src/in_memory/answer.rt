@@ -1,4 +1,4 @@
-//! A stream of commands, and what a run over it writes.
+//! A stream of commands run over a new repository in memory (`answer_stream`): its end, and what it wrote.
 
 ghost use Rattle.std.specs.Prelude.{◌≡◌, IfOk};
 ghost use Rattle.history_model.specs.Bytes as model;

@@ -1,4 +1,4 @@
-//! A new repository in memory.
+//! A new repository in memory, created and opened (`new_repository`), or why there is none.
 
 ghost use Rattle.std.specs.Prelude.{◌≡◌, false, IfOk};
 ghost use Rattle.history_model.specs.Repository.{fresh};

@@ -1,4 +1,4 @@
-//! A reader that an interruption doesn't stop.
+//! A reader that reads again after an interruption (`Patient`).
 ghost use Rattle.std.specs.Prelude.{◌≢◌, IfErr};
 ghost use Rattle.std.specs.Io.{ReadsAtMost};
 ghost use Rattle.std.specs.Io.KnownBytes.{ReadConsumes};

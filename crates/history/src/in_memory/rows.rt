@@ -1,4 +1,4 @@
-//! Worked streams, run.
+//! Worked streams, run in memory: a commit without files, and one with a file.
 
 ghost use Rattle.std.specs.Prelude.{IfOk};
 ghost use Rattle.history_model.specs.laws.Rows.{first_stream, first_output, hello_stream, hello_output};

@@ -1,4 +1,4 @@
-//! What the words of a command line mean.
+//! Reads a command line: its action, folder and hash function, or the text of help or of a mistake.
 ghost use Rattle.std.specs.Prelude.{◌≡◌, ◌↔◌, IfOk, MatchOption, map, option_map};
 ghost use Rattle.clap.specs.Words.{kind_of, subcommand_rows_of};
 ghost use Rattle.history_actions.specs.Line.{IsAskedBy, Reads, action_name, kind_by};

@@ -1,4 +1,4 @@
-//! The words that the program takes, for `clap`.
+//! The program's command line, for `clap`: its actions, their folder and flag, and the texts of help.
 ghost use Rattle.std.specs.Prelude.{◌≡◌, false, IfOk};
 ghost use Rattle.clap.specs.Words.{app_of, new_app};
 ghost use Rattle.clap.specs.declared.Command.TheViews.{out-Command as fields_of};

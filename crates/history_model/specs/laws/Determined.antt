@@ -1,17 +1,36 @@
 -- Laws of steps and runs: what state, commands and input determine.
-use Rattle.std.specs.Prelude.{ℕ, ⊤, take, MatchBool, ◌≡◌, ◌⊎◌, Bool, false, List, [], ◌∷◌, ◌++◌, IsTrue, IsFalse, ◌↔◌, Contains}
+use Rattle.std.specs.Prelude.{ℕ, ⊤, take, MatchBool, ◌≡◌, ◌⊎◌, Bool, false, List, [], ◌∷◌, ◌++◌, IsTrue, IsFalse, ◌↔◌, Contains, true, not}
 use Rattle.std.specs.List.{list_all}
 use Rattle.history_model.specs.Bytes.{Bytes}
 use Rattle.gix_hash.specs.Id.{Id}
 use Rattle.history_model.specs.Repository.{Repository}
-use Rattle.history_model.specs.Commands.{Command, Log, LogCommand}
+use Rattle.history_model.specs.Commands.{Command, Log, LogCommand, Order, Breadth, Topological}
 use Rattle.history_model.specs.Answers.{commits_of, walk_request, IsWalk, kept, time_at}
 use Rattle.gix_traverse_graph.specs.Order.{At}
 use Rattle.history_model.specs.Replies.{Reply, LogIs}
-use Rattle.history_model.specs.Steps.{Step, goes_on, is_faulted, next, have_no_fault, leaves_choice, is_sure}
-use Rattle.history_model.specs.Runs.{Runs, TellsFault}
+use Rattle.history_model.specs.Steps.{Step, goes_on, is_faulted, next}
+use Rattle.history_model.specs.Runs.{Runs}
 use Rattle.history_model.specs.declared.End.{End}
-use Rattle.history_model.specs.declared.End.TheVariants.{Input}
+use Rattle.history_model.specs.declared.End.TheVariants.{Input, Fault as ByFault}
+
+-- whether an order leaves a choice among equal times
+abbrev pub leaves_choice : Order → Bool
+leaves_choice Breadth = false
+leaves_choice Topological = false
+leaves_choice _ = true
+
+-- no reply is a fault
+abbrev pub have_no_fault : List Reply → Bool
+have_no_fault replies = list_all (λ reply. not (is_faulted reply)) replies
+
+-- whether the command has only one reply, faults apart
+abbrev pub is_sure : Command → Bool
+is_sure (Log c) = not (leaves_choice c.order)
+is_sure _ = true
+
+-- A run with these replies and this end has reported a fault: as a reply, or at its end.
+abbrev pub TellsFault : List Reply → End → Type 0
+TellsFault replies end = IsFalse (have_no_fault replies) ⊎ (end ≡ ByFault)
 
 -- at the first place where two lists differ, if any, the two commits have one time
 abbrev pub DifferAtOneTime : (Id → ℕ) → List Id → List Id → Type 0

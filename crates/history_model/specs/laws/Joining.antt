@@ -1,5 +1,5 @@
 -- Laws of rounds: how runs, stops and recoveries join.
-use Rattle.std.specs.Prelude.{◌≡◌, Bool, false, List, ◌++◌}
+use Rattle.std.specs.Prelude.{◌≡◌, Bool, false, List, [], ◌++◌, ◌⊎◌, ◌∷◌}
 use Rattle.gix_ref_file.specs.History.{History, moment}
 use Rattle.history_model.specs.Bytes.{Bytes}
 use Rattle.history_model.specs.Repository.{Repository}
@@ -8,11 +8,22 @@ use Rattle.history_model.specs.Replies.{Reply}
 use Rattle.history_model.specs.Places.{Pair}
 use Rattle.history_model.specs.StandsFor.{StandsWhole}
 use Rattle.history_model.specs.Runs.{BeginsWith, Runs, EndsReading, EndsWriting}
-use Rattle.history_model.specs.Moments.{Moment, IsPairAt, IsRunPair, Traces, GoesOnFrom}
+use Rattle.history_model.specs.Moments.{Moment, IsPairAt, Traces, GoesOnFrom, IsStepPair}
 use Rattle.history_model.specs.Rounds.{Round, IsRunOf, AreRounds, last_left, Outcomes, IsRound, stopped_round, ended_round, WritesReplies}
 use Rattle.gix_hash.specs.declared.kind.Kind.{Kind}
 use Rattle.history_model.specs.declared.End.{End}
 use Rattle.history_model.specs.Joined.{pair_now}
+
+-- a pair during one of the commands; at each of these moments one ends and the next begins
+abbrev pub IsCommandPair : History → History → Moment → List Moment → Pair → Type 0
+IsCommandPair objects names begin [] pair = ⊥
+IsCommandPair objects names begin (next ∷ moments) pair =
+    IsStepPair objects names begin next pair ⊎ IsCommandPair objects names next moments pair
+
+-- a pair during a run: the one at its beginning, or one during a command
+abbrev pub IsRunPair : History → History → Moment → List Moment → Pair → Type 0
+IsRunPair objects names begin moments pair =
+    IsPairAt objects names begin pair ⊎ IsCommandPair objects names begin moments pair
 
 -- If each round's run and recovery keep their contracts, the last pair represents a whole
 -- repository, and steps and stops explain, round by round, what was replied, written and left.

@@ -9,7 +9,7 @@ use Rattle.history_model.specs.Repository.{Repository, first_branch, fresh}
 use Rattle.history_model.specs.Commands.{ActorLine, Command, CommitCommand, New}
 use Rattle.history_model.specs.Replies.{Reply}
 use Rattle.history_model.specs.Runs.{Runs}
-use Rattle.history_model.specs.Steps.{have_no_fault, is_sure}
+use Rattle.history_model.specs.laws.Determined.{have_no_fault, is_sure}
 use Rattle.gix_hash.specs.declared.kind.Kind.TheVariants.{Sha1}
 use Rattle.history_model.specs.declared.FileKind.TheVariants.{File, Exec}
 use Rattle.history_model.specs.declared.End.TheVariants.{Input, Refused as ByRefusal}

@@ -1,16 +1,27 @@
 -- Laws of trees and files.
-use Rattle.std.specs.Prelude.{◌≡◌, ◌⊎◌, List, [], ◌∷◌, map, Some, IsTrue, ◌↔◌}
+use Rattle.std.specs.Prelude.{◌≡◌, ◌⊎◌, List, [], ◌∷◌, map, Some, IsTrue, ◌↔◌, ⊤}
 use Rattle.std.specs.List.{list_all, AllByRecursion}
 use Rattle.std.specs.List.Sorted.{IsStrictlySortedBy}
 use Rattle.std.specs.FinMap.{get, empty}
 use Rattle.history_model.specs.Bytes.{Bytes, by_bytes}
-use Rattle.history_model.specs.FileMap.{FileMap, Edit, cut_to, IsFileMap, edited_by, edit_path, is_path, ComesFromFiles}
+use Rattle.history_model.specs.FileMap.{FileMap, Edit, cut_to, IsFileMap, edited_by, is_path, Put, Remove, RemoveFile, Graft}
 use Rattle.history_model.specs.Objects.{StoredFolder, entry_at}
 use Rattle.gix_hash.specs.Id.{Id}
 use Rattle.history_model.specs.Repository.{Repository, IsWhole}
 use Rattle.history_model.specs.Commands.{Files}
 use Rattle.history_model.specs.Replies.{FileLine, FilesAre}
 use Rattle.history_model.specs.Steps.{Step}
+
+abbrev pub edit_path : Edit → Bytes
+edit_path (Put kind path bytes) = path
+edit_path (Remove path) = path
+edit_path (RemoveFile path) = path
+edit_path (Graft path source from) = path
+
+-- what is grafted comes from a file map
+abbrev pub ComesFromFiles : Edit → Type 0
+ComesFromFiles (Graft path source from) = IsFileMap from
+ComesFromFiles _ = ⊤
 
 -- Edits at paths turn a file map into a file map, if what they graft comes from file maps.
 abbrev pub EditsKeep : Type 0

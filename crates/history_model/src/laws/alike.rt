@@ -1,4 +1,4 @@
-//! Laws on commands with the same effect, over the definitions alone.
+//! Laws on commands with one effect: edits cut into commits in two ways, and logs of one set in all orders.
 
 ghost use Rattle.history_model.specs.laws.Alike.{EditsCutAnyWay, OrdersPrintOneSet};
 

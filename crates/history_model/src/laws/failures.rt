@@ -1,4 +1,4 @@
-//! Laws on failed calls, over the definitions alone.
+//! Laws on failed calls of files: how many a run counts, and that a reply `fault File` is its last.
 
 ghost use Rattle.history_model.specs.laws.Failures.{FaultsAreCounted, FaultsComeLast, UnfailedCountNone};
 

@@ -1,4 +1,4 @@
-//! Laws that tie the files of names and logs to gix_ref_format, over the definitions alone.
+//! Laws that names' files, records, log lines and a word's candidates are as gix_ref_format has them.
 
 ghost use Rattle.history_model.specs.laws.Formats.{LooseReadsAlike, RecordsAlike, CandidatesAlike, LinesAlike};
 

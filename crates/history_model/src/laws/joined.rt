@@ -1,4 +1,4 @@
-//! Laws that make rounds of runs, for the law [`rounds`](super::rounds), by definitions alone.
+//! Laws that a run from a whole repository is a round, stopped and recovered or ended, by definitions alone.
 
 ghost use Rattle.history_model.specs.laws.Joining.{RunsMakeRounds, StopsMakeRounds};
 

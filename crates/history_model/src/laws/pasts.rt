@@ -1,4 +1,4 @@
-//! The law on the past of a name, over the definitions alone.
+//! The law on the past of a name: exactly the moves since it was last created, newest first.
 
 ghost use Rattle.history_model.specs.laws.Pasts.{PastsTellMoves};
 

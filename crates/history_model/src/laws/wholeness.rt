@@ -1,4 +1,4 @@
-//! Laws on whole repositories in written form, over the definitions alone.
+//! Laws on whole repositories: steps and recovered stops keep them, commands store exactly, a pair is of one.
 
 ghost use Rattle.history_model.specs.laws.Wholeness.{StepsKeepSound, SequencesKeepSound, StopsKeepSound, AcceptedStoreExactly, PairsAreOfOne};
 

@@ -1,4 +1,4 @@
-//! Looking stored objects up: only those of known ids.
+//! Lookups in `Objects` by id: whether one exists, its header, or its content, from which the header is taken.
 ghost use Rattle.std.specs.Prelude.{◌≡◌, option_map};
 ghost use Rattle.std.specs.FinMap.{keys};
 ghost use Rattle.gix_object_lookup.specs.Table.{content_or_none};

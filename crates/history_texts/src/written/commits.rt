@@ -1,4 +1,4 @@
-//! Commits in written form.
+//! Commits in written form: the tree and parents that one names, its limits, and whether an id occurs twice.
 ghost use Rattle.std.specs.Prelude.{◌≡◌, ◌&&◌, ◌∷◌, IfOk, List, MatchOption, length, map, nat_le, not};
 ghost use Rattle.gix_hash.specs.Id.{id_of};
 ghost use Rattle.gix_hash.specs.Order.{id_eq};

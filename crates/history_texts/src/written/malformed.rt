@@ -1,4 +1,4 @@
-//! What is wrong with a commit or a tag that isn't in written form.
+//! What is wrong with a commit or a tag that isn't in written form: a time before 1970, a tag of no commit.
 ghost use Rattle.std.specs.Prelude.{◌≡◌, ◌↔◌, IfOk, IsTrue};
 ghost use Rattle.history_texts.specs.Malformed.{IsBefore1970, IsCommitBefore1970, IsTagBefore1970, IsTagOfOther, is_before, is_type_of_other};
 

@@ -1,4 +1,4 @@
-//! Tags in written form.
+//! Tags in written form: the lines of one, the commit that it names; and which names a repository may hold.
 ghost use Rattle.std.specs.Prelude.{◌≡◌, ◌≢◌, ◌↔◌, ◌∷◌, ◌++◌, IfOk, IsTrue, List, MatchOption, map};
 ghost use Rattle.std.specs.Str.{is_utf8};
 ghost use Rattle.gix_object_lines.specs.Bytes.{Lacks};

@@ -1,4 +1,4 @@
-//! Trees in written form.
+//! Trees in written form: order, modes and ids of entries, and the objects that they name.
 ghost use Rattle.std.specs.Prelude.{◌≡◌, ◌↔◌, IfOk, IsTrue, List, MatchOption, map};
 ghost use Rattle.std.specs.List.{All};
 ghost use Rattle.gix_object_tree.specs.Entry.{item_of};

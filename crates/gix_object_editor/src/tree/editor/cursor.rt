@@ -1,4 +1,4 @@
-//! Edits below a folder.
+//! `Cursor`: put at the root or a folder (`cursor_at`), and its calls `get`, `remove`, `upsert`, `graft`, `write`.
 
 ghost use Rattle.std.specs.Prelude.{◌≡◌, ◌≢◌, ◌+◌, ◌++◌, [], option_map, IfOk, IfErr, OnOk, Err, None, ⊤};
 ghost use Rattle.std.specs.Borrow.{sem};

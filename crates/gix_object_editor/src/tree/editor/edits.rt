@@ -1,4 +1,4 @@
-//! Edits below an opened tree.
+//! What editors and cursors share: edits at a path below an opened tree, a cursor's folder, tests of a path.
 
 ghost use Rattle.std.specs.Prelude.{◌≡◌, ◌<◌, ◌⊎◌, length, IfErr, OnOk, IfOk, [], ⊤};
 ghost use Rattle.gix_hash.specs.Id.{id_of};

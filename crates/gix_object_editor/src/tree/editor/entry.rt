@@ -1,4 +1,4 @@
-//! Entries of opened trees.
+//! Entries of opened trees, looked at: the one at the end of a path, and whether an entry is there already.
 
 ghost use Rattle.std.specs.Prelude.{◌≡◌, ◌<◌, length, map, option_map, slice_index_or, IsTrue, IsFalse, None, []};
 ghost use Rattle.gix_object_tree.specs.Entry.{item_of};

@@ -1,4 +1,4 @@
-//! Folders with files.
+//! Whether a file is below a folder, which `remove_leaf` then refuses to remove.
 
 ghost use Rattle.std.specs.Prelude.{◌≡◌, ◌<◌, ◌≤◌, ◌+◌, ◌∷◌, [], length, IsTrue, IsFalse, IfErr, OnOk, None, false};
 ghost use Rattle.gix_object_nodes.specs.Files.{Bytes, Path, Trees};

@@ -1,4 +1,4 @@
-//! Walking down opened trees, and opening more of them.
+//! Walking down a path through opened trees: each stored tree on it is opened and attached to the tree above it.
 
 ghost use Rattle.std.specs.Prelude.{◌≡◌, ◌<◌, ◌≤◌, ◌+◌, ◌∷◌, ◌++◌, ◌⊎◌, length, drop, IfOk, IfErr, OnErr, Ok, None, []};
 ghost use Rattle.gix_hash.specs.Id.{Id};

@@ -1,4 +1,4 @@
-//! Putting an entry below an opened tree, in folders that are made for it.
+//! Putting an entry below an opened tree, in folders that are made for it; and making folders alone.
 
 ghost use Rattle.std.specs.Prelude.{◌≡◌, ◌≢◌, ◌<◌, length, IfOk, OnOk, OnErr, Some, None, []};
 ghost use Rattle.std.specs.List.{All};
@@ -41,7 +41,7 @@ pub(crate) fn lay_entry(
         return Ok(at);
     }
     let before = nodes.len();
-    match hang(nodes, alloc, at, names, slot, changed) {
+    match put_below_folders(nodes, alloc, at, names, slot, changed) {
         Ok(end) => Ok(end),
         Err(error) => {
             nodes.truncate(before);
@@ -86,7 +86,7 @@ pub(crate) fn make_folders(
 
 // Puts an entry below more than one name. Without memory there may be more trees, to which none
 // leads.
-fn hang(
+fn put_below_folders(
     nodes: &mut Vec<Node>,
     alloc: Global,
     at: NodeId,
@@ -138,14 +138,14 @@ fn push_ladder(
             slot
         };
         let this = NodeId(nodes.len());
-        nodes.push(lone(alloc, above, name, rung, changed)?)?;
+        nodes.push(tree_of_one_entry(alloc, above, name, rung, changed)?)?;
         above = this;
     }
     Ok(())
 }
 
 // The tree with this entry alone, which is to lie in another.
-fn lone(
+fn tree_of_one_entry(
     alloc: Global,
     above: NodeId,
     name: &[u8],

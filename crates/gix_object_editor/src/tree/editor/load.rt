@@ -1,4 +1,4 @@
-//! Opening stored trees.
+//! Looking up the stored tree of an id, reading it, and making an opened tree (a node) of its entries.
 
 ghost use Rattle.std.specs.Prelude.{◌≡◌, map, None, IfOk, IfErr};
 ghost use Rattle.gix_hash.specs.Id.{id_of};
@@ -32,7 +32,7 @@ pub(crate) fn load<S: FindInto>(store: &S, alloc: Global, oid: ObjectId) -> Resu
         (S.table store.now) (id_of oid)) }
 {
     let mut buffer = Vec::new(alloc);
-    let tree = read_tree(store, alloc, oid, &mut buffer)?;
+    let tree = look_up_tree(store, alloc, oid, &mut buffer)?;
     if !tree.is_well_formed() {
         return Err(Error::MalformedTree { oid });
     }
@@ -40,7 +40,7 @@ pub(crate) fn load<S: FindInto>(store: &S, alloc: Global, oid: ObjectId) -> Resu
 }
 
 // The entries of the stored tree of this id.
-fn read_tree<'a, S: FindInto>(
+fn look_up_tree<'a, S: FindInto>(
     store: &S,
     alloc: Global,
     oid: ObjectId,

@@ -1,4 +1,4 @@
-//! Which opened trees edits changed.
+//! Marking an opened tree and those above it as changed; and removing an entry, whose tree is then marked.
 
 ghost use Rattle.std.specs.Prelude.{◌≡◌, ◌≢◌, ◌<◌, ℕ, length, true, Some, IsTrue, IsFalse};
 ghost use Rattle.gix_object_nodes.specs.Nodes.{child_of, HasSlotsOf};
@@ -15,13 +15,14 @@ pub(crate) fn cut(nodes: &mut [Node], at: NodeId, name: &[u8])
     requires marked { IsMarkedOf nodes.old }
     ensures { IsCut nodes.old at.0 name.now nodes.new }
 {
-    let more = is_more(nodes, slot_at(nodes, at, name));
+    let more = removal_is_change(nodes, slot_at(nodes, at, name));
     take_at(nodes, at, name);
     mark_if(nodes, at, more);
 }
 
-// Returns whether more is there than a folder that was made and into which nothing was put.
-fn is_more(nodes: &[Node], slot: Option<Slot>) -> bool
+// Returns whether removing an entry is a change: more is there than a folder that was made and into
+// which nothing was put.
+fn removal_is_change(nodes: &[Node], slot: Option<Slot>) -> bool
     requires { (c : ℕ) → child_of slot ≡ Some c → c < length nodes.now }
     ensures so { IsTrue result → IsIdle (marks_of nodes.now) slot → ⊥ }
     ensures otherwise { IsFalse result → IsIdle (marks_of nodes.now) slot }

@@ -1,4 +1,4 @@
-//! The root of an editor.
+//! Opening the root: a node is made of the entries of a `Tree`.
 
 ghost use Rattle.std.specs.Prelude.{map, IfOk};
 ghost use Rattle.gix_object_tree.specs.Entry.{own_item};

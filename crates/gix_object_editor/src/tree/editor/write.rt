@@ -1,4 +1,4 @@
-//! Writing the trees of an editor.
+//! `Editor::write`, also for a cursor: changed trees are handed out, the topmost last, and its id is returned.
 
 ghost use Rattle.std.specs.Prelude.{◌<◌, [], length, IfOk, IfErr};
 ghost use Rattle.gix_hash.specs.Id.{id_of};

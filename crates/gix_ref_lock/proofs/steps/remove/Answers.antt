@@ -48,7 +48,7 @@ returns-in-Forget-clause-made g c = λ apart honest.
     let old = g.F.Files.history c.args.files.now in
     let new = g.F.Files.history c.give_back.new.files in
     let stay = now_of (OthersStay (lock_path_of m) old.tree) old new (λ path apart. refl) (c.give_back.ensures.moments honest) in
-    on_told _ c.told.result c.give_back.result tt c.told.ensures.done
+    on_told _ c.outcome_of_call.result c.give_back.result tt c.outcome_of_call.ensures.done
     (on_ok_weaker c.give_back.result (is_given m apart old.tree c.in-Forget.is new.tree stay) (c.give_back.ensures.gone honest))
 
 pub returns-in-Pack-clause-failed : goal.returns-in-Pack-clause-failed
@@ -67,9 +67,9 @@ pub returns-in-Forget-clause-failed : goal.returns-in-Forget-clause-failed
 returns-in-Forget-clause-failed g c = λ apart honest kept.
     let m = c.args.made.now in
     let old = (g.F.Files.history c.args.files.now).tree in
-    told_cause c.give_back.result c.told.result c.told.ensures.failed (λ failed. inl (c.give_back.ensures.held honest (subst (λ act. KeepsLock act (contents m old)) c.in-Forget.is kept) failed))
+    told_cause c.give_back.result c.outcome_of_call.result c.outcome_of_call.ensures.failed (λ failed. inl (c.give_back.ensures.held honest (subst (λ act. KeepsLock act (contents m old)) c.in-Forget.is kept) failed))
 
 pub returns-in-Forget-clause-keeps : goal.returns-in-Forget-clause-keeps
 returns-in-Forget-clause-keeps g c =
     let kept = c.give_back.ensures.keeps in
-    record { honest = kept.honest; later = kept.later; quiet = λ quiet. kept.quiet (c.told.ensures.quiet (λ no. no) quiet); folders = kept.folders }
+    record { honest = kept.honest; later = kept.later; quiet = λ quiet. kept.quiet (c.outcome_of_call.ensures.quiet (λ no. no) quiet); folders = kept.folders }

@@ -19,14 +19,14 @@ returns-in-Ok-File-clause-gone g c = λ honest.
     let old = (g.F.Files.history c.args.files.now).tree in
     let new = (g.F.Files.history c.remove_file.new.self).tree in
     let change = c.remove_file.ensures.change honest in
-    on_told _ c.told.result c.remove_file.result tt c.told.ensures.done
+    on_told _ c.outcome_of_call.result c.remove_file.result tt c.outcome_of_call.ensures.done
     (on_ok_both c.remove_file.result (is_gone c.args.path.now old new) change.allowed change.made)
 
 pub returns-in-Ok-File-clause-keeps : goal.returns-in-Ok-File-clause-keeps
 returns-in-Ok-File-clause-keeps g c = record {
   honest = c.remove_file.ensures.honest;
   later = c.remove_file.ensures.later;
-  quiet = λ quiet. quiet_of c.remove_file.result c.remove_file.ensures.unfailed c.remove_file.ensures.memory (told_quiet _ c.told.result c.remove_file.result c.told.ensures.done c.told.ensures.quiet quiet);
+  quiet = λ quiet. quiet_of c.remove_file.result c.remove_file.ensures.unfailed c.remove_file.ensures.memory (told_quiet _ c.outcome_of_call.result c.remove_file.result c.outcome_of_call.ensures.done c.outcome_of_call.ensures.quiet quiet);
   folders = λ honest.
       let old = g.F.Files.history c.args.files.now in
       adds_weaker old (g.F.Files.history c.remove_file.new.self) (c.remove_file.ensures.change honest).moments (λ x left. while_removed c.args.path.now old.tree x left);
@@ -38,5 +38,5 @@ returns-in-Ok-File-clause-failed g c = λ honest.
     let path = c.args.path.now in
     let f = g.F.Files.failures in
     let may = file_there (node_at old path) _ (rw c.in-Ok-File.field-0-is at (c.in-Ok-File.ensures.place honest)) in
-    told_cause c.remove_file.result c.told.result c.told.ensures.failed
+    told_cause c.remove_file.result c.outcome_of_call.result c.outcome_of_call.ensures.failed
     (λ failed. caused (is_file_at old path) (f c.args.files.now) (f c.remove_file.new.self) c.remove_file.result may (c.remove_file.ensures.cause honest) failed)

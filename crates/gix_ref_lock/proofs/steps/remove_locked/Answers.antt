@@ -39,7 +39,7 @@ returns-clause-made g c = λ apart honest.
     let new = g.F.Files.history c.give_back.new.files in
     let gone = subst (λ (p : List ℕ). IsGone p old.tree mid.tree) c.deref.ensures.value (c.in_ok-remove_file.ensures.gone honest) in
     let stay = now_of (OthersStay (lock_path_of m) mid.tree) mid new (λ path apart. refl) (c.give_back.ensures.moments (c.remove_file.ensures.keeps.honest honest)) in
-    on_told _ c.told.result c.give_back.result tt c.told.ensures.done
+    on_told _ c.outcome_of_call.result c.give_back.result tt c.outcome_of_call.ensures.done
     (on_ok_weaker c.give_back.result (is_removed m apart old.tree mid.tree gone new.tree stay) (c.give_back.ensures.gone (c.remove_file.ensures.keeps.honest honest)))
 
 pub returns-clause-failed : goal.returns-clause-failed
@@ -50,8 +50,8 @@ returns-clause-failed g c = λ apart honest held.
     let f = g.F.Files.failures in
     let gone = subst (λ (p : List ℕ). IsGone p old mid) c.deref.ensures.value (c.in_ok-remove_file.ensures.gone honest) in
     let there = ap is_some (gone.others (lock_path_of m) (λ e. apart.lock (sym e))) ∙ held in
-    since g.F.Files.reading_may_fail (f c.args.files.now) (f c.remove_file.new.files) (f c.give_back.new.files) c.told.result c.remove_file.ensures.keeps.later
-    (told_cause c.give_back.result c.told.result c.told.ensures.failed (λ failed. inl (c.give_back.ensures.held (c.remove_file.ensures.keeps.honest honest) there failed)))
+    since g.F.Files.reading_may_fail (f c.args.files.now) (f c.remove_file.new.files) (f c.give_back.new.files) c.outcome_of_call.result c.remove_file.ensures.keeps.later
+    (told_cause c.give_back.result c.outcome_of_call.result c.outcome_of_call.ensures.failed (λ failed. inl (c.give_back.ensures.held (c.remove_file.ensures.keeps.honest honest) there failed)))
 
 pub returns-in_err-remove_file-clause-failed : goal.returns-in_err-remove_file-clause-failed
 returns-in_err-remove_file-clause-failed g c = λ apart honest held.
@@ -60,7 +60,7 @@ returns-in_err-remove_file-clause-failed g c = λ apart honest held.
 
 pub returns-clause-keeps : goal.returns-clause-keeps
 returns-clause-keeps g c =
-    kept_joined g.F.Files c.args.files.now c.remove_file.new.files c.give_back.new.files c.in_ok-remove_file.ensures.keeps c.give_back.ensures.keeps (λ quiet. (tt, c.told.ensures.quiet (λ no. no) quiet))
+    kept_joined g.F.Files c.args.files.now c.remove_file.new.files c.give_back.new.files c.in_ok-remove_file.ensures.keeps c.give_back.ensures.keeps (λ quiet. (tt, c.outcome_of_call.ensures.quiet (λ no. no) quiet))
 
 pub returns-in_err-remove_file-clause-keeps : goal.returns-in_err-remove_file-clause-keeps
 returns-in_err-remove_file-clause-keeps g c =

@@ -40,7 +40,7 @@ returns-in_ok-note-in-Put-clause-made g c = λ apart honest.
     let new = g.F.Files.history c.put.new.files in
     let is_noted = subst (λ (p : List ℕ). NotesLog line p old.tree mid.tree) c.deref.ensures.value (c.in_ok-note-in-Put.ensures.noted honest) in
     let may = now_of (MayBePut (place_of m) (lock_path_of m) (bytes_at mid.tree (lock_path_of m)) mid.tree) mid new (record { here = inl refl; others = λ path a b. refl }) (c.put.ensures.moments (c.note.ensures.keeps.honest honest)) in
-    on_told _ c.told.result c.put.result tt c.told.ensures.done
+    on_told _ c.outcome_of_call.result c.put.result tt c.outcome_of_call.ensures.done
     (on_ok_weaker c.put.result (is_put m apart line old.tree c.in-Put.is mid.tree is_noted new.tree may) (c.put.ensures.put (c.note.ensures.keeps.honest honest)))
 
 pub returns-in_ok-note-in-Note-clause-moments : goal.returns-in_ok-note-in-Note-clause-moments
@@ -64,7 +64,7 @@ returns-in_ok-note-in-Note-clause-made g c = λ apart honest.
     let new = g.F.Files.history c.give_back.new.files in
     let is_noted = subst (λ (p : List ℕ). NotesLog line p old.tree mid.tree) c.deref-in-Note.ensures.value (c.in_ok-note-in-Note.ensures.noted honest) in
     let stay = now_of (OthersStay (lock_path_of m) mid.tree) mid new (λ path apart. refl) (c.give_back.ensures.moments (c.note-in-Note.ensures.keeps.honest honest)) in
-    on_told _ c.told-in-Note.result c.give_back.result tt c.told-in-Note.ensures.done
+    on_told _ c.outcome_of_call-in-Note.result c.give_back.result tt c.outcome_of_call-in-Note.ensures.done
     (on_ok_weaker c.give_back.result (is_note m apart line old.tree c.in-Note.is mid.tree is_noted new.tree stay) (c.give_back.ensures.gone (c.note-in-Note.ensures.keeps.honest honest)))
 
 pub returns-in-Pack-clause-moments : goal.returns-in-Pack-clause-moments
@@ -95,8 +95,8 @@ returns-in_ok-note-in-Put-clause-failed g c = λ apart beside honest can.
     let f = g.F.Files.failures in
     let is_noted = subst (λ (p : List ℕ). NotesLog line p old.tree mid.tree) c.deref.ensures.value (c.in_ok-note-in-Put.ensures.noted honest) in
     let held = lock_after m apart beside line old.tree mid.tree is_noted can.held in
-    since g.F.Files.reading_may_fail (f c.args.files.now) (f c.note.new.files) (f c.put.new.files) c.told.result c.note.ensures.keeps.later
-    (told_cause c.put.result c.told.result c.told.ensures.failed (λ failed. inl (c.put.ensures.failed (c.note.ensures.keeps.honest honest) held (place_after m apart beside line old.tree mid.tree (only_now (noted_logs line (log_path_of m)) old mid first) can.place) failed)))
+    since g.F.Files.reading_may_fail (f c.args.files.now) (f c.note.new.files) (f c.put.new.files) c.outcome_of_call.result c.note.ensures.keeps.later
+    (told_cause c.put.result c.outcome_of_call.result c.outcome_of_call.ensures.failed (λ failed. inl (c.put.ensures.failed (c.note.ensures.keeps.honest honest) held (place_after m apart beside line old.tree mid.tree (only_now (noted_logs line (log_path_of m)) old mid first) can.place) failed)))
 
 pub returns-in_ok-note-in-Note-clause-failed : goal.returns-in_ok-note-in-Note-clause-failed
 returns-in_ok-note-in-Note-clause-failed g c = λ apart beside honest can.
@@ -108,8 +108,8 @@ returns-in_ok-note-in-Note-clause-failed g c = λ apart beside honest can.
     let f = g.F.Files.failures in
     let is_noted = subst (λ (p : List ℕ). NotesLog line p old.tree mid.tree) c.deref-in-Note.ensures.value (c.in_ok-note-in-Note.ensures.noted honest) in
     let held = lock_after m apart beside line old.tree mid.tree is_noted can.held in
-    since g.F.Files.reading_may_fail (f c.args.files.now) (f c.note-in-Note.new.files) (f c.give_back.new.files) c.told-in-Note.result c.note-in-Note.ensures.keeps.later
-    (told_cause c.give_back.result c.told-in-Note.result c.told-in-Note.ensures.failed (λ failed. inl (c.give_back.ensures.held (c.note-in-Note.ensures.keeps.honest honest) held failed)))
+    since g.F.Files.reading_may_fail (f c.args.files.now) (f c.note-in-Note.new.files) (f c.give_back.new.files) c.outcome_of_call-in-Note.result c.note-in-Note.ensures.keeps.later
+    (told_cause c.give_back.result c.outcome_of_call-in-Note.result c.outcome_of_call-in-Note.ensures.failed (λ failed. inl (c.give_back.ensures.held (c.note-in-Note.ensures.keeps.honest honest) held failed)))
 
 pub returns-in-Pack-clause-failed : goal.returns-in-Pack-clause-failed
 returns-in-Pack-clause-failed g c = λ apart beside honest can.
@@ -155,12 +155,12 @@ returns-in_err-note-in-Note-clause-moments g c = λ apart honest.
 pub returns-in_ok-note-in-Put-clause-keeps : goal.returns-in_ok-note-in-Put-clause-keeps
 returns-in_ok-note-in-Put-clause-keeps g c =
     honest_joined g.F.Files c.args.files.now c.note.new.files c.put.new.files c.in_ok-note-in-Put.ensures.keeps (honest_of g.F.Files c.note.new.files c.put.new.files c.put.ensures.keeps)
-    (λ quiet. (tt, c.told.ensures.quiet (λ no. no) quiet))
+    (λ quiet. (tt, c.outcome_of_call.ensures.quiet (λ no. no) quiet))
 
 pub returns-in_ok-note-in-Note-clause-keeps : goal.returns-in_ok-note-in-Note-clause-keeps
 returns-in_ok-note-in-Note-clause-keeps g c =
     honest_joined g.F.Files c.args.files.now c.note-in-Note.new.files c.give_back.new.files c.in_ok-note-in-Note.ensures.keeps (honest_of g.F.Files c.note-in-Note.new.files c.give_back.new.files c.give_back.ensures.keeps)
-    (λ quiet. (tt, c.told-in-Note.ensures.quiet (λ no. no) quiet))
+    (λ quiet. (tt, c.outcome_of_call-in-Note.ensures.quiet (λ no. no) quiet))
 
 pub returns-in_err-note-in-Put-clause-keeps : goal.returns-in_err-note-in-Put-clause-keeps
 returns-in_err-note-in-Put-clause-keeps g c =

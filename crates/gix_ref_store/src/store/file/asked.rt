@@ -1,4 +1,4 @@
-//! Which names a listing wants.
+//! Which names a listing wants: all, by prefix or below a name; which folder and paths may have them.
 
 ghost use Rattle.std.specs.Prelude.{◌≡◌, ◌<◌, ◌++◌, ◌∷◌, [], ℕ, List, Some, IsTrue, IsFalse, IfOk, IfSome, MatchOption, length};
 ghost use Rattle.gix_object_lines.specs.NameTest.{begins, is_full_name};
@@ -52,7 +52,7 @@ impl Asked<'_> {
     }
 
     // Returns whether wanted names may be at this path of a file or below it.
-    pub(crate) fn may_stand_at(self, alloc: Global, path: &[u8]) -> Result<bool, AllocError>
+    pub(crate) fn may_be_at(self, alloc: Global, path: &[u8]) -> Result<bool, AllocError>
         ensures { IfOk result (λ may. IsTrue (spec.leads self.entry path.now) → IsTrue may) }
     {
         if self.leads(path) {

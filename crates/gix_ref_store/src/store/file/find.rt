@@ -1,4 +1,4 @@
-//! Lookups of references.
+//! Lookups of a reference by name (`find`, `try_find`); packed ones are opened, unless a name is never packed.
 
 ghost use Rattle.std.specs.Prelude.{◌≡◌, ◌&&◌, not, is_some, IfErr};
 ghost use Rattle.gix_ref_name.specs.Names.{part_of};

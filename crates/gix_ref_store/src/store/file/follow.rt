@@ -1,4 +1,4 @@
-//! Following symbolic references.
+//! Following symbolic references to an object's id; and the reference of a full name that must exist.
 
 ghost use Rattle.std.specs.Prelude.{◌≡◌, IfErr, MatchResult, unwrap_or};
 ghost use Rattle.gix_ref_store.specs.Finds.{state_of, OnExisting};

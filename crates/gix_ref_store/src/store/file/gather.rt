@@ -1,4 +1,4 @@
-//! The names that a listing goes over.
+//! The names that a listing goes over, collected from files, packed records and pseudo references.
 
 ghost use Rattle.std.specs.BTreeMap.{keys};
 ghost use Rattle.std.specs.Prelude.{◌≡◌, ◌⊎◌, ℕ, List, IsTrue, IfErr, OnOk};

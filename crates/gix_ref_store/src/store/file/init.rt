@@ -1,4 +1,4 @@
-//! Stores of folders, and which folders no store is of.
+//! Making a store; folders that are refused: whether a path is below a folder, or in its `refs` or `logs`.
 
 ghost use Rattle.std.specs.Prelude.{◌≡◌, ◌<◌, [], Some, None, length, IfOk, IfErr, IsTrue};
 ghost use Rattle.gix_ref_store.specs.Folders as spec;

@@ -1,4 +1,4 @@
-//! Listings of references.
+//! The iterator of a listing (`LooseThenPacked`): each name's reference, or why it has none.
 
 ghost use Rattle.std.specs.Prelude.{◌≡◌, length};
 ghost use Rattle.std.specs.Iterator.{at_most};

@@ -1,4 +1,4 @@
-//! Names as a store knows them.
+//! The bytes of a name as the store knows them: composed (precomposed Unicode), if its options say so.
 
 ghost use Rattle.std.specs.Prelude.{◌≡◌, IfOk};
 ghost use Rattle.gix_ref_store.specs.Known.{known_as};

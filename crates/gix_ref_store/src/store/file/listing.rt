@@ -1,4 +1,4 @@
-//! Listings of a store: what they are made of.
+//! Making a listing: all references, by prefix, below a name, loose ones or pseudo ones (`iter`, `Platform`).
 
 ghost use Rattle.std.specs.BTreeMap.{IsOrdered};
 ghost use Rattle.std.specs.Prelude.{◌≡◌, None, IfOk, IfErr, IsErrOf, MatchResult};

@@ -1,4 +1,4 @@
-//! Logs of references.
+//! Logs by a reference's name (`reflog_exists`, `reflog_iter`), and a log's file (`LogFile`); why one isn't read.
 
 ghost use Rattle.std.specs.Prelude.{◌≡◌, ⊤, [], None, is_some, length, option_map, IfOk, IfErr, IfSome, IsSome, IsErrOf};
 ghost use Rattle.gix_ref_file.specs.Tree.{bytes_at};

@@ -1,4 +1,4 @@
-//! The logs of references.
+//! One reference's log with its buffer (`LogPlatform`), read from either end: `all`, `rev`.
 
 ghost use Rattle.std.specs.Prelude.{IfErr, IfOk, IfSome, option_map};
 ghost use Rattle.gix_ref_name.specs.Names.{name_of};

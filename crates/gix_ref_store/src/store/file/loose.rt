@@ -1,4 +1,4 @@
-//! The logs of loose references.
+//! Methods of loose references for their logs (`LogExt`).
 
 ghost use Rattle.std.specs.Prelude.{◌≡◌, [], ℕ, List, None, is_some, length, IfErr, IfOk, IfSome, IsSome, IsErrOf, option_map};
 ghost use Rattle.gix_ref_log.specs.LogForward.{lines_of};

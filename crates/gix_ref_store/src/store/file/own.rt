@@ -1,4 +1,4 @@
-//! What a listing knows of the files of its names.
+//! What a listing knows of a name's own file (`OwnFile`): its target, a fault, missing or unread.
 
 ghost use Rattle.std.specs.Prelude.{◌≡◌};
 ghost use Rattle.gix_ref_store.specs.OwnFiles as spec;

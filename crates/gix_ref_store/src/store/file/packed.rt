@@ -1,4 +1,4 @@
-//! The packed references of a store.
+//! Opening a store's packed references (`open_packed_buffer`), cached or refreshed.
 
 ghost use Rattle.std.specs.Prelude.{IfOk, IsErrOf, MatchResult};
 ghost use Rattle.gix_ref_format.specs.declared.packed.buffer.Error.TheVariants.{Io};

@@ -1,4 +1,4 @@
-//! Peeling references: the objects that they lead to in the end, over names and tags.
+//! Peeling, as `ReferenceExt` calls it: the object that names and then tags lead to in the end.
 
 ghost use Rattle.std.specs.Prelude.{◌≡◌, IfErr, IfOk, IsSome, Contains, MatchOption, MatchResult, None, Some, unwrap_or};
 ghost use Rattle.std.specs.List.{list_any};

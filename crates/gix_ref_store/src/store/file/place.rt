@@ -1,4 +1,4 @@
-//! Where the files of names are.
+//! The paths of a name's own file and of its log, in the folder of its worktree (`Home`); paths joined.
 
 ghost use Rattle.std.specs.Prelude.{◌≡◌, option_map, IfOk, OnOk};
 ghost use Rattle.gix_ref_file.specs.Tree.{under};
@@ -11,7 +11,7 @@ ghost use Rattle.gix_ref_store.specs.Homes.{home_of};
 use crate::store::file::Store;
 use gix_object_lines::lines::is_capitals;
 use gix_ref_file::Files;
-use gix_ref_format::lookup::{behind_slash, is_own};
+use gix_ref_format::lookup::{behind_slash, is_per_worktree};
 use gix_ref_name::FullNameRef;
 use std::alloc::{AllocError, Global};
 
@@ -29,7 +29,7 @@ impl<F: Files> Store<F> {
     pub(crate) fn home<'a>(&'a self, name: &'a [u8]) -> Home<'a>
         ensures { home_of result ≡ spec.home (base_of self.now) name.now }
     {
-        if is_own(name) {
+        if is_per_worktree(name) {
             return Home {
                 folder: self.git_dir(),
                 worktree: None,
@@ -92,7 +92,7 @@ impl<F: Files> Store<F> {
             ≡ linked_home (base_of self.now) name.now (option_map (λ rest. rest.now) rest.entry) }
     {
         match rest {
-            Some(rest) if is_own(rest) => Home {
+            Some(rest) if is_per_worktree(rest) => Home {
                 folder: self.common_dir_resolved(),
                 worktree: Some(front_of(name, rest)),
                 path: rest,

@@ -1,4 +1,4 @@
-//! The test that nothing was done with a store since it was made.
+//! Whether a store is as a new one: HEAD points to a given name, nothing is packed, no other file has a target.
 
 ghost use Rattle.std.specs.Prelude.{◌≡◌, ◌⊎◌, ◌↔◌, None, is_some, IsTrue, IfErr, IfOk, IfNone, IfSome, IsSome, MatchOption};
 ghost use Rattle.gix_ref_name.specs.Names.{name_of};

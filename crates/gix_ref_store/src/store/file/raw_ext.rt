@@ -1,4 +1,4 @@
-//! What a reference leads to in its store: its log, the next reference, and the object at the end.
+//! The methods of `ReferenceExt`: a reference's log, the next reference (`follow`), and peeling to an object.
 
 ghost use Rattle.std.specs.Prelude.{◌≡◌, is_some, IfErr, IfOk, IfSome, MatchResult, None, Some};
 ghost use Rattle.gix_hash.specs.Id.{id_of};

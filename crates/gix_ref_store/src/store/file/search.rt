@@ -1,4 +1,4 @@
-//! A search for the reference that a name means.
+//! The search for what a short name means (tag, branch, remote); the target in a name's file, or its record.
 
 ghost use Rattle.std.specs.Prelude.{◌≡◌, Some, IfOk, IfErr};
 ghost use Rattle.gix_ref_format.specs.Lookup.{lookup_names, tag_names, branch_names, remote_names, placed};

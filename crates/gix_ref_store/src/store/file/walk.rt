@@ -1,4 +1,4 @@
-//! The names of the files below a folder, and what the files say.
+//! The walk over folders of files for a listing: names found, whether a file is the name's own, and its target.
 
 ghost use Rattle.std.specs.Prelude.{◌≡◌, ◌<◌, ◌⊎◌, ℕ, List, IsTrue, IsFalse, IfOk, IfErr, OnOk, length};
 ghost use Rattle.std.specs.BTreeMap.{keys};
@@ -81,7 +81,7 @@ impl<F: Files> Walk<'_, F> {
             → IfOk result (λ more. IsTrue more) }
         ensures failed { IfErr result (MayStop ⊥) }
     {
-        if !self.asked.may_stand_at(self.alloc, path)? {
+        if !self.asked.may_be_at(self.alloc, path)? {
             return Ok(false);
         }
         match self.asked.name_of(self.alloc, path)? {

@@ -15,14 +15,14 @@ queued-preserved c =
     let old : List ObjectId = c.queued.known.queue in
     let rest : List ObjectId = c.mark.new.self.queue in
     let first : old ≡ id ∷ rest = c.in-Some.ensures.first ∙ ap (λ (zs : List ObjectId). id ∷ zs) (sym c.in_ok-mark.ensures.queue) in
-    let popped = c.pop.new.self.nodes in
-    let still = c.pop.ensures.nodes in
+    let popped = c.take_queued.new.self.nodes in
+    let still = c.take_queued.ensures.nodes in
     let marks : Marks = record { asked = true; met = false; hidden = c.marks-marks.result.hidden } in
     let new = c.in_ok-mark.ensures.marked in
     record {
       list = ap (λ (zs : List ObjectId). zs ++ rest) c.in_ok-push.ensures.items ∙ append_assoc c.queued.tips.items (id ∷ []) rest ∙ ap (λ (zs : List ObjectId). c.queued.tips.items ++ zs) (sym first) ∙ inv.list;
       inside = λ q k. inv.inside q (subst (λ (zs : List ObjectId). Contains zs q) (sym first) (in_tail id rest q k));
-      turns = c.in_ok-mark.ensures.turns ∙ c.pop.ensures.turns ∙ inv.turns;
+      turns = c.in_ok-mark.ensures.turns ∙ c.take_queued.ensures.turns ∙ inv.turns;
       hidden = λ q. hidden_same popped c.mark.new.self.nodes id marks new (ap (λ (k : Marks). k.hidden) c.marks-marks.ensures) q ∙ ap (λ (ns : List Node). is_hidden ns q) still ∙ inv.hidden q;
       met = (λ q m.
           let (before, other) = taken_off popped c.mark.new.self.nodes id marks new (λ (k : Marks). k.met) refl q m in
@@ -35,10 +35,10 @@ queued-preserved c =
     }
 
 pub returns-clause-hidden : goal.returns-clause-hidden
-returns-clause-hidden c = λ q. ap (λ (ns : List Node). is_hidden ns q) c.pop.ensures.nodes ∙ c.queued.invariant.hidden q
+returns-clause-hidden c = λ q. ap (λ (ns : List Node). is_hidden ns q) c.take_queued.ensures.nodes ∙ c.queued.invariant.hidden q
 
 pub returns-clause-met : goal.returns-clause-met
-returns-clause-met c = λ q m. let (was, kept) = c.queued.invariant.met q (sym (ap (λ (ns : List Node). is_met ns q) c.pop.ensures.nodes) ∙ m) in (was, λ k. in_nil q (subst (λ (zs : List ObjectId). Contains zs q) c.in_default.ensures.none (kept k)))
+returns-clause-met c = λ q m. let (was, kept) = c.queued.invariant.met q (sym (ap (λ (ns : List Node). is_met ns q) c.take_queued.ensures.nodes) ∙ m) in (was, λ k. in_nil q (subst (λ (zs : List ObjectId). Contains zs q) c.in_default.ensures.none (kept k)))
 
 pub returns-clause-unmet : goal.returns-clause-unmet
-returns-clause-unmet c = λ q u. c.queued.invariant.unmet q (sym (ap (λ (ns : List Node). is_met ns q) c.pop.ensures.nodes) ∙ u)
+returns-clause-unmet c = λ q u. c.queued.invariant.unmet q (sym (ap (λ (ns : List Node). is_met ns q) c.take_queued.ensures.nodes) ∙ u)

@@ -10,7 +10,7 @@ use Rattle.gix_traverse_tree.proofs.depthfirst.show_next.Goals as goal
 pub returns-in_err-entry-clause-refused : goal.returns-in_err-entry-clause-refused
 returns-in_err-entry-clause-refused g c =
     let p = err_from_is_err_and c.from_residual.result c.from_residual.ensures.1 in
-    let place : place_of c.from_bytes-entries.result ≡ start (id_of c.args.tree.now.id).kind (left_of c.args.tree.now) = c.from_bytes-entries.ensures ∙ (λ i. start (c.kind.ensures i) (c.left.ensures i)) in
+    let place : place_of c.from_bytes-entries.result ≡ start (id_of c.args.tree.now.id).kind (left_of c.args.tree.now) = c.from_bytes-entries.ensures ∙ (λ i. start (c.kind.ensures i) (c.bytes_left.ensures i)) in
     let found = subst (λ r. Steps (place_of c.from_bytes-entries.result) (Some r) (place_of c.next.new.self)) c.in_err-entry.was c.in-Some.ensures.steps in
     let steps = subst (λ (q : Place). Steps q (Some (Err c.in_err-entry.field-0.0)) (place_of c.next.new.self)) place found in
     rw (p.1, p.2) (inr (steps.0, steps.1, steps.2, refl))
@@ -18,7 +18,7 @@ returns-in_err-entry-clause-refused g c =
 pub returns-clause-shown : goal.returns-clause-shown
 returns-clause-shown g c =
     let tree = c.args.tree.now in
-    let place : place_of c.from_bytes-entries.result ≡ start (id_of tree.id).kind (left_of tree) = c.from_bytes-entries.ensures ∙ (λ i. start (c.kind.ensures i) (c.left.ensures i)) in
+    let place : place_of c.from_bytes-entries.result ≡ start (id_of tree.id).kind (left_of tree) = c.from_bytes-entries.ensures ∙ (λ i. start (c.kind.ensures i) (c.bytes_left.ensures i)) in
     let found = subst (λ r. Steps (place_of c.from_bytes-entries.result) (Some r) (place_of c.next.new.self)) c.in_ok-entry.was c.in-Some.ensures.steps in
     let steps = subst (λ (q : Place). Steps q (Some (Ok c.in_ok-entry.entry)) (place_of c.next.new.self)) place found in
     let input = (place_of c.next.new.self).input in

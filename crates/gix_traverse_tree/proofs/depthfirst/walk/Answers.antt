@@ -36,17 +36,17 @@ returns-in_err-more-clause-stopped g c =
     let trees = reverse c.steps.trees.items in
     let so = subst (λ (b : Bool). WhereTrue b (Walking g.V.Visit.goes H M table ids root c.args.delegate.now c.steps.delegate trees) (WalksIn g.V.Visit.goes H M table root c.args.delegate.now c.steps.delegate IsGood)) c.steps-test.true c.steps.invariant in
     let p = err_from_is_err_and c.from_residual-in_err-more.result c.from_residual-in_err-more.ensures.1 in
-    rw (p.1, p.2) (memory_or (λ error. IsAtEnd g.V.Visit.goes H M table c.steps.delegate trees c.go_on.new.delegate (λ end. end ≡ failed error)) (λ error. WalksIn g.V.Visit.goes H M table root c.args.delegate.now c.go_on.new.delegate (λ end. end ≡ failed error)) c.in_err-more.field-0.0
-    (λ error h. walking_end g.V.Visit.goes H M table ids root c.args.delegate.now c.steps.delegate c.go_on.new.delegate trees (λ end. end ≡ failed error) so h)
+    rw (p.1, p.2) (memory_or (λ error. IsAtEnd g.V.Visit.goes H M table c.steps.delegate trees c.take_step.new.delegate (λ end. end ≡ failed error)) (λ error. WalksIn g.V.Visit.goes H M table root c.args.delegate.now c.take_step.new.delegate (λ end. end ≡ failed error)) c.in_err-more.field-0.0
+    (λ error h. walking_end g.V.Visit.goes H M table ids root c.args.delegate.now c.steps.delegate c.take_step.new.delegate trees (λ end. end ≡ failed error) so h)
     c.in_err-more.ensures.stopped)
 
 pub steps-smaller : goal.steps-smaller
 steps-smaller g c =
-    walking_less g.V.Visit.goes (g.F.Lookup.is_honest c.args.objects.now) (g.F.Lookup.may_fail c.args.objects.now) (g.F.Lookup.table c.args.objects.now) (g.F.Lookup.ids c.args.objects.now) (id_of c.args.root) c.args.delegate.now c.steps.delegate c.go_on.new.delegate (reverse c.steps.trees.items) (reverse c.go_on.new.trees.items) c.steps.more c.in_ok-more.more c.steps-test.true c.steps.invariant c.in_ok-more.ensures.more
+    walking_less g.V.Visit.goes (g.F.Lookup.is_honest c.args.objects.now) (g.F.Lookup.may_fail c.args.objects.now) (g.F.Lookup.table c.args.objects.now) (g.F.Lookup.ids c.args.objects.now) (id_of c.args.root) c.args.delegate.now c.steps.delegate c.take_step.new.delegate (reverse c.steps.trees.items) (reverse c.take_step.new.trees.items) c.steps.more c.in_ok-more.more c.steps-test.true c.steps.invariant c.in_ok-more.ensures.more
 
 pub steps-preserved : goal.steps-preserved
 steps-preserved g c =
-    walking_next g.V.Visit.goes (g.F.Lookup.is_honest c.args.objects.now) (g.F.Lookup.may_fail c.args.objects.now) (g.F.Lookup.table c.args.objects.now) (g.F.Lookup.ids c.args.objects.now) (id_of c.args.root) c.args.delegate.now c.steps.delegate c.go_on.new.delegate (reverse c.steps.trees.items) (reverse c.go_on.new.trees.items) c.steps.more c.in_ok-more.more c.steps-test.true c.steps.invariant c.in_ok-more.ensures.more
+    walking_next g.V.Visit.goes (g.F.Lookup.is_honest c.args.objects.now) (g.F.Lookup.may_fail c.args.objects.now) (g.F.Lookup.table c.args.objects.now) (g.F.Lookup.ids c.args.objects.now) (id_of c.args.root) c.args.delegate.now c.steps.delegate c.take_step.new.delegate (reverse c.steps.trees.items) (reverse c.take_step.new.trees.items) c.steps.more c.in_ok-more.more c.steps-test.true c.steps.invariant c.in_ok-more.ensures.more
 
 pub returns-clause-whole : goal.returns-clause-whole
 returns-clause-whole g c =

@@ -2,8 +2,8 @@ use Rattle.std.proofs.Common.{refl, sym, ◌∙◌, ap, subst, option_map}
 use Rattle.history_model.specs.Commands.{Files, Index, Show, Names, Past, Log}
 use Rattle.history_word.specs.Commands.{IsReceived, is_received_changing}
 use Rattle.history_word.proofs.Changing.{received_changes}
-use Rattle.history.specs.Acts.{CountsFailure, MeetsFailedCall}
-use Rattle.history.specs.Indexed.{LeavesRows}
+use Rattle.history.specs.Acts.{MeetsFailedCall, LeavesRows}
+use Rattle.history.specs.Runs.{CountsFailure}
 use Rattle.history_repository.specs.Face.{rows_in}
 use Rattle.history_repository.specs.Reads.{OnlyAnswers}
 use Rattle.history_repository.specs.Stands.{Stands}

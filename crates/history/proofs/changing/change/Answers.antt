@@ -1,7 +1,7 @@
 use Rattle.std.proofs.Common.{◌∙◌, ap, Err}
 use Rattle.std.proofs.lemmas.Result.{err_from_is_err_and}
 use Rattle.history_model.specs.Meaning.{after}
-use Rattle.history.specs.Acts.{CountsFailure}
+use Rattle.history.specs.Runs.{CountsFailure}
 use Rattle.history.specs.Storing.{HasStored}
 use Rattle.history_plans.specs.Halves.{names_tree}
 use Rattle.history_repository.specs.Stands.{Stands}

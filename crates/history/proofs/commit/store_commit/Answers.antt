@@ -2,7 +2,7 @@ use Rattle.std.proofs.Common.{◌∙◌, ap, inr, Ok, Err, refl}
 use Rattle.std.proofs.lemmas.Result.{err_from_is_err_and}
 use Rattle.history_model.specs.Commands.{Commit}
 use Rattle.history_layout.specs.OneNameSteps.{commit_move}
-use Rattle.history.specs.Acts.{CountsFailure}
+use Rattle.history.specs.Runs.{CountsFailure}
 use Rattle.history.specs.Storing.{HasStored}
 use Rattle.history.proofs.NamesPlanned.{made_id, one_moved}
 use Rattle.history.proofs.Puts.{alone_more}
@@ -27,7 +27,7 @@ returns-in_err-moved-clause-stores g c = λ r sent asked.
     let stopped = err_from_is_err_and c.from_residual-in_err-moved.result c.from_residual-in_err-moved.ensures.1 in
     nothing_stored F old r (Commit sent) (Fault (file_fault c.in_err-moved.field-0.0)) c.from_residual-in_err-moved.result (stopped.1 ∙ ap Err stopped.2)
     (lock_unread F.reading_may_fail (CountsFailure F.failures F.reading_may_fail old old) (HasStored F.is_honest F.history old r (Commit sent)) (λ may. inr (inr may))
-    r (Commit sent) c.only.result c.in_err-moved.field-0.0 c.in_err-moved.was c.only.ensures.failed)
+    r (Commit sent) c.moves_of_one.result c.in_err-moved.field-0.0 c.in_err-moved.was c.moves_of_one.ensures.failed)
 
 pub returns-in_err-put_all-clause-stores : goal.returns-in_err-put_all-clause-stores
 returns-in_err-put_all-clause-stores g c = λ r sent asked.

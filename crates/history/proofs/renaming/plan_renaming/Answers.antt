@@ -15,12 +15,12 @@ returns-in_err-test_lock g c = λ r from to h is.
     let stopped = err_from_is_err_and c.from_residual-in_err-test_lock.result c.from_residual-in_err-test_lock.ensures.1 in
     unread g.F.Files.reading_may_fail r (Rename from to) c.from_residual-in_err-test_lock.result c.test_lock.result c.in_err-test_lock.field-0.0 (stopped.1 ∙ ap Err stopped.2) c.in_err-test_lock.was c.test_lock.ensures
 
-pub returns-in_err-only : goal.returns-in_err-only
-returns-in_err-only g c = λ r from to h is.
-    let stopped = err_from_is_err_and c.from_residual-in_err-only.result c.from_residual-in_err-only.ensures.1 in
-    unread g.F.Files.reading_may_fail r (Rename from to) c.from_residual-in_err-only.result c.only.result c.in_err-only.field-0.0 (stopped.1 ∙ ap Err stopped.2) c.in_err-only.was c.only.ensures.failed
+pub returns-in_err-moves_of_one : goal.returns-in_err-moves_of_one
+returns-in_err-moves_of_one g c = λ r from to h is.
+    let stopped = err_from_is_err_and c.from_residual-in_err-moves_of_one.result c.from_residual-in_err-moves_of_one.ensures.1 in
+    unread g.F.Files.reading_may_fail r (Rename from to) c.from_residual-in_err-moves_of_one.result c.moves_of_one.result c.in_err-moves_of_one.field-0.0 (stopped.1 ∙ ap Err stopped.2) c.in_err-moves_of_one.was c.moves_of_one.ensures.failed
 
 pub returns : goal.returns
 returns g c = λ r from to h is.
     let planned = c.in_ok-to.ensures r from to h is in
-    record { none = planned.0; free = refl; told = record { is = tt; moves = new_moved r from to c.in_ok-to.to c.in_ok-only.field-0.items c.in_ok-only.ensures.moved planned.1; takes = ap Some is.from_is } }
+    record { none = planned.0; free = refl; told = record { is = tt; moves = new_moved r from to c.in_ok-to.to c.in_ok-moves_of_one.field-0.items c.in_ok-moves_of_one.ensures.moved planned.1; takes = ap Some is.from_is } }

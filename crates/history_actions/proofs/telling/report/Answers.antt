@@ -8,6 +8,6 @@ returns g c =
     let text = is_told c.args.kind c.args.answer.now c.in-Err.failure c.in-Err.is c.in_default-failure.not-Ended in
     record {
       status = is_failed c.args.answer.now c.in-Err.failure c.in-Err.is;
-      told = subst (Took (g.E.Sink.contents c.args.errors.now) (g.E.Sink.contents c.tell.new.errors) (g.E.Sink.has_failed c.tell.new.errors)) (sym text) (took _ _ _ _ c.tell.result c.tell.ensures);
+      told = subst (Took (g.E.Sink.contents c.args.errors.now) (g.E.Sink.contents c.write_failure.new.errors) (g.E.Sink.has_failed c.write_failure.new.errors)) (sym text) (took _ _ _ _ c.write_failure.result c.write_failure.ensures);
       silent = λ none. absurd (is_loud _ _ (sym text ∙ none));
     }

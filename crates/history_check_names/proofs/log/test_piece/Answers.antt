@@ -26,9 +26,9 @@ returns-in_err-test_line-clause-wrong c = λ log more start piece.
 
 pub returns-then-taken-eq0-clause-wrong : goal.returns-then-taken-eq0-clause-wrong
 returns-then-taken-eq0-clause-wrong c = λ log more start piece.
-    piece_endless c.args.kind log c.args.piece.now more c.args.before c.endless.result start piece
+    piece_endless c.args.kind log c.args.piece.now more c.args.before c.unended_line_fault.result start piece
     (piece_lacks c.args.kind c.args.piece.now c.lines.rest.now c.args.before c.lines.number c.lines.invariant c.if-taken-eq0.true c.in_default.ensures)
-    c.endless.ensures
+    c.unended_line_fault.ensures
 
 pub returns-clause-lines : goal.returns-clause-lines
 returns-clause-lines c = rest_told c.args.kind c.args.piece.now c.lines.rest.now c.args.before c.lines.number c.lines.invariant

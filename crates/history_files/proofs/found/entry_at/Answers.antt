@@ -2,9 +2,10 @@ use Rattle.std.proofs.Common.{◌∙◌, ◌+◌, ap, sym, subst, Bor, List, ℕ
 use Rattle.std.proofs.lemmas.Result.{err_from_is_err_and}
 use Rattle.gix_hash.specs.Id.{id_of}
 use Rattle.history_model.specs.Objects.{entry_at}
+use Rattle.history_files.specs.NamedTrees.{texts}
 use Rattle.history_files.specs.Reading.{StepsBelow}
 use Rattle.history_files.specs.declared.found.Found.TheVariants.{Folder}
-use Rattle.history_files.proofs.AtNames.{Leads, texts, from_root, step_none, step_some, own, next_name, name_is_plain}
+use Rattle.history_files.proofs.AtNames.{Leads, from_root, step_none, step_some, own, next_name, name_is_plain}
 use Rattle.history_files.proofs.Breaks.{tells_unread}
 use Rattle.history_files.proofs.found.entry_at.Goals as goal
 

@@ -3,8 +3,9 @@ use Rattle.gix_hash.specs.Id.{id_of}
 use Rattle.gix_hash.specs.declared.kind.Kind.{Kind}
 use Rattle.history_model.specs.FileMap.{FileMap}
 use Rattle.history_model.specs.Objects.{entry_at}
+use Rattle.history_files.specs.NamedTrees.{texts}
 use Rattle.history_files.specs.Reading.{IsRootOf}
-use Rattle.history_files.proofs.AtNames.{Leads, texts}
+use Rattle.history_files.proofs.AtNames.{Leads}
 use Rattle.history_files.proofs.found.entry_at.Given as goal
 
 abbrev pub invariant-loop-name : goal.invariant-loop-name

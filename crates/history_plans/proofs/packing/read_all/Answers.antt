@@ -8,7 +8,7 @@ use Rattle.history_store.specs.declared.listed.NamedId.{NamedId}
 use Rattle.history_repository.specs.NamesShown.{shown_name, told_name}
 use Rattle.history_repository.proofs.ReadingFaults.{fault_told}
 use Rattle.history_repository.proofs.NameLines.{one_peeled, one_shown}
-use Rattle.history_plans.proofs.HeldKept.{commit_told}
+use Rattle.history_repository.proofs.HeldKept.{commit_told}
 use Rattle.history_plans.proofs.packing.read_all.Goals as goal
 
 pub loop-named-init : goal.loop-named-init

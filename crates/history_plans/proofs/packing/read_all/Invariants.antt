@@ -3,7 +3,7 @@ use Rattle.history_files.specs.Laws.{table_of}
 use Rattle.history_model.specs.Repository as plain
 use Rattle.history_repository.specs.NamesShown.{ArePeeled, shown_name, told_name}
 use Rattle.history_repository.specs.Stands.{Stands}
-use Rattle.history_plans.specs.HeldObjects.{AreOf}
+use Rattle.history_repository.specs.HeldObjects.{AreOf}
 use Rattle.history_plans.proofs.packing.read_all.Given as goal
 
 -- the names so far are shown with what they hold, and that is held

@@ -28,7 +28,7 @@ returns-in_err-before g c = λ r s read seen trees.
     let first = first_of c.as_slice.result.now c.first.result c.in-Some.parent c.in-Some.is c.first.ensures.value in
     let are = sym seen.parents ∙ ap (map id_of) (sym c.as_slice.ensures ∙ first.1) in
     let holds = (subst (AllByRecursion (HoldsCommit r)) are (parents_held _ _ c.args.repository.now r s (id_of c.args.here.now.id) seen.holds)).0 in
-    fault_told g.F.Files.reading_may_fail _ c.from_residual-in_err-before.result _ c.from_residual-in_err-before.ensures.1 (c.in_err-before.ensures r s read holds trees)
+    fault_told g.F.Files.reading_may_fail _ c.from_residual-in_err-before.result _ c.from_residual-in_err-before.ensures.1 (c.in_err-before.ensures r c.args.paths.now s read holds trees)
 
 pub returns : goal.returns
 returns g c = λ r s read seen trees.
@@ -36,7 +36,7 @@ returns g c = λ r s read seen trees.
     let first = first_of c.as_slice.result.now c.first.result c.in-Some.parent c.in-Some.is c.first.ensures.value in
     let are = sym seen.parents ∙ ap (map id_of) (sym c.as_slice.ensures ∙ first.1) in
     let holds = (subst (AllByRecursion (HoldsCommit r)) are (parents_held _ _ c.args.repository.now r s (id_of here.id) seen.holds)).0 in
-    let before = c.in_ok-before.ensures r s read holds trees in
+    let before = c.in_ok-before.ensures r c.args.paths.now s read holds trees in
     let own = ap (map (option_map entry_of)) c.as_slice-2.ensures.value ∙ seen.found in
     let there = ap (map (option_map entry_of)) c.as_slice-3.ensures.value ∙ before_first r (id_of here.id) c.args.paths.now c.in_ok-before.before (id_of (c.in-Some.parent).now) (map id_of first.0) are before.0 in (
       record {

@@ -45,7 +45,7 @@ returns-clause-lists g c =
     (c.in_ok-sorting.ensures.made (asked tips hidden c.args.parents BreadthFirst)
     (inl (c.in_ok-walk.ensures.made (asked tips [] c.args.parents BreadthFirst) (inl (c.parents.ensures.made (asked tips [] AllParents BreadthFirst) (inl (c.commit_graph.ensures.made (asked tips [] AllParents BreadthFirst) c.in_ok-new.ensures.made))))))).made in
     λ is h told sure. over_same g.F.Lookup.is_honest g.F.Lookup.table
-    (λ o r h. (a : Asked) → IsSure (g.F.Lookup.may_fail o) a → IsMade (λ _ _. true) a walk → IfOk c.given.result (λ (ids : Vec ObjectId Global). Answers h a ids.items)) (objects_of walk) c.args.store (graph_of walk) c.args.rows objects rows c.given.ensures.lists
+    (λ o r h. (a : Asked) → IsSure (g.F.Lookup.may_fail o) a → IsMade (λ _ _. true) a walk → IfOk c.collect_ids.result (λ (ids : Vec ObjectId Global). Answers h a ids.items)) (objects_of walk) c.args.store (graph_of walk) c.args.rows objects rows c.collect_ids.ensures.lists
     is h told (asked tips hidden c.args.parents c.args.sorting) sure made
 
 pub returns-clause-refused : goal.returns-clause-refused
@@ -60,5 +60,5 @@ returns-clause-refused g c =
     (c.in_ok-sorting.ensures.made (asked tips hidden c.args.parents BreadthFirst)
     (inl (c.in_ok-walk.ensures.made (asked tips [] c.args.parents BreadthFirst) (inl (c.parents.ensures.made (asked tips [] AllParents BreadthFirst) (inl (c.commit_graph.ensures.made (asked tips [] AllParents BreadthFirst) c.in_ok-new.ensures.made))))))).made in
     λ is h told sure. over_same g.F.Lookup.is_honest g.F.Lookup.table
-    (λ o r h. (a : Asked) → IsSure (g.F.Lookup.may_fail o) a → IsMade (λ _ _. true) a walk → IfErr c.given.result (WalkFault (g.F.Lookup.may_fail o) (rows_of r) (g.F.Lookup.table o) h a.tips a.hidden)) (objects_of walk) c.args.store (graph_of walk) c.args.rows objects rows c.given.ensures.refused
+    (λ o r h. (a : Asked) → IsSure (g.F.Lookup.may_fail o) a → IsMade (λ _ _. true) a walk → IfErr c.collect_ids.result (WalkFault (g.F.Lookup.may_fail o) (rows_of r) (g.F.Lookup.table o) h a.tips a.hidden)) (objects_of walk) c.args.store (graph_of walk) c.args.rows objects rows c.collect_ids.ensures.refused
     is h told (asked tips hidden c.args.parents c.args.sorting) sure made

@@ -15,10 +15,10 @@ pub returns-clause-lists : goal.returns-clause-lists
 returns-clause-lists g c =
     let made = c.in_ok-from_iters.ensures in
     sorted_lists g.S.Lookup.is_honest g.S.Lookup.may_fail g.S.Lookup.table (asked_of c.in_ok-from_iters.field-0) (asked_of c.with_commit_graph-builder.result) (asked_of c.parents.result) (asked_of c.sorting.result) c.args.store c.args.rows c.args.tips.now c.args.hidden.now c.args.sorting c.args.parents
-    made.objects made.tips made.ends c.with_commit_graph-builder.ensures c.parents.ensures c.sorting.ensures c.in_ok-build.field-0 c.in_ok-build.ensures.begins c.in_ok-build.ensures.parents c.given.result c.given.ensures.lists
+    made.objects made.tips made.ends c.with_commit_graph-builder.ensures c.parents.ensures c.sorting.ensures c.in_ok-build.field-0 c.in_ok-build.ensures.begins c.in_ok-build.ensures.parents c.collect_ids.result c.collect_ids.ensures.lists
 
 pub returns-clause-refused : goal.returns-clause-refused
 returns-clause-refused g c =
     let made = c.in_ok-from_iters.ensures in
     sorted_refused g.S.Lookup.is_honest g.S.Lookup.may_fail g.S.Lookup.table (asked_of c.in_ok-from_iters.field-0) (asked_of c.with_commit_graph-builder.result) (asked_of c.parents.result) (asked_of c.sorting.result) c.args.store c.args.rows c.args.tips.now c.args.hidden.now c.args.sorting c.args.parents
-    made.objects made.tips made.ends c.with_commit_graph-builder.ensures c.parents.ensures c.sorting.ensures c.in_ok-build.field-0 c.in_ok-build.ensures.begins c.in_ok-build.ensures.parents c.given.result c.given.ensures.refused
+    made.objects made.tips made.ends c.with_commit_graph-builder.ensures c.parents.ensures c.sorting.ensures c.in_ok-build.field-0 c.in_ok-build.ensures.begins c.in_ok-build.ensures.parents c.collect_ids.result c.collect_ids.ensures.refused

@@ -9,7 +9,7 @@ returns-then-not-are_words-clause-none c =
     no_empty_word c.args.line.now none
 
 pub returns-clause-found : goal.returns-clause-found
-returns-clause-found c = found_line c.args.line.now c.said.result c.requires.whole c.requires.short (sym c.are_words.ensures ∙ c.if-not-are_words.false) c.said.ensures
+returns-clause-found c = found_line c.args.line.now c.heading_of_line.result c.requires.whole c.requires.short (sym c.are_words.ensures ∙ c.if-not-are_words.false) c.heading_of_line.ensures
 
 pub returns-clause-none : goal.returns-clause-none
-returns-clause-none c = no_line c.args.line.now c.said.result c.said.ensures
+returns-clause-none c = no_line c.args.line.now c.heading_of_line.result c.heading_of_line.ensures

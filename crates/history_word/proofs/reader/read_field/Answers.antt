@@ -45,7 +45,7 @@ loop-rest-preserved g c =
       took_then g.R.Source.left g.R.Source.readings _ _ _ _ _ _ inv.0 (take n (unread b))
           (took_same g.R.Source.left g.R.Source.readings _ _ _ _ _ _ _ inv.2 c.has_more.ensures.took)
           (skipped g.R.Source.left g.R.Source.readings _ b c.skip.new.self n within c.skip.ensures.rest c.skip.ensures.readings c.skip.ensures.work),
-      subst (λ xs. IfSome c.added-field.result (λ kept. KeepsFront c.args.limit c.args.size kept (inv.0 ++ take n xs))) c.unread-in-loop-rest.ensures (c.added-field.ensures c.args.limit c.args.size inv.0 inv.3),
+      subst (λ xs. IfSome c.field_with_bytes-field.result (λ kept. KeepsFront c.args.limit c.args.size kept (inv.0 ++ take n xs))) c.unread-in-loop-rest.ensures (c.field_with_bytes-field.ensures c.args.limit c.args.size inv.0 inv.3),
       asks_then g.R.Source.left g.R.Source.readings _ _ _ _ _ inv.0 (take n (unread b)) inv.2 inv.4
           (λ all. (c.has_more.ensures.idle (omega (arith, all, length-take n (unread b), ap length c.unread.ensures, c.min-count.ensures, more))).0),
     )

@@ -20,8 +20,8 @@ loop-i-init c =
       marked = root_marked (due_in c.args.nodes.now c.args.from.0) (length c.args.nodes.now) c.args.from.0 marks (c.in_ok-marks.ensures.items_if_clones_equal (search rules)) some;
     }
 
-pub mark-requires : goal.mark-requires
-mark-requires c = record {
+pub mark_children-requires : goal.mark_children-requires
+mark_children-requires c = record {
   opened = λ m k is.
       let e = ap child_of (node_at c.args.nodes.now c.loop-i.i c.index-nodes-i.result m c.loop-i-test.true ∙ ap (λ n. slot_in n m) (sym c.index-nodes-i.is)) ∙ is in
       c.requires.forest.within c.loop-i.i m k e;
@@ -45,17 +45,17 @@ loop-i-preserved c =
     ∙ sym (due_row (slots_of nodes) (marks_of nodes) from (length nodes) c.requires.forest i (c.loop-i.invariant.marked.below i is) m) in
     elim c.if-index.branch [
       | then-index w ↦
-          let new = w.mark.new.marks in
-          let n : c.loop-i.marks.len ≡ length new = omega (arith, w.mark.auto.marks, w.as_mut_slice.ensures.len) in
+          let new = w.mark_children.new.marks in
+          let n : c.loop-i.marks.len ≡ length new = omega (arith, w.mark_children.auto.marks, w.as_mut_slice.ensures.len) in
           let items : c.if-index.marks.items ≡ new = ap (λ (v : Vec Bool Global). v.items) w.marks-is ∙ given_back c.loop-i.marks.len new _ n in
           let same = w.as_mut_slice.ensures.value in
           record {
-            len = ap length items ∙ w.mark.auto.marks ∙ ap length same ∙ c.loop-i.invariant.len;
+            len = ap length items ∙ w.mark_children.auto.marks ∙ ap length same ∙ c.loop-i.invariant.len;
             marked = subst (λ ms. AreMarked slots from ms (i + 1)) (sym items)
                 (marked_more slots from (length nodes) forest c.loop-i.marks.items new i c.loop-i.invariant.marked (read ∙ w.if-index.true)
-                (λ j is. w.mark.ensures.kept j (ap (λ ms. get_or ms j false) same ∙ is))
-                (λ m k is. w.mark.ensures.children m k (ap child_of (row (read ∙ w.if-index.true) m) ∙ is))
-                (λ j is. elim (w.mark.ensures.others j is) [
+                (λ j is. w.mark_children.ensures.kept j (ap (λ ms. get_or ms j false) same ∙ is))
+                (λ m k is. w.mark_children.ensures.children m k (ap child_of (row (read ∙ w.if-index.true) m) ∙ is))
+                (λ j is. elim (w.mark_children.ensures.others j is) [
                   | inl was ↦ inl (ap (λ ms. get_or ms j false) (sym same) ∙ was)
                   | inr late ↦ inr (late.0, ap child_of (sym (row (read ∙ w.if-index.true) late.0)) ∙ late.1)
                 ]));

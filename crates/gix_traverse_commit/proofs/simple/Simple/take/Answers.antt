@@ -28,24 +28,24 @@ use Rattle.gix_traverse_commit.proofs.simple.Simple.take.Goals as goal
 pub returns-in_default-clause-takes : goal.returns-in_default-clause-takes
 returns-in_default-clause-takes g c =
     record {
-      nodes = c.pop.ensures.nodes;
+      nodes = c.take_queued.ensures.nodes;
       waiting = (let none : timing_of c.args.self.now.parents c.args.self.now.sorting ≡ None = search rules in
-          subst (λ (t : Option Timing). TakesTurn t (turns_of c.args.self.now.known) c.in_ok-id.id (turns_of c.pop.new.self)) (sym none) c.pop.ensures.turns);
+          subst (λ (t : Option Timing). TakesTurn t (turns_of c.args.self.now.known) c.in_ok-id.id (turns_of c.take_queued.new.self)) (sym none) c.take_queued.ensures.turns);
       queueing = (λ some.
           let none : timing_of c.args.self.now.parents c.args.self.now.sorting ≡ None = search rules in
           absurd (let s : false ≡ true = subst (λ (t : Option Timing). IsSome t) none some in let z : ⊥ = cc in z));
       less = (λ x.
           let a = ap (λ (zs : List ObjectId). times_in zs x) c.in_ok-id.ensures.first in
-          let b = times_first c.in_ok-id.id c.pop.new.self.queue x in
-          let d = ap (λ (ts : List Turn). times_waiting ts x) c.pop.ensures.turns in
+          let b = times_first c.in_ok-id.id c.take_queued.new.self.queue x in
+          let d = ap (λ (ts : List Turn). times_waiting ts x) c.take_queued.ensures.turns in
           omega (arith, a, b, d));
       rowed = (λ r.
-          let h = held_first (rows_of c.args.self.now.source.rows) c.args.self.now.known.queue c.pop.new.self.queue c.in_ok-id.id c.in_ok-id.ensures.first r.queue in
-          (record { tips = r.tips; hidden = r.hidden; queue = h.1; waiting_rows = subst (AllRowed (rows_of c.args.self.now.source.rows)) (sym c.pop.ensures.turns) r.waiting_rows }, h.0));
+          let h = held_first (rows_of c.args.self.now.source.rows) c.args.self.now.known.queue c.take_queued.new.self.queue c.in_ok-id.id c.in_ok-id.ensures.first r.queue in
+          (record { tips = r.tips; hidden = r.hidden; queue = h.1; waiting_rows = subst (AllRowed (rows_of c.args.self.now.source.rows)) (sym c.take_queued.ensures.turns) r.waiting_rows }, h.0));
       turn = (λ ids commits a listed u.
           let none : timing_of c.args.self.now.parents c.args.self.now.sorting ≡ None = search rules in
           let queue : List ObjectId = c.args.self.now.known.queue in
-          let queue' : List ObjectId = c.pop.new.self.queue in
+          let queue' : List ObjectId = c.take_queued.new.self.queue in
           let id : ObjectId = c.in_ok-id.id in
           elim u [
             | inl w ↦ (
@@ -56,13 +56,13 @@ returns-in_default-clause-takes g c =
                     parents = w.parents;
                     sorting = w.sorting;
                     in_breadth = w.in_breadth;
-                    none_waits = c.pop.ensures.turns ∙ w.none_waits;
-                    accepts_as = subst (λ (ns : List Node). AcceptsAs (g.P.Accept.accepts c.args.self.now.predicate) ns a) (sym c.pop.ensures.nodes) w.accepts_as;
+                    none_waits = c.take_queued.ensures.turns ∙ w.none_waits;
+                    accepts_as = subst (λ (ns : List Node). AcceptsAs (g.P.Accept.accepts c.args.self.now.predicate) ns a) (sym c.take_queued.ensures.nodes) w.accepts_as;
                     hides = w.hides;
-                    hidden = λ x. ap (λ (ns : List Node). is_hidden ns x) c.pop.ensures.nodes ∙ w.hidden x;
+                    hidden = λ x. ap (λ (ns : List Node). is_hidden ns x) c.take_queued.ensures.nodes ∙ w.hidden x;
                     painted = w.painted;
                     known = w.known;
-                    walked = subst (λ (ns : List Node). Kept (asked_parents a.parents commits) a.tips (keep_of w.hides a.accepts) (is_met ns) ((listed ++ id ∷ []) ++ queue') (length (listed ++ id ∷ [])) 0) (sym c.pop.ensures.nodes) r.0;
+                    walked = subst (λ (ns : List Node). Kept (asked_parents a.parents commits) a.tips (keep_of w.hides a.accepts) (is_met ns) ((listed ++ id ∷ []) ++ queue') (length (listed ++ id ∷ [])) 0) (sym c.take_queued.ensures.nodes) r.0;
                     reads = r.1;
                   }),
                   kept_turn commits a w.hides w.painted (is_met c.args.self.now.known.nodes) listed queue queue' id w.walked c.in_ok-id.ensures.first w.in_breadth,

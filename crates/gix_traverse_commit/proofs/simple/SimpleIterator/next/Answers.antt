@@ -34,8 +34,8 @@ no_way e = cc
 
 pub returns-in-Err-clause-steps : goal.returns-in-Err-clause-steps
 returns-in-Err-clause-steps g c = record {
-  objects = c.stop.ensures.store.objects ∙ c.ready.ensures.store.objects;
-  rows = c.stop.ensures.store.rows ∙ c.ready.ensures.store.rows;
+  objects = c.stop.ensures.store.objects ∙ c.begin.ensures.store.objects;
+  rows = c.stop.ensures.store.rows ∙ c.begin.ensures.store.rows;
   given = λ honest commits told a listed sure s. tt;
   end = λ honest commits told a listed sure s. tt;
   refused = λ honest commits told a listed sure s. fault_more (λ _. ⊥) (IsTurn commits a listed) a.parents (g.F.Lookup.is_honest c.args.self.now.source.objects) (g.F.Lookup.may_fail c.args.self.now.source.objects) (rows_of c.args.self.now.source.rows) (g.F.Lookup.table c.args.self.now.source.objects) a.hidden c.in-Err.error (λ x z. absurd z) (elim s [
@@ -74,17 +74,17 @@ returns-in-Err-clause-steps g c = record {
     cause = (c.in-Err.ensures.fails a m).cause;
     counts = subst (λ (n : ℕ). CountsUnbegun (g.F.Lookup.is_honest c.args.self.now.source.objects) (rows_of c.args.self.now.source.rows) (g.F.Lookup.table c.args.self.now.source.objects) a.hidden c.args.self.now.source.lookups n c.in-Err.error) (sym c.stop.ensures.lookups) (c.in-Err.ensures.fails a m).counts;
   });
-  unasked_fault = inr (c.stop.ensures.store.unasked ∙ c.ready.ensures.store.unasked);
+  unasked_fault = inr (c.stop.ensures.store.unasked ∙ c.begin.ensures.store.unasked);
   kind_end = tt;
   queues = λ b some. tt;
 }
 
 pub returns-in_default-take-clause-steps : goal.returns-in_default-take-clause-steps
 returns-in_default-take-clause-steps g c =
-    let lookups : c.finish.new.self.source.lookups ≡ c.ready.new.self.source.lookups = ap (λ s. s.lookups) ((ap (λ w. w.source) c.finish.ensures.stays) ∙ (ap (λ w. w.source) c.take.ensures.stays)) in
+    let lookups : c.finish.new.self.source.lookups ≡ c.begin.new.self.source.lookups = ap (λ s. s.lookups) ((ap (λ w. w.source) c.finish.ensures.stays) ∙ (ap (λ w. w.source) c.take.ensures.stays)) in
     record {
-      objects = ap (λ s. s.objects) (ap (λ w. w.source) c.finish.ensures.stays) ∙ ap (λ s. s.objects) (ap (λ w. w.source) c.take.ensures.stays) ∙ c.ready.ensures.store.objects;
-      rows = ap (λ s. s.rows) (ap (λ w. w.source) c.finish.ensures.stays) ∙ ap (λ s. s.rows) (ap (λ w. w.source) c.take.ensures.stays) ∙ c.ready.ensures.store.rows;
+      objects = ap (λ s. s.objects) (ap (λ w. w.source) c.finish.ensures.stays) ∙ ap (λ s. s.objects) (ap (λ w. w.source) c.take.ensures.stays) ∙ c.begin.ensures.store.objects;
+      rows = ap (λ s. s.rows) (ap (λ w. w.source) c.finish.ensures.stays) ∙ ap (λ s. s.rows) (ap (λ w. w.source) c.take.ensures.stays) ∙ c.begin.ensures.store.rows;
       given = λ honest commits told a listed sure s. tt;
       end = λ honest commits told a listed sure s. c.in_default-take.ensures.ends.end (g.F.Lookup.ids c.args.self.now.source.objects) commits a listed (c.in_default.ensures.going honest commits told a listed sure s);
       refused = λ honest commits told a listed sure s. tt;
@@ -96,7 +96,7 @@ returns-in_default-take-clause-steps g c =
       counted_by_time = λ b. tt;
       rowed = λ r. tt;
       meets = λ b. tt;
-      unasked = (ap (λ w. w.predicate) c.finish.ensures.stays) ∙ ((ap (λ w. w.predicate) c.take.ensures.stays) ∙ c.ready.ensures.store.unasked);
+      unasked = (ap (λ w. w.predicate) c.finish.ensures.stays) ∙ ((ap (λ w. w.predicate) c.take.ensures.stays) ∙ c.begin.ensures.store.unasked);
       over = c.finish.ensures.over;
       content_end = ap (λ s. s.buffer.items) ((ap (λ w. w.source) c.finish.ensures.stays) ∙ (ap (λ w. w.source) c.take.ensures.stays)) ∙ c.in_default.ensures.keeps.content;
       content_fault = tt;
@@ -110,8 +110,8 @@ returns-in_default-take-clause-steps g c =
       in_turn_end = λ b by_time. subst (λ walk. IsSome (timing_of walk.parents walk.sorting) → turns_of walk.known ≡ []) ((c.in_default.ensures.same b).1) c.in_default-take.ensures.ends.none_waits by_time;
       tips_end = (λ a m honest commits told.
           let order = made_order g.P.Accept.accepts a c.args.self.now m in
-          let same = timing_same a c.ready.new.self.parents c.ready.new.self.sorting (c.in_default.ensures.keeps.stays.parents ∙ order.0) (c.in_default.ensures.keeps.stays.sorting ∙ order.1) in
-          none_awaited (timing a) (g.F.Lookup.may_fail c.args.self.now.source.objects) commits (IsWanted commits a) (turns_of c.ready.new.self.known) (λ some. c.in_default-take.ensures.ends.none_waits (subst (λ (t : Option Timing). IsSome t) (sym same) some)) ((c.in_default.ensures.begins a m).tips_wait honest commits told));
+          let same = timing_same a c.begin.new.self.parents c.begin.new.self.sorting (c.in_default.ensures.keeps.stays.parents ∙ order.0) (c.in_default.ensures.keeps.stays.sorting ∙ order.1) in
+          none_awaited (timing a) (g.F.Lookup.may_fail c.args.self.now.source.objects) commits (IsWanted commits a) (turns_of c.begin.new.self.known) (λ some. c.in_default-take.ensures.ends.none_waits (subst (λ (t : Option Timing). IsSome t) (sym same) some)) ((c.in_default.ensures.begins a m).tips_wait honest commits told));
       in_turn_fault = λ b. tt;
       told = λ honest commits told. tt;
       stays = tt;
@@ -129,12 +129,12 @@ returns-in-Ok-clause-steps g c =
     let rows = rows_of c.args.self.now.source.rows in
     let ids = g.F.Lookup.ids c.args.self.now.source.objects in
     let id : ObjectId = c.in-Some.id in
-    let objects : c.take.new.self.source.objects ≡ c.args.self.now.source.objects = ap (λ s. s.objects) (ap (λ w. w.source) c.take.ensures.stays) ∙ c.ready.ensures.store.objects in
-    let same_rows : c.take.new.self.source.rows ≡ c.args.self.now.source.rows = ap (λ s. s.rows) (ap (λ w. w.source) c.take.ensures.stays) ∙ c.ready.ensures.store.rows in
-    let in_order : timing_of c.take.new.self.parents c.take.new.self.sorting ≡ timing_of c.ready.new.self.parents c.ready.new.self.sorting = ap (λ (p : Parents). timing_of p c.take.new.self.sorting) (ap (λ w. w.parents) c.take.ensures.stays) ∙ ap (λ (s : Sorting). timing_of c.ready.new.self.parents s) (ap (λ w. w.sorting) c.take.ensures.stays) in
+    let objects : c.take.new.self.source.objects ≡ c.args.self.now.source.objects = ap (λ s. s.objects) (ap (λ w. w.source) c.take.ensures.stays) ∙ c.begin.ensures.store.objects in
+    let same_rows : c.take.new.self.source.rows ≡ c.args.self.now.source.rows = ap (λ s. s.rows) (ap (λ w. w.source) c.take.ensures.stays) ∙ c.begin.ensures.store.rows in
+    let in_order : timing_of c.take.new.self.parents c.take.new.self.sorting ≡ timing_of c.begin.new.self.parents c.begin.new.self.sorting = ap (λ (p : Parents). timing_of p c.take.new.self.sorting) (ap (λ w. w.parents) c.take.ensures.stays) ∙ ap (λ (s : Sorting). timing_of c.begin.new.self.parents s) (ap (λ w. w.sorting) c.take.ensures.stays) in
     let may_fail = g.F.Lookup.may_fail c.args.self.now.source.objects in
-    let order = timing_of c.ready.new.self.parents c.ready.new.self.sorting in
-    let comes : g.F.Lookup.is_honest c.args.self.now.source.objects → (commits : Commits ObjectId) → AreTold rows (g.F.Lookup.table c.args.self.now.source.objects) commits → ComesInTurn g.P.Accept.accepts may_fail commits c.ready.new.self c.in-Ok.info c.enter.new.self = (λ honest commits told.
+    let order = timing_of c.begin.new.self.parents c.begin.new.self.sorting in
+    let comes : g.F.Lookup.is_honest c.args.self.now.source.objects → (commits : Commits ObjectId) → AreTold rows (g.F.Lookup.table c.args.self.now.source.objects) commits → ComesInTurn g.P.Accept.accepts may_fail commits c.begin.new.self c.in-Ok.info c.enter.new.self = (λ honest commits told.
     let honest' = subst (λ (o : g.row.F.Denot). g.F.Lookup.is_honest o) (sym objects) honest in
     let told' = subst (λ (o : g.row.F.Denot). AreTold (rows_of c.take.new.self.source.rows) (g.F.Lookup.table o) commits) (sym objects) (subst (λ (r : Option (List Row)). AreTold (rows_of r) (g.F.Lookup.table c.args.self.now.source.objects) commits) (sym same_rows) told) in
     let ps : List ObjectId = c.in-Ok.info.parent_ids.items in
@@ -146,14 +146,14 @@ returns-in-Ok-clause-steps g c =
     let nodes = subst (λ (ns : List Node). LetsWaitIn order may_fail commits (λ x. IsFresh ns ps x × (g.P.Accept.accepts p' (id_of x) ≡ true)) turns turns') c.in-Some.ensures.takes.nodes timed in
     record {
       others = turns;
-      taken = subst (λ (x : ObjectId). TakesTurn order (turns_of c.ready.new.self.known) x turns) (sym c.in-Ok.ensures.comes.same) c.in-Some.ensures.takes.waiting;
-      parents = subst (λ (p : g.row.P.Denot). LetsWaitIn order may_fail commits (λ x. IsFresh c.ready.new.self.known.nodes ps x × (g.P.Accept.accepts p (id_of x) ≡ true)) turns turns') (ap (λ w. w.predicate) c.take.ensures.stays) nodes;
+      taken = subst (λ (x : ObjectId). TakesTurn order (turns_of c.begin.new.self.known) x turns) (sym c.in-Ok.ensures.comes.same) c.in-Some.ensures.takes.waiting;
+      parents = subst (λ (p : g.row.P.Denot). LetsWaitIn order may_fail commits (λ x. IsFresh c.begin.new.self.known.nodes ps x × (g.P.Accept.accepts p (id_of x) ≡ true)) turns turns') (ap (λ w. w.predicate) c.take.ensures.stays) nodes;
     }) in
-    let queued : IsSome order → KeepsOrder c.ready.new.self c.in-Ok.info c.enter.new.self = (λ some. record {
+    let queued : IsSome order → KeepsOrder c.begin.new.self c.in-Ok.info c.enter.new.self = (λ some. record {
       between = c.take.new.self.known;
       nodes = c.in-Some.ensures.takes.nodes;
       order = c.in-Some.ensures.takes.queueing some;
-      taken = subst (λ (x : ObjectId). TakesTurn order (turns_of c.ready.new.self.known) x (turns_of c.take.new.self.known)) (sym c.in-Ok.ensures.comes.same) c.in-Some.ensures.takes.waiting;
+      taken = subst (λ (x : ObjectId). TakesTurn order (turns_of c.begin.new.self.known) x (turns_of c.take.new.self.known)) (sym c.in-Ok.ensures.comes.same) c.in-Some.ensures.takes.waiting;
       behind = c.in-Ok.ensures.comes.behind (subst (λ (t : Option Timing). IsSome t) (sym in_order) some);
     }) in
     let known : IsKnown rows ids id = subst (λ (o : g.row.F.Denot). IsKnown rows (g.F.Lookup.ids o) id) objects (subst (λ (r : Option (List Row)). IsKnown (rows_of r) (g.F.Lookup.ids c.take.new.self.source.objects) id) same_rows c.in-Ok.ensures.comes.known) in
@@ -176,15 +176,15 @@ returns-in-Ok-clause-steps g c =
       end = λ honest commits told a listed sure s. tt;
       refused = λ honest commits told a listed sure s. tt;
       failed = tt;
-      ended = (λ o. let e = (c.in_default.ensures.same o.begun).1 in let over : IsOver c.ready.new.self = subst IsOver (sym e) o in let h = rw c.in-Some.is at (c.take.ensures.ended over) in absurd (no_way (sym h)));
+      ended = (λ o. let e = (c.in_default.ensures.same o.begun).1 in let over : IsOver c.begin.new.self = subst IsOver (sym e) o in let h = rw c.in-Some.is at (c.take.ensures.ended over) in absurd (no_way (sym h)));
       content = subst (λ (x : ObjectId). IsContentOf (g.F.Lookup.is_honest c.args.self.now.source.objects) rows (g.F.Lookup.table c.args.self.now.source.objects) x c.enter.new.self.source.buffer.items × (c.enter.new.self.kind ≡ (id_of x).kind)) (sym c.in-Ok.ensures.comes.same)
           (subst (λ (o : g.row.F.Denot). IsContentOf (g.F.Lookup.is_honest o) rows (g.F.Lookup.table o) id c.enter.new.self.source.buffer.items × (c.enter.new.self.kind ≡ (id_of id).kind)) objects
           (subst (λ (r : Option (List Row)). IsContentOf (g.F.Lookup.is_honest c.take.new.self.source.objects) (rows_of r) (g.F.Lookup.table c.take.new.self.source.objects) id c.enter.new.self.source.buffer.items × (c.enter.new.self.kind ≡ (id_of id).kind)) same_rows (c.in-Ok.ensures.comes.content, c.in-Ok.ensures.comes.kind)));
       counted = (λ b n. let s = (c.in_default.ensures.same b).1 in let f = (ap (λ w. w.source) c.take.ensures.stays) in let e : c.take.new.self.source.lookups ≡ c.args.self.now.source.lookups = cc in
-          let m : timing_of c.take.new.self.parents c.take.new.self.sorting ≡ None = (let p = (ap (λ w. w.parents) c.take.ensures.stays) in let q = (ap (λ w. w.sorting) c.take.ensures.stays) in ap (λ (x : Parents). timing_of x c.take.new.self.sorting) p ∙ (ap (λ (x : Sorting). timing_of c.ready.new.self.parents x) q ∙ (ap (λ walk. timing_of walk.parents walk.sorting) s ∙ n))) in
+          let m : timing_of c.take.new.self.parents c.take.new.self.sorting ≡ None = (let p = (ap (λ w. w.parents) c.take.ensures.stays) in let q = (ap (λ w. w.sorting) c.take.ensures.stays) in ap (λ (x : Parents). timing_of x c.take.new.self.sorting) p ∙ (ap (λ (x : Sorting). timing_of c.begin.new.self.parents x) q ∙ (ap (λ walk. timing_of walk.parents walk.sorting) s ∙ n))) in
           omega (arith, c.in-Ok.ensures.comes.in_breadth m));
       counted_one = (λ b n. let s = (c.in_default.ensures.same b).1 in let f = (ap (λ w. w.source) c.take.ensures.stays) in let e : c.take.new.self.source.lookups ≡ c.args.self.now.source.lookups = cc in
-          let m : timing_of c.take.new.self.parents c.take.new.self.sorting ≡ None = (let p = (ap (λ w. w.parents) c.take.ensures.stays) in let q = (ap (λ w. w.sorting) c.take.ensures.stays) in ap (λ (x : Parents). timing_of x c.take.new.self.sorting) p ∙ (ap (λ (x : Sorting). timing_of c.ready.new.self.parents x) q ∙ (ap (λ walk. timing_of walk.parents walk.sorting) s ∙ n))) in
+          let m : timing_of c.take.new.self.parents c.take.new.self.sorting ≡ None = (let p = (ap (λ w. w.parents) c.take.ensures.stays) in let q = (ap (λ w. w.sorting) c.take.ensures.stays) in ap (λ (x : Parents). timing_of x c.take.new.self.sorting) p ∙ (ap (λ (x : Sorting). timing_of c.begin.new.self.parents x) q ∙ (ap (λ walk. timing_of walk.parents walk.sorting) s ∙ n))) in
           subst (λ (x : ObjectId). CountsOne rows x c.args.self.now.source.lookups c.enter.new.self.source.lookups) (sym c.in-Ok.ensures.comes.same)
           (subst (λ (n : ℕ). CountsOne rows id n c.enter.new.self.source.lookups) e
           (subst (λ (r : Option (List Row)). CountsOne (rows_of r) id c.take.new.self.source.lookups c.enter.new.self.source.lookups) same_rows (c.in-Ok.ensures.comes.one m))));
@@ -209,24 +209,24 @@ returns-in-Ok-clause-steps g c =
       counted_fault = λ b. tt;
       rowed_end = λ r. tt;
       first = (λ a m.
-          let f : c.take.new.self.source.lookups ≡ c.ready.new.self.source.lookups = ap (λ s. s.lookups) (ap (λ w. w.source) c.take.ensures.stays) in
+          let f : c.take.new.self.source.lookups ≡ c.begin.new.self.source.lookups = ap (λ s. s.lookups) (ap (λ w. w.source) c.take.ensures.stays) in
           let more : ℕ = length c.in-Ok.info.parent_ids.items in
           let order = made_order g.P.Accept.accepts a c.args.self.now m in
           let parents : c.take.new.self.parents ≡ a.parents = (ap (λ w. w.parents) c.take.ensures.stays) ∙ (c.in_default.ensures.keeps.stays.parents ∙ order.0) in
           let sorting : c.take.new.self.sorting ≡ a.sorting = (ap (λ w. w.sorting) c.take.ensures.stays) ∙ (c.in_default.ensures.keeps.stays.sorting ∙ order.1) in
           record {
-            begun = c.ready.new.self;
+            begun = c.begin.new.self;
             begins = c.in_default.ensures.begins a m;
-            meets = meets_moved g.P.Accept.accepts g.P.Accept.goes (rows_of c.take.new.self.source.rows) rows c.take.new.self.known.nodes c.ready.new.self.known.nodes (timing_of c.take.new.self.parents c.take.new.self.sorting) (timing_of c.ready.new.self.parents c.ready.new.self.sorting) c.in-Ok.info c.take.new.self.predicate c.ready.new.self.predicate c.take.new.self.source.lookups c.ready.new.self.source.lookups c.enter.new.self.predicate c.enter.new.self.source.lookups
+            meets = meets_moved g.P.Accept.accepts g.P.Accept.goes (rows_of c.take.new.self.source.rows) rows c.take.new.self.known.nodes c.begin.new.self.known.nodes (timing_of c.take.new.self.parents c.take.new.self.sorting) (timing_of c.begin.new.self.parents c.begin.new.self.sorting) c.in-Ok.info c.take.new.self.predicate c.begin.new.self.predicate c.take.new.self.source.lookups c.begin.new.self.source.lookups c.enter.new.self.predicate c.enter.new.self.source.lookups
                 (ap rows_of same_rows) c.in-Some.ensures.takes.nodes in_order (ap (λ w. w.predicate) c.take.ensures.stays) f c.in-Ok.ensures.comes.meets;
-            one = (λ n. subst (λ (x : ObjectId). CountsOne rows x c.ready.new.self.source.lookups c.enter.new.self.source.lookups) (sym c.in-Ok.ensures.comes.same)
+            one = (λ n. subst (λ (x : ObjectId). CountsOne rows x c.begin.new.self.source.lookups c.enter.new.self.source.lookups) (sym c.in-Ok.ensures.comes.same)
                 (subst (λ (k : ℕ). CountsOne rows id k c.enter.new.self.source.lookups) f
                 (subst (λ (r : Option (List Row)). CountsOne (rows_of r) id c.take.new.self.source.lookups c.enter.new.self.source.lookups) same_rows (c.in-Ok.ensures.comes.one (timing_same a c.take.new.self.parents c.take.new.self.sorting parents sorting ∙ n)))));
-            more = subst (λ (x : ObjectId). CountsUpTo rows x more c.ready.new.self.source.lookups c.enter.new.self.source.lookups) (sym c.in-Ok.ensures.comes.same)
+            more = subst (λ (x : ObjectId). CountsUpTo rows x more c.begin.new.self.source.lookups c.enter.new.self.source.lookups) (sym c.in-Ok.ensures.comes.same)
                 (subst (λ (k : ℕ). CountsUpTo rows id more k c.enter.new.self.source.lookups) f
                 (subst (λ (r : Option (List Row)). CountsUpTo (rows_of r) id more c.take.new.self.source.lookups c.enter.new.self.source.lookups) same_rows c.in-Ok.ensures.comes.counted));
             in_turn = comes;
-            queues = λ some. queued (subst (λ (t : Option Timing). IsSome t) (sym (timing_same a c.ready.new.self.parents c.ready.new.self.sorting (c.in_default.ensures.keeps.stays.parents ∙ order.0) (c.in_default.ensures.keeps.stays.sorting ∙ order.1))) some);
+            queues = λ some. queued (subst (λ (t : Option Timing). IsSome t) (sym (timing_same a c.begin.new.self.parents c.begin.new.self.sorting (c.in_default.ensures.keeps.stays.parents ∙ order.0) (c.in_default.ensures.keeps.stays.sorting ∙ order.1))) some);
             marks = subst (λ (ns : List Node). MarksMet ns c.in-Ok.info.parent_ids.items c.enter.new.self.known.nodes) c.in-Some.ensures.takes.nodes c.in-Ok.ensures.comes.marks;
             paint_stays = λ x. c.in-Ok.ensures.comes.painted x ∙ ap (λ (ns : List Node). is_hidden ns x) c.in-Some.ensures.takes.nodes;
           });
@@ -281,9 +281,9 @@ returns-in-Err-enter-clause-steps g c =
     let id : ObjectId = c.in-Some.id in
     let error = c.in-Err-enter.error in
     let ids = g.F.Lookup.ids c.args.self.now.source.objects in
-    let objects : c.take.new.self.source.objects ≡ c.args.self.now.source.objects = ap (λ s. s.objects) (ap (λ w. w.source) c.take.ensures.stays) ∙ c.ready.ensures.store.objects in
-    let same_rows : c.take.new.self.source.rows ≡ c.args.self.now.source.rows = ap (λ s. s.rows) (ap (λ w. w.source) c.take.ensures.stays) ∙ c.ready.ensures.store.rows in
-    let along : c.take.new.self.parents ≡ c.ready.new.self.parents = (ap (λ w. w.parents) c.take.ensures.stays) in
+    let objects : c.take.new.self.source.objects ≡ c.args.self.now.source.objects = ap (λ s. s.objects) (ap (λ w. w.source) c.take.ensures.stays) ∙ c.begin.ensures.store.objects in
+    let same_rows : c.take.new.self.source.rows ≡ c.args.self.now.source.rows = ap (λ s. s.rows) (ap (λ w. w.source) c.take.ensures.stays) ∙ c.begin.ensures.store.rows in
+    let along : c.take.new.self.parents ≡ c.begin.new.self.parents = (ap (λ w. w.parents) c.take.ensures.stays) in
     let fault = subst (λ (p : Parents). StopsFetch p (g.F.Lookup.is_honest c.args.self.now.source.objects) (g.F.Lookup.may_fail c.args.self.now.source.objects) (rows_of c.args.self.now.source.rows) (g.F.Lookup.table c.args.self.now.source.objects) id error) along
     (subst (λ (o : g.row.F.Denot). StopsFetch c.take.new.self.parents (g.F.Lookup.is_honest o) (g.F.Lookup.may_fail o) (rows_of c.args.self.now.source.rows) (g.F.Lookup.table o) id error) objects
     (subst (λ (r : Option (List Row)). StopsFetch c.take.new.self.parents (g.F.Lookup.is_honest c.take.new.self.source.objects) (g.F.Lookup.may_fail c.take.new.self.source.objects) (rows_of r) (g.F.Lookup.table c.take.new.self.source.objects) id error) same_rows c.in-Err-enter.ensures.fails.cause)) in
@@ -299,10 +299,10 @@ returns-in-Err-enter-clause-steps g c =
           let here = subst (λ (p : Parents). StopsFetch p (g.F.Lookup.is_honest c.args.self.now.source.objects) (g.F.Lookup.may_fail c.args.self.now.source.objects) (rows_of c.args.self.now.source.rows) (g.F.Lookup.table c.args.self.now.source.objects) id error) (sym along ∙ parents) fault in
           fetch_fault (IsTurn commits a listed) a.parents (g.F.Lookup.is_honest c.args.self.now.source.objects) (g.F.Lookup.may_fail c.args.self.now.source.objects) (rows_of c.args.self.now.source.rows) (g.F.Lookup.table c.args.self.now.source.objects) a.hidden id error turn here);
       failed = c.stop-in-Err-enter.ensures.over;
-      ended = (λ o. let e = (c.in_default.ensures.same o.begun).1 in let over : IsOver c.ready.new.self = subst IsOver (sym e) o in let h = rw c.in-Some.is at (c.take.ensures.ended over) in absurd (no_way (sym h)));
+      ended = (λ o. let e = (c.in_default.ensures.same o.begun).1 in let over : IsOver c.begin.new.self = subst IsOver (sym e) o in let h = rw c.in-Some.is at (c.take.ensures.ended over) in absurd (no_way (sym h)));
       content = tt;
       counted = (λ b n. let s = (c.in_default.ensures.same b).1 in let f = (ap (λ w. w.source) c.take.ensures.stays) in let e : c.take.new.self.source.lookups ≡ c.args.self.now.source.lookups = cc in
-          let m : timing_of c.take.new.self.parents c.take.new.self.sorting ≡ None = (let p = (ap (λ w. w.parents) c.take.ensures.stays) in let q = (ap (λ w. w.sorting) c.take.ensures.stays) in ap (λ (x : Parents). timing_of x c.take.new.self.sorting) p ∙ (ap (λ (x : Sorting). timing_of c.ready.new.self.parents x) q ∙ (ap (λ walk. timing_of walk.parents walk.sorting) s ∙ n))) in
+          let m : timing_of c.take.new.self.parents c.take.new.self.sorting ≡ None = (let p = (ap (λ w. w.parents) c.take.ensures.stays) in let q = (ap (λ w. w.sorting) c.take.ensures.stays) in ap (λ (x : Parents). timing_of x c.take.new.self.sorting) p ∙ (ap (λ (x : Sorting). timing_of c.begin.new.self.parents x) q ∙ (ap (λ walk. timing_of walk.parents walk.sorting) s ∙ n))) in
           omega (arith, c.in-Err-enter.ensures.fails.in_breadth m, c.stop-in-Err-enter.ensures.lookups));
       counted_one = λ b n. tt;
       counted_by_time = λ b. tt;
@@ -335,7 +335,7 @@ returns-in-Err-enter-clause-steps g c =
       takes_one = tt;
       marks = λ b. tt;
       first_fault = λ a m. inr (record {
-        begun = c.ready.new.self;
+        begun = c.begin.new.self;
         begins = c.in_default.ensures.begins a m;
         fails = record { id = id; others = turns_of c.take.new.self.known; taken = c.in-Some.ensures.takes.waiting; cause = fault };
         counts = subst (λ (n : ℕ). CountsFault n c.stop-in-Err-enter.new.self.source.lookups error) (ap (λ s. s.lookups) (ap (λ w. w.source) c.take.ensures.stays))
@@ -343,7 +343,7 @@ returns-in-Err-enter-clause-steps g c =
       });
       unasked_fault = elim c.in-Err-enter.ensures.fails.unasked [
         | inl e ↦ inl e
-        | inr p ↦ inr (c.stop-in-Err-enter.ensures.store.unasked ∙ (p ∙ ((ap (λ w. w.predicate) c.take.ensures.stays) ∙ c.ready.ensures.store.unasked)))
+        | inr p ↦ inr (c.stop-in-Err-enter.ensures.store.unasked ∙ (p ∙ ((ap (λ w. w.predicate) c.take.ensures.stays) ∙ c.begin.ensures.store.unasked)))
       ];
       kind_end = tt;
       queues = λ b some. tt;

@@ -34,4 +34,4 @@ returns-clause-walked c = walked_start (asked_parents c.args.parents (commits_of
 pub hides-preserved : goal.hides-preserved
 hides-preserved c =
     let hides : List ObjectId = c.args.hides.now in
-    hides_push hides c.hides.id-index (get_or hides c.hides.id-index (Sha1 [])) (λ q. contains same_id c.hides.seen q) (λ q. contains same_id c.see.new.seen q) (slice_get-get_or hides c.hides.id-index (Sha1 []) c.hides-test.true) c.hides.invariant c.in_ok-see.ensures
+    hides_push hides c.hides.id-index (get_or hides c.hides.id-index (Sha1 [])) (λ q. contains same_id c.hides.seen q) (λ q. contains same_id c.mark_seen.new.seen q) (slice_get-get_or hides c.hides.id-index (Sha1 []) c.hides-test.true) c.hides.invariant c.in_ok-mark_seen.ensures

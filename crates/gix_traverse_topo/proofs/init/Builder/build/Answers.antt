@@ -17,7 +17,7 @@ returns-clause-begins g c =
     let table = g.F.Lookup.table c.args.self.find in
     let by_ends = subst (λ (es : List ObjectId). IsExplored honest may_fail rows table c.as_slice.result.now es c.args.self.parents c.in_ok-known.known) c.as_slice-2.ensures.value c.in_ok-known.ensures.explored in
     let all = subst (λ (ts : List ObjectId). IsExplored honest may_fail rows table ts c.args.self.ends.items c.args.self.parents c.in_ok-known.known) c.as_slice.ensures.value by_ends in
-    begins honest may_fail rows table c.args.self.tips.items c.args.self.ends.items c.args.self.parents c.in_ok-known.known all c.args.self.sorting c.in_ok-free.field-0.items c.in_ok-ready.ready c.in_ok-free.ensures.free c.in_ok-ready.ensures.same c.in_ok-ready.ensures.sorted (λ x. g.P.Accept.accepts c.args.self.predicate (id_of x))
+    begins honest may_fail rows table c.args.self.tips.items c.args.self.ends.items c.args.self.parents c.in_ok-known.known all c.args.self.sorting c.in_ok-without_children.field-0.items c.in_ok-ready.ready c.in_ok-without_children.ensures.free c.in_ok-ready.ensures.same c.in_ok-ready.ensures.sorted (λ x. g.P.Accept.accepts c.args.self.predicate (id_of x))
 
 -- without rows no commit has one
 none_holds : (graph : Option (List Row)) → graph ≡ None → (x : ObjectId) → Holds (rows_of graph) x → ⊥

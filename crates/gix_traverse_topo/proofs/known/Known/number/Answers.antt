@@ -13,11 +13,11 @@ returns-in_ok-push-clause-number c =
     subst (λ (x : ObjectId). At c.insert_full.new.self.keys c.in_ok-place.place x) (sym (same_from_test c.args.id.now key same)) at
 
 pub returns-in_ok-push-clause-told : goal.returns-in_ok-push-clause-told
-returns-in_ok-push-clause-told c = told_pushed c.args.self.now.nodes.items c.push.new.self.items (record { facts = c.unread.result; names = 0 }) c.in_ok-push.ensures.items
+returns-in_ok-push-clause-told c = told_pushed c.args.self.now.nodes.items c.push.new.self.items (record { facts = c.unread_facts.result; names = 0 }) c.in_ok-push.ensures.items
 
 pub returns-in_ok-push-clause-names : goal.returns-in_ok-push-clause-names
 returns-in_ok-push-clause-names c =
-    let node : Node = record { facts = c.unread.result; names = 0 } in
+    let node : Node = record { facts = c.unread_facts.result; names = 0 } in
     let keys : List ObjectId = c.args.self.now.ids.keys in
     let key = new_key keys c.insert_full.new.self.keys c.args.id.now c.in_ok-place.is_new c.in_ok-place.ensures.added c.if-is_new.true c.in_ok-place.ensures.keys in
     unnamed_pushed c.args.self.now.nodes.items c.push.new.self.items node keys c.insert_full.new.self.keys c.args.id.now c.in_ok-push.ensures.items refl key.0 key.1

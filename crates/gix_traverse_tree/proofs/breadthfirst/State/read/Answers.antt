@@ -44,20 +44,20 @@ returns-in_err-read_tree-clause-stopped g c = λ tree trees stand.
 pub returns-clause-linked : goal.returns-clause-linked
 returns-clause-linked g c =
     let nodes = c.args.self.now.nodes.items in
-    on_ok c.list.result _ (IsLinked c.list.new.nodes.items)
+    on_ok c.show_entries.result _ (IsLinked c.show_entries.new.nodes.items)
     (λ (calls, below, runs, listing, (added, named, put)).
     subst IsLinked (sym put) (linked_more nodes (Some c.args.number) added c.requires.linked c.requires.within))
-    c.list.ensures.listed
+    c.show_entries.ensures.listed
 
 pub returns-clause-longer : goal.returns-clause-longer
 returns-clause-longer g c =
     let nodes = c.args.self.now.nodes.items in
-    on_ok c.list.result _ (length nodes ≤ length c.list.new.nodes.items)
+    on_ok c.show_entries.result _ (length nodes ≤ length c.show_entries.new.nodes.items)
     (λ (calls, below, runs, listing, (added, named, put)).
     let e = ap (λ (ns : List Node). length ns) put in
     let f = length-append nodes (map (node_under (Some c.args.number)) added) in
     omega (arith, e, f))
-    c.list.ensures.listed
+    c.show_entries.ensures.listed
 
 pub returns-clause-read : goal.returns-clause-read
 returns-clause-read g c = λ tree stand.
@@ -73,10 +73,10 @@ returns-clause-read g c = λ tree stand.
     let listed = ap (λ (id : Id). is_among id (g.F.Lookup.ids c.args.objects.now)) (sym is) ∙ among_from_contains (g.F.Lookup.ids c.args.objects.now) (id_of c.index.result.now.id) c.in_ok-read_tree.ensures.listed in
     let kind : c.kind.result ≡ tree.id.kind = c.kind.ensures ∙ ap (λ (id : Id). id.kind) is in
     let place : place_of c.from_bytes-entries.result ≡ start tree.id.kind content = c.from_bytes-entries.ensures ∙ (λ i. start (kind i) (c.as_slice-2.ensures.value i)) in
-    on_ok c.list.result _ _
-    (λ shows. tree_shown g.V.Visit.goes H (g.F.Lookup.may_fail c.args.objects.now) table (g.F.Lookup.ids c.args.objects.now) c.args.number tree content c.args.delegate.now c.pop_front_tracked_path_and_set_current.new.self c.list.new.delegate nodes c.list.new.nodes.items (alone, found) listed c.in_ok-pop_front_tracked_path_and_set_current.ensures
-    (subst (λ (p : Place). ShowsListing g.V.Visit.goes p.kind p.input (Some c.args.number) c.pop_front_tracked_path_and_set_current.new.self nodes c.list.new.delegate c.list.new.nodes.items) place shows))
-    c.list.ensures.listed
+    on_ok c.show_entries.result _ _
+    (λ shows. tree_shown g.V.Visit.goes H (g.F.Lookup.may_fail c.args.objects.now) table (g.F.Lookup.ids c.args.objects.now) c.args.number tree content c.args.delegate.now c.pop_front_tracked_path_and_set_current.new.self c.show_entries.new.delegate nodes c.show_entries.new.nodes.items (alone, found) listed c.in_ok-pop_front_tracked_path_and_set_current.ensures
+    (subst (λ (p : Place). ShowsListing g.V.Visit.goes p.kind p.input (Some c.args.number) c.pop_front_tracked_path_and_set_current.new.self nodes c.show_entries.new.delegate c.show_entries.new.nodes.items) place shows))
+    c.show_entries.ensures.listed
 
 pub returns-clause-stopped : goal.returns-clause-stopped
 returns-clause-stopped g c = λ tree trees stand.
@@ -91,10 +91,10 @@ returns-clause-stopped g c = λ tree trees stand.
     let found = subst (λ (id : Id). H → Stands table id kinds.Tree content) is c.in_ok-read_tree.ensures.found in
     let kind : c.kind.result ≡ tree.id.kind = c.kind.ensures ∙ ap (λ (id : Id). id.kind) is in
     let place : place_of c.from_bytes-entries.result ≡ start tree.id.kind content = c.from_bytes-entries.ensures ∙ (λ i. start (kind i) (c.as_slice-2.ensures.value i)) in
-    let stops : _ → Type 0 = StopsLevel g.V.Visit.goes H (g.F.Lookup.may_fail c.args.objects.now) table (tree ∷ trees) c.args.delegate.now c.list.new.delegate in
-    let listed : _ → Type 0 = StopsListing g.V.Visit.goes (place_of c.from_bytes-entries.result).kind (place_of c.from_bytes-entries.result).input c.pop_front_tracked_path_and_set_current.new.self c.list.new.delegate in
-    on_err c.list.result (MemoryOr listed) (MemoryOr stops)
+    let stops : _ → Type 0 = StopsLevel g.V.Visit.goes H (g.F.Lookup.may_fail c.args.objects.now) table (tree ∷ trees) c.args.delegate.now c.show_entries.new.delegate in
+    let listed : _ → Type 0 = StopsListing g.V.Visit.goes (place_of c.from_bytes-entries.result).kind (place_of c.from_bytes-entries.result).input c.pop_front_tracked_path_and_set_current.new.self c.show_entries.new.delegate in
+    on_err c.show_entries.result (MemoryOr listed) (MemoryOr stops)
     (λ error h. memory_or listed stops error
-    (λ e stop. tree_stopped g.V.Visit.goes H (g.F.Lookup.may_fail c.args.objects.now) table (g.F.Lookup.ids c.args.objects.now) tree trees content c.args.delegate.now c.pop_front_tracked_path_and_set_current.new.self c.list.new.delegate e (alone, found) c.in_ok-pop_front_tracked_path_and_set_current.ensures
-    (subst (λ (p : Place). StopsListing g.V.Visit.goes p.kind p.input c.pop_front_tracked_path_and_set_current.new.self c.list.new.delegate e) place stop)) h)
-    c.list.ensures.stopped
+    (λ e stop. tree_stopped g.V.Visit.goes H (g.F.Lookup.may_fail c.args.objects.now) table (g.F.Lookup.ids c.args.objects.now) tree trees content c.args.delegate.now c.pop_front_tracked_path_and_set_current.new.self c.show_entries.new.delegate e (alone, found) c.in_ok-pop_front_tracked_path_and_set_current.ensures
+    (subst (λ (p : Place). StopsListing g.V.Visit.goes p.kind p.input c.pop_front_tracked_path_and_set_current.new.self c.show_entries.new.delegate e) place stop)) h)
+    c.show_entries.ensures.stopped

@@ -11,25 +11,25 @@ use Rattle.gix_traverse_tree.proofs.breadthfirst.State.walk.Goals as goal
 none_linked : IsLinked []
 none_linked n node at = let z : ⊥ = cc in absurd z
 
-pub returns-in_err-list-clause-stopped : goal.returns-in_err-list-clause-stopped
-returns-in_err-list-clause-stopped g c =
+pub returns-in_err-show_entries-clause-stopped : goal.returns-in_err-show_entries-clause-stopped
+returns-in_err-show_entries-clause-stopped g c =
     let p = err_from_is_err_and c.from_residual.result c.from_residual.ensures.1 in
     let H = g.F.Lookup.is_honest c.args.objects.now in
     let M = g.F.Lookup.may_fail c.args.objects.now in
     let table = g.F.Lookup.table c.args.objects.now in
-    rw (p.1, p.2) (memory_or (StopsListing g.V.Visit.goes c.args.root.hash_kind c.args.root.rest.now c.args.delegate.now c.list.new.delegate) (λ error. Walks g.V.Visit.goes H M table c.args.root.hash_kind c.args.root.rest.now c.args.delegate.now c.list.new.delegate (failed error)) c.in_err-list.field-0.0
-    (λ error stop. walked_root_stopped g.V.Visit.goes H M table (g.F.Lookup.ids c.args.objects.now) c.args.root.hash_kind c.args.root.rest.now c.args.delegate.now c.list.new.delegate error stop)
-    c.in_err-list.ensures.stopped)
+    rw (p.1, p.2) (memory_or (StopsListing g.V.Visit.goes c.args.root.hash_kind c.args.root.rest.now c.args.delegate.now c.show_entries.new.delegate) (λ error. Walks g.V.Visit.goes H M table c.args.root.hash_kind c.args.root.rest.now c.args.delegate.now c.show_entries.new.delegate (failed error)) c.in_err-show_entries.field-0.0
+    (λ error stop. walked_root_stopped g.V.Visit.goes H M table (g.F.Lookup.ids c.args.objects.now) c.args.root.hash_kind c.args.root.rest.now c.args.delegate.now c.show_entries.new.delegate error stop)
+    c.in_err-show_entries.ensures.stopped)
 
 pub levels-init : goal.levels-init
 levels-init g c =
-    let shows = c.in_ok-list.ensures.listed in
+    let shows = c.in_ok-show_entries.ensures.listed in
     let (calls, below, runs, listing, (added, named, put)) = shows in
     let put2 = put ∙ ap (λ (ns : List Node). ns ++ map (node_under None) added) c.clear.ensures.items in
     record {
       linked = subst IsLinked (sym put2) (linked_more [] None added none_linked tt);
       within = omega arith;
-      walked = walked_start g.V.Visit.goes (g.F.Lookup.is_honest c.args.objects.now) (g.F.Lookup.may_fail c.args.objects.now) (g.F.Lookup.table c.args.objects.now) (g.F.Lookup.ids c.args.objects.now) c.args.root.hash_kind c.args.root.rest.now c.args.delegate.now c.list.new.delegate c.clear.new.self.items c.list.new.nodes.items c.clear.ensures.items shows;
+      walked = walked_start g.V.Visit.goes (g.F.Lookup.is_honest c.args.objects.now) (g.F.Lookup.may_fail c.args.objects.now) (g.F.Lookup.table c.args.objects.now) (g.F.Lookup.ids c.args.objects.now) c.args.root.hash_kind c.args.root.rest.now c.args.delegate.now c.show_entries.new.delegate c.clear.new.self.items c.show_entries.new.nodes.items c.clear.ensures.items shows;
     }
 
 pub returns-in_err-read_level-clause-stopped : goal.returns-in_err-read_level-clause-stopped

@@ -34,8 +34,8 @@ returns-in-Err-clause-packs g c = λ r wanted asks.
 
 pub returns-in-Ok-clause-keeps : goal.returns-in-Ok-clause-keeps
 returns-in-Ok-clause-keeps g c = record {
-  kind = c.finish.ensures.keeps.kind;
-  part = prepared_part g.F.Files c.args.self.now.store.files c.prepare_with.new.store.files c.finish.new.self.store.files _ c.prepare_with.ensures.keeps.honest c.prepare_with.ensures.keeps.later c.in-Ok.ensures.unfailed c.finish.ensures.keeps.part;
+  kind = c.commit_made.ensures.keeps.kind;
+  part = prepared_part g.F.Files c.args.self.now.store.files c.prepare_with.new.store.files c.commit_made.new.self.store.files _ c.prepare_with.ensures.keeps.honest c.prepare_with.ensures.keeps.later c.in-Ok.ensures.unfailed c.commit_made.ensures.keeps.part;
 }
 
 pub returns-in-Ok-clause-packs : goal.returns-in-Ok-clause-packs
@@ -43,7 +43,7 @@ returns-in-Ok-clause-packs g c = λ r wanted asks.
     let self = c.args.self.now in
     let old = g.F.Files.history self.store.files in
     let mid = g.F.Files.history c.prepare_with.new.store.files in
-    let new = g.F.Files.history c.finish.new.self.store.files in
+    let new = g.F.Files.history c.commit_made.new.self.store.files in
     let all = all_asked g.F.Files.is_honest g.F.Files.history _ _ self r wanted c.args.edits.items c.as_ref-records.result c.as_ref-records.ensures.value asks in
     let peels = peels_so g.F.Files.is_honest g.F.Files.history _ (g.O.Lookup.table c.args.objects.now) self r wanted c.args.edits.items asks in
     let here = file_kept self.kind self.store self.root old.tree c.as_ref-records.result (lent_here self c.as_ref-records.result c.as_ref-records.ensures.value old asks.whole.records) in
@@ -57,13 +57,13 @@ returns-in-Ok-clause-packs g c = λ r wanted asks.
     let locked = (c.in-Ok.ensures.prepared honest).locked in
     record {
       moments = passing r wanted c.args.edits.items old self.kind asks.whole.kind self.store self.root c.as_ref-records.result all (g.O.Lookup.table c.args.objects.now) peels c.in-Ok.made mid
-          split c.in-Ok.ensures.planned texts lines repacked locked prepared new (c.finish.ensures.moments first) (c.finish.ensures.folders first);
-      packed = on_ok_weaker c.finish.result
+          split c.in-Ok.ensures.planned texts lines repacked locked prepared new (c.commit_made.ensures.moments first) (c.commit_made.ensures.folders first);
+      packed = on_ok_weaker c.commit_made.result
           (λ done. packs r wanted c.args.edits.items old self.kind asks.whole.kind self.store self.root c.as_ref-records.result all (g.O.Lookup.table c.args.objects.now) peels c.in-Ok.made mid
-          split c.in-Ok.ensures.planned texts lines repacked locked prepared new (c.finish.ensures.moments first) (c.finish.ensures.folders first) done)
-          (c.finish.ensures.done first);
+          split c.in-Ok.ensures.planned texts lines repacked locked prepared new (c.commit_made.ensures.moments first) (c.commit_made.ensures.folders first) done)
+          (c.commit_made.ensures.done first);
       failed = λ failed.
           let has_room = room r wanted c.args.edits.items old self.kind asks.whole.kind self.store self.root c.as_ref-records.result all c.in-Ok.made.edits.items split in
-          let fault = c.finish.ensures.failed first ((c.in-Ok.ensures.prepared honest).room has_room) failed in
+          let fault = c.commit_made.ensures.failed first ((c.in-Ok.ensures.prepared honest).room has_room) failed in
           wider_fault _ _ _ _ (later_risen _ _ _ c.prepare_with.ensures.keeps.later fault);
     }

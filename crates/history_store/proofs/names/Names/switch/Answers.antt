@@ -51,8 +51,8 @@ returns-in-Err-clause-switches g c = λ r may.
 
 pub returns-in-Ok-clause-keeps : goal.returns-in-Ok-clause-keeps
 returns-in-Ok-clause-keeps g c = record {
-  kind = c.finish.ensures.keeps.kind;
-  part = prepared_part g.F.Files c.args.self.now.store.files c.prepare_with.new.store.files c.finish.new.self.store.files _ c.prepare_with.ensures.keeps.honest c.prepare_with.ensures.keeps.later c.in-Ok.ensures.unfailed c.finish.ensures.keeps.part;
+  kind = c.commit_made.ensures.keeps.kind;
+  part = prepared_part g.F.Files c.args.self.now.store.files c.prepare_with.new.store.files c.commit_made.new.self.store.files _ c.prepare_with.ensures.keeps.honest c.prepare_with.ensures.keeps.later c.in-Ok.ensures.unfailed c.commit_made.ensures.keeps.part;
 }
 
 pub returns-in-Ok-clause-switches : goal.returns-in-Ok-clause-switches
@@ -68,24 +68,24 @@ returns-in-Ok-clause-switches g c = λ r may.
     record {
       moments = switch_passes g.F.Files.is_honest g.F.Files.history g.F.Files.failures g.F.Files.reading_may_fail c.args.self.now c.args.from.now c.args.to.now c.in_ok-edits.edits.items c.in_ok-edits.ensures.asks c.as_ref-records.result c.as_ref-records.ensures.value r may
           c.prepare_with.new.store.files (c.prepare_with.ensures.keeps.moments honest) (c.prepare_with.ensures.keeps.folders honest)
-          c.in-Ok.made split c.in-Ok.ensures.planned texts lines repacked locked c.finish.new.self.store.files (c.finish.ensures.moments first) (c.finish.ensures.folders first);
-      switched = on_ok_weaker c.finish.result
+          c.in-Ok.made split c.in-Ok.ensures.planned texts lines repacked locked c.commit_made.new.self.store.files (c.commit_made.ensures.moments first) (c.commit_made.ensures.folders first);
+      switched = on_ok_weaker c.commit_made.result
           (λ done. switch_names g.F.Files.is_honest g.F.Files.history g.F.Files.failures g.F.Files.reading_may_fail c.args.self.now c.args.from.now c.args.to.now c.in_ok-edits.edits.items c.in_ok-edits.ensures.asks c.as_ref-records.result c.as_ref-records.ensures.value r may
           c.prepare_with.new.store.files (c.prepare_with.ensures.keeps.moments honest) (c.prepare_with.ensures.keeps.folders honest)
-          c.in-Ok.made split c.in-Ok.ensures.planned texts lines repacked locked c.finish.new.self.store.files (c.finish.ensures.moments first) (c.finish.ensures.folders first) done)
-          (c.finish.ensures.done first);
-      records = on_ok_weaker c.finish.result
+          c.in-Ok.made split c.in-Ok.ensures.planned texts lines repacked locked c.commit_made.new.self.store.files (c.commit_made.ensures.moments first) (c.commit_made.ensures.folders first) done)
+          (c.commit_made.ensures.done first);
+      records = on_ok_weaker c.commit_made.result
           (λ done.
-          let here = file_at (g.F.Files.history c.finish.new.self.store.files).tree packed_place in
+          let here = file_at (g.F.Files.history c.commit_made.new.self.store.files).tree packed_place in
           let keeps = switch_keeps g.F.Files.is_honest g.F.Files.history g.F.Files.failures g.F.Files.reading_may_fail c.args.self.now c.args.from.now c.args.to.now c.in_ok-edits.edits.items c.in_ok-edits.ensures.asks c.as_ref-records.result c.as_ref-records.ensures.value r may
           c.prepare_with.new.store.files (c.prepare_with.ensures.keeps.moments honest) (c.prepare_with.ensures.keeps.folders honest)
-          c.in-Ok.made split c.in-Ok.ensures.planned texts lines repacked locked c.finish.new.self.store.files (c.finish.ensures.moments first) (c.finish.ensures.folders first) done in
-          subst (λ kind. KeepsFile kind here (option_map kept c.finish.new.self.packed)) (sym c.finish.ensures.keeps.kind)
-          (subst (λ packed. KeepsFile c.args.self.now.kind here (option_map kept packed)) (sym c.finish.ensures.packed) keeps))
-          (c.finish.ensures.done first);
+          c.in-Ok.made split c.in-Ok.ensures.planned texts lines repacked locked c.commit_made.new.self.store.files (c.commit_made.ensures.moments first) (c.commit_made.ensures.folders first) done in
+          subst (λ kind. KeepsFile kind here (option_map kept c.commit_made.new.self.packed)) (sym c.commit_made.ensures.keeps.kind)
+          (subst (λ packed. KeepsFile c.args.self.now.kind here (option_map kept packed)) (sym c.commit_made.ensures.packed) keeps))
+          (c.commit_made.ensures.done first);
       failed = λ failed.
           uncommitted g.F.Files.is_honest g.F.Files.history g.F.Files.failures g.F.Files.reading_may_fail c.args.self.now c.args.from.now c.args.to.now c.in_ok-edits.edits.items c.in_ok-edits.ensures.asks c.as_ref-records.result c.as_ref-records.ensures.value r may
           c.prepare_with.new.store.files (c.prepare_with.ensures.keeps.moments honest) (c.prepare_with.ensures.keeps.folders honest)
           c.in-Ok.made split c.in-Ok.ensures.planned texts lines repacked locked
-          c.finish.new.self.store.files (g.met.F.Files.rooted c.prepare_with.new.store.files first) (λ can. c.finish.ensures.failed first can failed) c.in-Ok.ensures.unfailed;
+          c.commit_made.new.self.store.files (g.met.F.Files.rooted c.prepare_with.new.store.files first) (λ can. c.commit_made.ensures.failed first can failed) c.in-Ok.ensures.unfailed;
     }

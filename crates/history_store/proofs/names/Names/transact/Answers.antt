@@ -33,8 +33,8 @@ returns-in-Err-clause-transacts g c = λ r moved gone asks.
 
 pub returns-in-Ok-clause-keeps : goal.returns-in-Ok-clause-keeps
 returns-in-Ok-clause-keeps g c = record {
-  kind = c.finish.ensures.keeps.kind;
-  part = prepared_part g.F.Files c.args.self.now.store.files c.prepare_with.new.store.files c.finish.new.self.store.files _ c.prepare_with.ensures.keeps.honest c.prepare_with.ensures.keeps.later c.in-Ok.ensures.unfailed c.finish.ensures.keeps.part;
+  kind = c.commit_made.ensures.keeps.kind;
+  part = prepared_part g.F.Files c.args.self.now.store.files c.prepare_with.new.store.files c.commit_made.new.self.store.files _ c.prepare_with.ensures.keeps.honest c.prepare_with.ensures.keeps.later c.in-Ok.ensures.unfailed c.commit_made.ensures.keeps.part;
 }
 
 pub returns-in-Ok-clause-transacts : goal.returns-in-Ok-clause-transacts
@@ -44,7 +44,7 @@ returns-in-Ok-clause-transacts g c = λ r moved gone asks.
     let self = c.args.self.now in
     let old = g.F.Files.history self.store.files in
     let mid = g.F.Files.history c.prepare_with.new.store.files in
-    let new = g.F.Files.history c.finish.new.self.store.files in
+    let new = g.F.Files.history c.commit_made.new.self.store.files in
     let keeps = all_lent self c.as_ref-records.result c.as_ref-records.ensures.value r old whole.kind whole.records in
     let here = file_kept self.kind self.store self.root old.tree c.as_ref-records.result (lent_here self c.as_ref-records.result c.as_ref-records.ensures.value old whole.records) in
     let first = c.prepare_with.ensures.keeps.honest whole.honest in
@@ -57,16 +57,16 @@ returns-in-Ok-clause-transacts g c = λ r moved gone asks.
     let locked = (c.in-Ok.ensures.prepared whole.honest).locked in
     record {
       moments = passing r moved gone c.args.committer c.args.edits.items asks.edits old whole.holds self.kind whole.kind self.store self.root c.as_ref-records.result keeps c.in-Ok.made mid
-          split c.in-Ok.ensures.planned texts lines repacked locked prepared new (c.finish.ensures.moments first) (c.finish.ensures.folders first);
-      changed = on_ok_weaker c.finish.result
+          split c.in-Ok.ensures.planned texts lines repacked locked prepared new (c.commit_made.ensures.moments first) (c.commit_made.ensures.folders first);
+      changed = on_ok_weaker c.commit_made.result
           (λ done. makes self c.as_ref-records.result c.as_ref-records.ensures.value r moved gone old new whole.kind
           (changed r moved gone c.args.committer c.args.edits.items asks.edits old whole.holds self.kind whole.kind self.store self.root c.as_ref-records.result keeps c.in-Ok.made mid split c.in-Ok.ensures.planned texts lines repacked locked
-          prepared new (c.finish.ensures.moments first) (c.finish.ensures.folders first) done)
+          prepared new (c.commit_made.ensures.moments first) (c.commit_made.ensures.folders first) done)
           (stayed r moved gone c.args.committer c.args.edits.items asks.edits old whole.holds self.kind whole.kind self.store self.root c.as_ref-records.result keeps c.in-Ok.made mid split c.in-Ok.ensures.planned texts lines repacked locked
-          prepared new (c.finish.ensures.moments first) (c.finish.ensures.folders first) done))
-          (c.finish.ensures.done first);
+          prepared new (c.commit_made.ensures.moments first) (c.commit_made.ensures.folders first) done))
+          (c.commit_made.ensures.done first);
       failed = λ failed.
           let has_room = room r moved gone c.args.committer c.args.edits.items asks.edits old whole.holds self.kind whole.kind self.store self.root c.as_ref-records.result whole.apart may.fit c.in-Ok.made.edits.items split in
-          let fault = c.finish.ensures.failed first ((c.in-Ok.ensures.prepared whole.honest).room has_room) failed in
+          let fault = c.commit_made.ensures.failed first ((c.in-Ok.ensures.prepared whole.honest).room has_room) failed in
           later_risen _ _ _ c.prepare_with.ensures.keeps.later fault;
     }

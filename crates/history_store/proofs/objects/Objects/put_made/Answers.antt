@@ -1,10 +1,11 @@
-use Rattle.std.proofs.Common.{◌≡◌, ◌∙◌, ◌++◌, inl, inr, refl, sym, subst, ap, length, IsErrOf, Result, Ok, Err}
+use Rattle.std.proofs.Common.{◌≡◌, ◌∙◌, ◌++◌, inl, inr, refl, sym, subst, ap, length, Bool, true, false, IsErrOf, Result, Ok, Err}
+use denote.Enum.Bare.{sameb}
 use Rattle.std.proofs.lemmas.Result.{err_from_is_err_and}
 use Rattle.gix_hash.specs.Id.{id_of}
 use Rattle.gix_object_lines.specs.Header.{header_text}
 use Rattle.gix_ref_file.specs.Changes.{is_file_at}
 use Rattle.gix_ref_file.specs.declared.files.FileError.TheVariants as files
-use Rattle.gix_ref_file.specs.Tree.{bytes_at, is_folder, node_at, parent}
+use Rattle.gix_ref_file.specs.Tree.{Tree, bytes_at}
 use Rattle.history_model.specs.Bytes.{Bytes}
 use Rattle.history_model.specs.Forms.{is_id}
 use Rattle.history_model.specs.Objects.{object_text}
@@ -12,17 +13,35 @@ use Rattle.history_model.proofs.IdLemmas.{digest_is_id}
 use Rattle.history_model.proofs.RecoveredLemmas.{place_differs}
 use Rattle.history_store.specs.Calls.{KeepsHonesty, WritesObject}
 use Rattle.history_store.specs.Stores.{IsObjectPlace, place_of, put_fault, text_of}
+use Rattle.history_store.specs.Seen.{seen_at}
+use Rattle.history_store.specs.declared.folders.Seen.{Seen}
+use Rattle.history_store.specs.declared.folders.Seen.TheVariants.{Nothing, Top, Folder, File}
+use Rattle.history_store.specs.contracts.folders.Seen.{the_type}
 use Rattle.history_store.specs.declared.objects.PutMadeError.{PutMadeError}
-use Rattle.history_store.specs.declared.objects.PutMadeError.TheVariants.{File}
+use Rattle.history_store.specs.declared.objects.PutMadeError.TheVariants as errors
 use Rattle.history_texts.specs.declared.object.NewObject.{NewObject}
 use Rattle.history_store.proofs.Honesty.{more_honesty, same_honesty}
+use Rattle.history_store.proofs.Seen.{file_there, no_file_there}
 use Rattle.history_store.proofs.Stored.{none_other, same_other, taken_by_other, untaken}
 use Rattle.history_store.proofs.Unwritten.{also_written, both_written, fault_apart, fault_of_file, found_written, newly_written, none_here, none_written, other_error, taken_error, text_here, untaken_ok}
 use Rattle.history_store.proofs.objects.Objects.put_made.Goals as goal
-use Rattle.history_store.proofs.objects.Objects.put_made.Goals.{then-is_file+in_ok-holds+else-not-branch, else-is_file+in_ok-write}
+use Rattle.history_store.proofs.objects.Objects.put_made.Goals.{then-eq+in_ok-holds+else-not-branch, else-eq+in_ok-write}
 
 spelled : (object : NewObject) (content header : Bytes) → content ≡ object.content.items → header ≡ header_text object.kind (length content) → header ++ content ≡ text_of object
 spelled object content header same is = ap (λ h. h ++ content) is ∙ ap (object_text object.kind) same
+
+-- a file was seen, or none was
+found_here : (seen : Seen) (same : Bool) → same ≡ sameb the_type seen File → same ≡ true → (tree : Tree) (place : Bytes) → seen ≡ seen_at tree place → is_file_at tree place ≡ true
+found_here File same equal is tree place told = file_there tree place told
+found_here Nothing same equal is tree place told = let wrong : false ≡ true = sym equal ∙ is in absurd (cc wrong)
+found_here Top same equal is tree place told = let wrong : false ≡ true = sym equal ∙ is in absurd (cc wrong)
+found_here Folder same equal is tree place told = let wrong : false ≡ true = sym equal ∙ is in absurd (cc wrong)
+
+found_none : (seen : Seen) (same : Bool) → same ≡ sameb the_type seen File → same ≡ false → (tree : Tree) (place : Bytes) → seen ≡ seen_at tree place → is_file_at tree place ≡ false
+found_none File same equal other tree place told = let wrong : true ≡ false = sym equal ∙ other in absurd (cc wrong)
+found_none Nothing same equal other tree place told = no_file_there tree place _ told (λ is. absurd (cc is))
+found_none Top same equal other tree place told = no_file_there tree place _ told (λ is. absurd (cc is))
+found_none Folder same equal other tree place told = no_file_there tree place _ told (λ is. absurd (cc is))
 
 abbrev done : Result (Unit {0}) PutMadeError
 done = Ok tt
@@ -66,18 +85,18 @@ returns-in_err-place-clause-refuses g c =
     let p = err_from_is_err_and c.from_residual-in_err-place.result c.from_residual-in_err-place.ensures.1 in
     other_error g.F.Files _ _ _ _ _ p.1 (λ id is. absurd (cc (is, p.2))) (λ honest taken. refl)
 
-pub returns-in_err-has_folder-clause-keeps : goal.returns-in_err-has_folder-clause-keeps
-returns-in_err-has_folder-clause-keeps g c = record { kind = refl; part = same_honesty g.F.Files _ _ _ refl }
+pub returns-in_err-seen-clause-keeps : goal.returns-in_err-seen-clause-keeps
+returns-in_err-seen-clause-keeps g c = record { kind = refl; part = same_honesty g.F.Files _ _ _ refl }
 
-pub returns-in_err-has_folder-clause-writes : goal.returns-in_err-has_folder-clause-writes
-returns-in_err-has_folder-clause-writes g c =
-    let p = err_from_is_err_and c.from_residual-in_err-has_folder.result c.from_residual-in_err-has_folder.ensures.1 in
+pub returns-in_err-seen-clause-writes : goal.returns-in_err-seen-clause-writes
+returns-in_err-seen-clause-writes g c =
+    let p = err_from_is_err_and c.from_residual-in_err-seen.result c.from_residual-in_err-seen.ensures.1 in
     none_written g.F.Files _ _ _ _ _ p.1
 
-pub returns-in_err-has_folder-clause-refuses : goal.returns-in_err-has_folder-clause-refuses
-returns-in_err-has_folder-clause-refuses g c =
-    let p = err_from_is_err_and c.from_residual-in_err-has_folder.result c.from_residual-in_err-has_folder.ensures.1 in
-    other_error g.F.Files _ _ _ _ _ p.1 (λ id is. fault_apart c.in_err-has_folder.field-0.0 id (sym p.2 ∙ is)) (λ honest taken. refl)
+pub returns-in_err-seen-clause-refuses : goal.returns-in_err-seen-clause-refuses
+returns-in_err-seen-clause-refuses g c =
+    let p = err_from_is_err_and c.from_residual-in_err-seen.result c.from_residual-in_err-seen.ensures.1 in
+    other_error g.F.Files _ _ _ _ _ p.1 (λ id is. fault_apart c.in_err-seen.field-0.0 id (sym p.2 ∙ is)) (λ honest taken. refl)
 
 -- ---- a file is at the place
 
@@ -107,9 +126,9 @@ returns-then-not-branch-clause-refuses g c = taken_error g.F.Files c.args.object
     let content = c.as_slice-content.result.now in
     inr (taken_by_other tree c.deref.result.now _ header content _
     (c.deref.ensures.value ∙ c.in_ok-place.ensures)
-    (sym (c.in_ok-has_folder.ensures.file honest) ∙ c.if-is_file.true)
+    (found_here c.in_ok-seen.seen c.eq.result c.eq.ensures c.if-eq.true tree _ (c.in_ok-seen.ensures.seen honest))
     (λ equal.
-    let found = (c.in_ok-holds.ensures.same honest).1 (ap (bytes_at tree) (c.deref-then-is_file.ensures.value ∙ sym c.deref.ensures.value) ∙ equal ∙ ap (λ h. h ++ content) (sym c.deref-then-is_file-2.ensures.0)) in
+    let found = (c.in_ok-holds.ensures.same honest).1 (ap (bytes_at tree) (c.deref-then-eq.ensures.value ∙ sym c.deref.ensures.value) ∙ equal ∙ ap (λ h. h ++ content) (sym c.deref-then-eq-2.ensures.0)) in
     let unlike = c.if-not-branch.true in
     cc)
     (sym (spelled c.args.object.now content header c.as_slice-content.ensures.value c.loose_header-header.ensures))))
@@ -130,10 +149,10 @@ returns-in_err-write-clause-writes g c =
     let content = c.as_slice-content.result.now in
     let p = err_from_is_err_and c.from_residual-in_err-write.result c.from_residual-in_err-write.ensures.1 in
     also_written g.F.Files _ _ _ _ c.write.result _ _ _ c.in_err-write.was p.1
-    (newly_written g.F.Files _ (place_of object) _ (text_of object) _ _ c.write.result (c.deref-else-is_file.ensures.value ∙ c.in_ok-place.ensures)
-    (ap (λ h. h ++ content) c.deref-else-is_file-2.ensures.0 ∙ spelled object content _ c.as_slice-content.ensures.value c.loose_header-header.ensures)
+    (newly_written g.F.Files _ (place_of object) _ (text_of object) _ _ c.write.result (c.deref-else-eq.ensures.value ∙ c.in_ok-place.ensures)
+    (ap (λ h. h ++ content) c.deref-else-eq-2.ensures.0 ∙ spelled object content _ c.as_slice-content.ensures.value c.loose_header-header.ensures)
     (place_differs (id_of object.id))
-    (λ honest here. none_here _ c.deref.result.now _ _ (c.deref.ensures.value ∙ c.in_ok-place.ensures) (sym (c.in_ok-has_folder.ensures.file honest) ∙ c.if-is_file.false) here)
+    (λ honest here. none_here _ c.deref.result.now _ _ (c.deref.ensures.value ∙ c.in_ok-place.ensures) (found_none c.in_ok-seen.seen c.eq.result c.eq.ensures c.if-eq.false _ _ (c.in_ok-seen.ensures.seen honest)) here)
     c.write.ensures.writes)
 
 pub returns-in_err-write-clause-refuses : goal.returns-in_err-write-clause-refuses
@@ -143,30 +162,30 @@ returns-in_err-write-clause-refuses g c =
     let p = err_from_is_err_and c.from_residual-in_err-write.result c.from_residual-in_err-write.ensures.1 in
     other_error g.F.Files object _ _ _ _ p.1 (λ id is. fault_apart c.in_err-write.field-0.0 id (sym p.2 ∙ is))
     (λ honest taken. absurd (untaken object tree c.is_reserved.result c.is_reserved.ensures c.if-is_reserved.false
-    (none_other tree c.deref.result.now _ _ (c.deref.ensures.value ∙ c.in_ok-place.ensures) (sym (c.in_ok-has_folder.ensures.file honest) ∙ c.if-is_file.false)) taken))
+    (none_other tree c.deref.result.now _ _ (c.deref.ensures.value ∙ c.in_ok-place.ensures) (found_none c.in_ok-seen.seen c.eq.result c.eq.ensures c.if-eq.false _ _ (c.in_ok-seen.ensures.seen honest))) taken))
 
 pub returns-in_err-write-clause-failed : goal.returns-in_err-write-clause-failed
 returns-in_err-write-clause-failed g c = λ honest part failed.
     let error = err_from_is_err_and c.from_residual-in_err-write.result c.from_residual-in_err-write.ensures.1 in
     let same = c.in_err-write.was ∙ ap Err (fault_of_file c.in_err-write.field-0.0 (cc (error.1, error.2, failed))) in
     let id = id_of c.args.object.now.id in
-    let placed : IsObjectPlace c.deref-else-is_file.result.now = (id.kind, id, ap (is_id id.kind) c.args.object.now.named ∙ digest_is_id id.kind _, c.deref-else-is_file.ensures.value ∙ c.in_ok-place.ensures) in
-    let folder = c.in_ok-has_folder.ensures.folder honest ∙ ap (λ p. is_folder (node_at (g.F.Files.history c.args.self.now.files).tree (parent p))) (c.deref.ensures.value ∙ sym c.deref-else-is_file.ensures.value) in
-    c.write.ensures.failed honest part placed folder same
+    let placed : IsObjectPlace c.deref-else-eq.result.now = (id.kind, id, ap (is_id id.kind) c.args.object.now.named ∙ digest_is_id id.kind _, c.deref-else-eq.ensures.value ∙ c.in_ok-place.ensures) in
+    let seen_here = c.in_ok-seen.ensures.seen honest ∙ ap (seen_at (g.F.Files.history c.args.self.now.files).tree) (c.deref.ensures.value ∙ sym c.deref-else-eq.ensures.value) in
+    c.write.ensures.failed honest part placed seen_here same
 
 -- ---- the object is stored
 
 pub returns-clause-keeps : goal.returns-clause-keeps
 returns-clause-keeps g c =
     let old = c.args.self.now in
-    elim c.if-is_file.branch [
-      | then-is_file+in_ok-holds+else-not-branch w ↦ record {
+    elim c.if-eq.branch [
+      | then-eq+in_ok-holds+else-not-branch w ↦ record {
         kind = subst (λ s. s.kind ≡ old.kind) (sym w.self-is) refl;
-        part = subst (λ s. KeepsHonesty g.F.Files (IsErrOf done File) old.files s.files) (sym w.self-is) (same_honesty g.F.Files _ _ _ refl);
+        part = subst (λ s. KeepsHonesty g.F.Files (IsErrOf done errors.File) old.files s.files) (sym w.self-is) (same_honesty g.F.Files _ _ _ refl);
       }
-      | else-is_file+in_ok-write w ↦ record {
+      | else-eq+in_ok-write w ↦ record {
         kind = subst (λ s. s.kind ≡ old.kind) (sym w.self-is) w.write.ensures.keeps.kind;
-        part = subst (λ s. KeepsHonesty g.F.Files (IsErrOf done File) old.files s.files) (sym w.self-is) (more_honesty g.F.Files _ _ _ _ w.write.ensures.keeps.part (λ told. absurd (cc (told, w.in_ok-write.was))));
+        part = subst (λ s. KeepsHonesty g.F.Files (IsErrOf done errors.File) old.files s.files) (sym w.self-is) (more_honesty g.F.Files _ _ _ _ w.write.ensures.keeps.part (λ told. absurd (cc (told, w.in_ok-write.was))));
       }
     ]
 
@@ -176,21 +195,21 @@ returns-clause-writes g c =
     let content = c.as_slice-content.result.now in
     let old = c.args.self.now in
     let tree = (g.F.Files.history old.files).tree in
-    elim c.if-is_file.branch [
-      | then-is_file+in_ok-holds+else-not-branch w ↦
+    elim c.if-eq.branch [
+      | then-eq+in_ok-holds+else-not-branch w ↦
           subst (λ s. WritesObject g.F.Files (place_of object) (text_of object) old.files s.files done) (sym w.self-is)
           (found_written g.F.Files (place_of object) (text_of object) old.files done tt refl (λ honest.
           text_here tree c.deref.result.now (place_of object) c.loose_header-header.result.items content (text_of object) (c.deref.ensures.value ∙ c.in_ok-place.ensures)
-          (sym (c.in_ok-has_folder.ensures.file honest) ∙ w.if-is_file.true)
-          (ap (bytes_at tree) (c.deref.ensures.value ∙ sym w.deref-then-is_file.ensures.value) ∙ (w.in_ok-holds.ensures.same honest).0 w.if-not-branch.false ∙ ap (λ h. h ++ content) w.deref-then-is_file-2.ensures.0)
+          (found_here c.in_ok-seen.seen c.eq.result c.eq.ensures w.if-eq.true tree _ (c.in_ok-seen.ensures.seen honest))
+          (ap (bytes_at tree) (c.deref.ensures.value ∙ sym w.deref-then-eq.ensures.value) ∙ (w.in_ok-holds.ensures.same honest).0 w.if-not-branch.false ∙ ap (λ h. h ++ content) w.deref-then-eq-2.ensures.0)
           (spelled object content _ c.as_slice-content.ensures.value c.loose_header-header.ensures)))
-      | else-is_file+in_ok-write w ↦
+      | else-eq+in_ok-write w ↦
           subst (λ s. WritesObject g.F.Files (place_of object) (text_of object) old.files s.files done) (sym w.self-is)
           (both_written g.F.Files _ _ _ _ w.write.result _ done tt w.in_ok-write.was refl
-          (newly_written g.F.Files _ (place_of object) _ (text_of object) _ _ w.write.result (w.deref-else-is_file.ensures.value ∙ c.in_ok-place.ensures)
-          (ap (λ h. h ++ content) w.deref-else-is_file-2.ensures.0 ∙ spelled object content _ c.as_slice-content.ensures.value c.loose_header-header.ensures)
+          (newly_written g.F.Files _ (place_of object) _ (text_of object) _ _ w.write.result (w.deref-else-eq.ensures.value ∙ c.in_ok-place.ensures)
+          (ap (λ h. h ++ content) w.deref-else-eq-2.ensures.0 ∙ spelled object content _ c.as_slice-content.ensures.value c.loose_header-header.ensures)
           (place_differs (id_of object.id))
-          (λ honest here. none_here _ c.deref.result.now _ _ (c.deref.ensures.value ∙ c.in_ok-place.ensures) (sym (c.in_ok-has_folder.ensures.file honest) ∙ w.if-is_file.false) here)
+          (λ honest here. none_here _ c.deref.result.now _ _ (c.deref.ensures.value ∙ c.in_ok-place.ensures) (found_none c.in_ok-seen.seen c.eq.result c.eq.ensures w.if-eq.false _ _ (c.in_ok-seen.ensures.seen honest)) here)
           w.write.ensures.writes))
     ]
 
@@ -201,11 +220,11 @@ returns-clause-refuses g c = untaken_ok g.F.Files _ _ _ _ _ refl (λ honest.
     let content = c.as_slice-content.result.now in
     let tree = (g.F.Files.history c.args.self.now.files).tree in
     let free = untaken object tree c.is_reserved.result c.is_reserved.ensures c.if-is_reserved.false in
-    elim c.if-is_file.branch [
-      | then-is_file+in_ok-holds+else-not-branch w ↦
+    elim c.if-eq.branch [
+      | then-eq+in_ok-holds+else-not-branch w ↦
           free (same_other tree c.in_ok-place.place.items _ c.loose_header-header.result.items content _ c.in_ok-place.ensures
-          (ap (bytes_at tree) (sym w.deref-then-is_file.ensures.value) ∙ (w.in_ok-holds.ensures.same honest).0 w.if-not-branch.false ∙ ap (λ h. h ++ content) w.deref-then-is_file-2.ensures.0)
+          (ap (bytes_at tree) (sym w.deref-then-eq.ensures.value) ∙ (w.in_ok-holds.ensures.same honest).0 w.if-not-branch.false ∙ ap (λ h. h ++ content) w.deref-then-eq-2.ensures.0)
           (sym (spelled object content _ c.as_slice-content.ensures.value c.loose_header-header.ensures)))
-      | else-is_file+in_ok-write w ↦
-          free (none_other tree c.deref.result.now _ _ (c.deref.ensures.value ∙ c.in_ok-place.ensures) (sym (c.in_ok-has_folder.ensures.file honest) ∙ w.if-is_file.false))
+      | else-eq+in_ok-write w ↦
+          free (none_other tree c.deref.result.now _ _ (c.deref.ensures.value ∙ c.in_ok-place.ensures) (found_none c.in_ok-seen.seen c.eq.result c.eq.ensures w.if-eq.false _ _ (c.in_ok-seen.ensures.seen honest)))
     ])

@@ -11,7 +11,7 @@ use Rattle.history_model.specs.Places.{unfinished_place}
 use Rattle.history_store.specs.Stores.{KeepsFiles}
 use Rattle.history_store.proofs.Honesty.{honesty_of, more_honesty, then_honesty}
 use Rattle.history_store.proofs.ObjectFiles.{may_rename, unfinished_fits}
-use Rattle.history_store.proofs.ObjectParts.{no_file_above, object_place_is_path}
+use Rattle.history_store.proofs.ObjectParts.{no_file_above}
 use Rattle.history_store.proofs.Stored.{gone, kept_when_written, may_from_same, may_from_write, may_from_rename, may_hold, on_err_weaker, same_keeps, stored}
 use Rattle.history_store.proofs.objects.Objects.write.Goals as goal
 
@@ -117,7 +117,7 @@ pub returns-in_err-make_missing-clause-failed : goal.returns-in_err-make_missing
 returns-in_err-make_missing-clause-failed g c = λ honest part placed told failed.
     let error = err_from_is_err_and c.from_residual.result c.from_residual.ensures.1 in
     let same : c.make_missing.result ≡ Err Failed = cc (error.1, error.2) in
-    c.make_missing.ensures.failed honest (no_file_above _ c.args.place.now part placed) told (object_place_is_path c.args.place.now placed) same
+    inl (c.make_missing.ensures.failed honest (no_file_above _ c.args.place.now part placed) told placed same)
 
 pub returns-in_err-write_unfinished-clause-failed : goal.returns-in_err-write_unfinished-clause-failed
 returns-in_err-write_unfinished-clause-failed g c = λ honest part placed told failed.

@@ -66,16 +66,16 @@ returns-then-readings-clause-took g c =
       same = ap (λ xs. xs ++ take n c.read.new.buffer) (sym c.make_room.ensures.same) ∙ sym (held_more b.start b.end n _ b.bytes c.read.new.buffer (omega (arith, b.ordered)) (omega (arith, b.sized, b.within)) c.in_ok-count.ensures.bound.0);
       less_work = omega (arith, c.make_room.ensures.size, c.make_room.ensures.readings, b.ordered, c.in_ok-count.ensures.bound.0, c.read.auto.buffer, length-drop b.end b.bytes, b.sized);
       made = 1;
-      made_through = omega (arith, c.counted-self.ensures.last last, c.make_room.ensures.readings);
+      made_through = omega (arith, c.readings_after-self.ensures.last last, c.make_room.ensures.readings);
       counted = omega (arith, c.read.ensures.counted);
-      gave = inr (omega (arith, c.make_room.ensures.readings), omega (arith, c.counted-self.ensures.last last, last), omega arith);
+      gave = inr (omega (arith, c.make_room.ensures.readings), omega (arith, c.readings_after-self.ensures.last last, last), omega arith);
     }
 
 pub returns-clause-took : goal.returns-clause-took
 returns-clause-took g c =
     let b = c.make_room.new.self in
     let n = c.in_ok-count.count in
-    let k = reading_counts b.readings c.counted-self.result c.in-Some.readings n (omega (arith, c.make_room.ensures.readings)) c.counted-self.ensures.gave (λ none. c.counted-self.ensures.idle none (search rules))
+    let k = reading_counts b.readings c.readings_after-self.result c.in-Some.readings n (omega (arith, c.make_room.ensures.readings)) c.readings_after-self.ensures.gave (λ none. c.readings_after-self.ensures.idle none (search rules))
     (omega (arith, b.ordered, c.in_ok-count.ensures.bound.0, c.read.auto.buffer, length-drop b.end b.bytes, b.sized)) in
     record {
       more = take n c.read.new.buffer;

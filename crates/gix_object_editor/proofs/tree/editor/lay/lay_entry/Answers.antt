@@ -39,7 +39,7 @@ returns-in_err-put_at-clause-same c =
 pub returns-in-Err-clause-same : goal.returns-in-Err-clause-same
 returns-in-Err-clause-same c =
     let old = c.args.nodes.now.items in
-    let hung = c.hang.new.nodes.items in
+    let hung = c.put_below_folders.new.nodes.items in
     let front : c.len-before.result ≡ length old = omega arith in
     let kept = c.in-Err.ensures.front in
     record {

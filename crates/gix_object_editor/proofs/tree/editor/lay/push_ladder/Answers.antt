@@ -22,7 +22,7 @@ pub loop-i-preserved : goal.loop-i-preserved
 loop-i-preserved c =
     let old = c.args.nodes.now.items in
     let before = c.loop-i.nodes.items in
-    let node : Node = c.in_ok-lone.field-0 in
+    let node : Node = c.in_ok-tree_of_one_entry.field-0 in
     let ok : is_ok c.push.result ≡ true = search rules in
     let pushed : c.push.new.self.items ≡ before ++ node ∷ [] = c.push.ensures.items ∙ ap (λ b. if b then before ++ node ∷ [] else before) ok in
     let n : length before ≡ length old + c.loop-i.i = c.loop-i.invariant.len in
@@ -39,7 +39,7 @@ loop-i-preserved c =
         | inr (inl less) ↦ c.loop-i.invariant.leaves j m u le (sym (front j m less) ∙ is)
         | inl here ↦
             let stands : slot_in node m ≡ Some u = sym (new m) ∙ ap (λ k. slots_of c.push.new.self.items k m) (sym here) ∙ is in
-            let alone = only_there (slot_in node) _ m c.if-i-names.rung u c.in_ok-lone.ensures.here c.in_ok-lone.ensures.others stands in
+            let alone = only_there (slot_in node) _ m c.if-i-names.rung u c.in_ok-tree_of_one_entry.ensures.here c.in_ok-tree_of_one_entry.ensures.others stands in
             let found : get_or (names c.args.names.now) c.loop-i.i m ≡ m = get_or-map (λ (x : Bor (List ℕ)). x.now) c.args.names.now c.loop-i.i _ m lt ∙ sym alone.0 in (
               (c.loop-i.i, omega (arith, long, lt), found),
               ap_leaf c.if-i-names.rung u alone.1 (leaf_in c.args.slot) (made_leaf (id_of c.args.slot.oid).kind) (elim c.if-i-names.branch [
@@ -61,12 +61,12 @@ loop-i-preserved c =
         | inr late ↦
             let is : k ≡ c.loop-i.i = omega (arith, late, less) in
             let at_end_of : length old + k ≡ length before = omega (arith, is, n) in
-            ap (marks_of c.push.new.self.items) at_end_of ∙ ap (λ ns. marks_of ns (length before)) pushed ∙ mark_end before node ∙ c.in_ok-lone.ensures.mark
+            ap (marks_of c.push.new.self.items) at_end_of ∙ ap (λ ns. marks_of ns (length before)) pushed ∙ mark_end before node ∙ c.in_ok-tree_of_one_entry.ensures.mark
             ∙ ap (λ p. mark_below p c.args.changed) (c.loop-i.invariant.above ∙ ap (rung_parent c.args.at.0 (length old)) (sym is))
       ];
       rungs = one_rung_more (names c.args.names.now) (slots_of before) (slots_of c.push.new.self.items) (length old) (length before) c.loop-i.i c.args.slot c.if-i-names.rung n front
-          (new _ ∙ ap (slot_in node) (get_or-map (λ (x : Bor (List ℕ)). x.now) c.args.names.now c.loop-i.i _ [] lt) ∙ c.in_ok-lone.ensures.here)
-          (λ m apart. new m ∙ c.in_ok-lone.ensures.others m (λ same. apart (same ∙ sym (get_or-map (λ (x : Bor (List ℕ)). x.now) c.args.names.now c.loop-i.i _ [] lt))))
+          (new _ ∙ ap (slot_in node) (get_or-map (λ (x : Bor (List ℕ)). x.now) c.args.names.now c.loop-i.i _ [] lt) ∙ c.in_ok-tree_of_one_entry.ensures.here)
+          (λ m apart. new m ∙ c.in_ok-tree_of_one_entry.ensures.others m (λ same. apart (same ∙ sym (get_or-map (λ (x : Bor (List ℕ)). x.now) c.args.names.now c.loop-i.i _ [] lt))))
           (λ inner. elim c.if-i-names.branch [
             | then-i-names w ↦
                 let next : w.len.result + 1 ≡ suc (length before) = omega arith in
@@ -109,7 +109,7 @@ returns-clause-ladder c = record {
 pub returns-in_err-push-clause-front : goal.returns-in_err-push-clause-front
 returns-in_err-push-clause-front c =
     let before = c.loop-i.nodes.items in
-    let node : Node = c.in_ok-lone.field-0 in
+    let node : Node = c.in_ok-tree_of_one_entry.field-0 in
     let failed : is_ok c.push.result ≡ false = search rules in
     let same : c.push.new.self.items ≡ before = c.push.ensures.items ∙ ap (λ b. if b then before ++ node ∷ [] else before) failed in
     record {
@@ -118,5 +118,5 @@ returns-in_err-push-clause-front c =
       marks = λ i lt. ap (λ ns. marks_of ns i) same ∙ c.loop-i.invariant.marks i lt;
     }
 
-pub returns-in_err-lone-clause-front : goal.returns-in_err-lone-clause-front
-returns-in_err-lone-clause-front c = record { longer = omega (arith, c.loop-i.invariant.len); slots = c.loop-i.invariant.front; marks = c.loop-i.invariant.marks }
+pub returns-in_err-tree_of_one_entry-clause-front : goal.returns-in_err-tree_of_one_entry-clause-front
+returns-in_err-tree_of_one_entry-clause-front c = record { longer = omega (arith, c.loop-i.invariant.len); slots = c.loop-i.invariant.front; marks = c.loop-i.invariant.marks }

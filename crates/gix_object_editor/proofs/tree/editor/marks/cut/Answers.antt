@@ -9,8 +9,8 @@ use Rattle.gix_object_editor.specs.Grown.{IsCut}
 use Rattle.gix_object_editor.proofs.Growth.{cut_idle, cut_marked}
 use Rattle.gix_object_editor.proofs.tree.editor.marks.cut.Goals as goal
 
-pub is_more-more-requires : goal.is_more-more-requires
-is_more-more-requires c = λ k link. c.requires.tree.forest.within c.args.at.0 c.args.name.now k (ap child_of (sym c.slot_at.ensures) ∙ link)
+pub removal_is_change-more-requires : goal.removal_is_change-more-requires
+removal_is_change-more-requires c = λ k link. c.requires.tree.forest.within c.args.at.0 c.args.name.now k (ap child_of (sym c.slot_at.ensures) ∙ link)
 
 pub mark_if-requires-clause-tree : goal.mark_if-requires-clause-tree
 mark_if-requires-clause-tree c =
@@ -37,10 +37,10 @@ returns c =
     let mid = c.take_at.new.nodes in
     let at = c.args.at.0 in
     let name = c.args.name.now in
-    elim (by_test c.is_more-more.result) [
+    elim (by_test c.removal_is_change-more.result) [
       | inl more ↦
-          cut_marked old mid at name c.take_at.ensures.here c.take_at.ensures.rest c.mark_if.new.nodes (λ idle. c.is_more-more.ensures.so more (subst (IsIdle (marks_of old)) (sym c.slot_at.ensures) idle)) (c.mark_if.ensures.marked more)
+          cut_marked old mid at name c.take_at.ensures.here c.take_at.ensures.rest c.mark_if.new.nodes (λ idle. c.removal_is_change-more.ensures.so more (subst (IsIdle (marks_of old)) (sym c.slot_at.ensures) idle)) (c.mark_if.ensures.marked more)
       | inr idle ↦
           subst (IsCut old at name) (sym (c.mark_if.ensures.same idle))
-          (cut_idle old mid at name c.take_at.ensures.here c.take_at.ensures.rest c.requires.marked (subst (IsIdle (marks_of old)) c.slot_at.ensures (c.is_more-more.ensures.otherwise idle)))
+          (cut_idle old mid at name c.take_at.ensures.here c.take_at.ensures.rest c.requires.marked (subst (IsIdle (marks_of old)) c.slot_at.ensures (c.removal_is_change-more.ensures.otherwise idle)))
     ]

@@ -9,13 +9,13 @@ use Rattle.gix_ref_store.proofs.store.file.walk.Walk.put.Goals as goal
 
 pub returns-then-not-branch-clause-there : goal.returns-then-not-branch-clause-there
 returns-then-not-branch-clause-there g c = λ full so.
-    let may : c.in_ok-may_stand_at.field-0 ≡ false = search rules in
-    absurd (cc (sym may ∙ c.in_ok-may_stand_at.ensures (asked_leads c.args.self.now.asked c.args.path.now c.args.path.now so (inl refl))))
+    let may : c.in_ok-may_be_at.field-0 ≡ false = search rules in
+    absurd (cc (sym may ∙ c.in_ok-may_be_at.ensures (asked_leads c.args.self.now.asked c.args.path.now c.args.path.now so (inl refl))))
 
 pub returns-then-not-branch-clause-folder : goal.returns-then-not-branch-clause-folder
 returns-then-not-branch-clause-folder g c = λ honest led is.
-    let may : c.in_ok-may_stand_at.field-0 ≡ false = search rules in
-    absurd (cc (sym may ∙ c.in_ok-may_stand_at.ensures led))
+    let may : c.in_ok-may_be_at.field-0 ≡ false = search rules in
+    absurd (cc (sym may ∙ c.in_ok-may_be_at.ensures led))
 
 pub returns-in-Some-clause-asked : goal.returns-in-Some-clause-asked
 returns-in-Some-clause-asked g c =
