@@ -68,10 +68,10 @@ module _ {F : Type 0} (files : Ghosts F) where
   pub record PutsValues (more : List Value) (old new : Repository F)
       (result : Result (Unit {0}) Stopped) : Type 0 where
     pub stores : (values : Values) → ObjectsStand files.is_honest files.history old values
-        → StoresValues (CountsFailure files.failures files.reading_may_fail old new)
+        → KnowsIds old values → StoresValues (CountsFailure files.failures files.reading_may_fail old new)
         (kind_of_objects old.objects) values more (objects_tree files.history new) result
     pub passes : (values : Values) → ObjectsStand files.is_honest files.history old values
-        → Adds (HoldsFirst (kind_of_objects old.objects) values more)
+        → KnowsIds old values → Adds (HoldsFirst (kind_of_objects old.objects) values more)
         (files.history (objects_part old)) (files.history (objects_part new))
     pub known : (values : Values) → KnowsIds old values
         → OnOk result (KnowsIds new (store_all (kind_of_objects old.objects) values more))

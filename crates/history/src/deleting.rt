@@ -8,7 +8,7 @@ ghost use Rattle.history_repository.specs.Stands.{Stands};
 ghost use Rattle.history_model.specs.Commands as commands;
 ghost use Rattle.history_model.specs.Repository as plain;
 
-use crate::moves::{Done, Moves, test_lock};
+use crate::moves::{Done, Moves};
 use gix_ref_file::Files;
 use history_plans::test_delete;
 use history_repository::{Repository, Stopped};
@@ -26,7 +26,7 @@ pub(crate) fn plan_deletion<F: Files>(
         → GivesMoves F.reading_may_fail r (commands.Delete name at) result }
 {
     test_delete(repository, alloc, &command)?;
-    test_lock(repository, alloc, &command.name)?;
+    repository.names.test_lock(alloc, &command.name)?;
     Ok(Moves::Change {
         done: Done::Delete,
         moved: Vec::new(alloc),

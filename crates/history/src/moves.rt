@@ -1,4 +1,4 @@
-//! Both halves of a changing command: `store_objects`, `move_names`; long names' locks looked up; files' faults.
+//! Both halves of a changing command: `store_objects`, `move_names`; one name's moves; files' faults.
 //!
 //! A run changes files only by these two calls, in this order. The methods of `Repository` with
 //! their names make one of them each.
@@ -29,10 +29,7 @@ use history_plans::Packing;
 use history_repository::{Repository, Stopped};
 use history_store::MovedName;
 use history_word::Command;
-use std::alloc::{AllocError, Global};
-
-// The system has room for the lock of a name of at most so many bytes.
-const SHORT_NAME: usize = 250;
+use std::alloc::Global;
 
 /// The command that changes names, and the id of the commit or tag that it made.
 #[derive(Drop)]
@@ -73,7 +70,7 @@ pub(crate) fn fault_of(error: FileError) -> Fault
     }
 }
 
-/// Returns the moves of one name, once its lock is looked up. The errors are those of `test_lock`.
+/// Returns the moves of one name, once its lock is looked up. The errors are those of `Names::test_lock`.
 pub(crate) fn moves_of_one<F: Files>(
     repository: &Repository<F>,
     alloc: Global,
@@ -82,28 +79,10 @@ pub(crate) fn moves_of_one<F: Files>(
     ensures moved { IfOk result (λ moved. moved.items ≡ one ∷ []) }
     ensures failed { IsErrOf result Failed → F.reading_may_fail }
 {
-    test_lock(repository, alloc, &one.name)?;
+    repository.names.test_lock(alloc, &one.name)?;
     let mut moved = Vec::new(alloc);
     moved.push(one)?;
     Ok(moved)
-}
-
-/// Looks the lock of a long name up: one that the system has no room for is found out before
-/// anything is written. Returns `Failed` if a call of the files failed, and `Memory` if no memory is
-/// left.
-pub(crate) fn test_lock<F: Files>(
-    repository: &Repository<F>,
-    alloc: Global,
-    name: &[u8],
-) -> Result<(), FileError>
-    ensures { IsErrOf result Failed → F.reading_may_fail }
-{
-    if name.len() > SHORT_NAME {
-        let mut lock = Vec::from_slice(alloc, name)?;
-        lock.extend_from_slice(b".lock")?;
-        repository.names.files().kind_of(&lock)?;
-    }
-    Ok(())
 }
 
 /// Puts the objects of a command that changes files, and returns how its names are to move.

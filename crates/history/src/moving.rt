@@ -8,7 +8,7 @@ ghost use Rattle.history_repository.specs.Stands.{Stands};
 ghost use Rattle.history_model.specs.Commands as commands;
 ghost use Rattle.history_model.specs.Repository as plain;
 
-use crate::moves::{Done, Moves, test_lock};
+use crate::moves::{Done, Moves};
 use gix_ref_file::{FileError, Files};
 use history_plans::plan_moves;
 use history_repository::{Repository, Stopped};
@@ -35,7 +35,7 @@ pub(crate) fn plan_together<F: Files>(
     })
 }
 
-/// Looks the lock of each name up. The errors are those of `test_lock`.
+/// Looks the lock of each name up. The errors are those of `Names::test_lock`.
 fn test_locks<F: Files>(
     repository: &Repository<F>,
     alloc: Global,
@@ -44,7 +44,7 @@ fn test_locks<F: Files>(
     ensures { IsErrOf result Failed → F.reading_may_fail }
 {
     for one in moved {
-        test_lock(repository, alloc, &one.name)?;
+        repository.names.test_lock(alloc, &one.name)?;
     }
     Ok(())
 }

@@ -7,7 +7,7 @@ ghost use Rattle.history_repository.specs.Stands.{Stands};
 ghost use Rattle.history_model.specs.Commands as commands;
 ghost use Rattle.history_model.specs.Repository as plain;
 
-use crate::moves::{Done, Moves, moves_of_one, test_lock};
+use crate::moves::{Done, Moves, moves_of_one};
 use gix_ref_file::Files;
 use history_plans::plan_rename;
 use history_repository::{Repository, Stopped};
@@ -25,7 +25,7 @@ pub(crate) fn plan_renaming<F: Files>(
         → GivesMoves F.reading_may_fail r (commands.Rename from to) result }
 {
     let to = plan_rename(repository, alloc, &command)?;
-    test_lock(repository, alloc, &command.from)?;
+    repository.names.test_lock(alloc, &command.from)?;
     Ok(Moves::Change {
         done: Done::Rename,
         moved: moves_of_one(repository, alloc, to)?,

@@ -178,7 +178,7 @@ one_part (b ∷ t) none = by_case (is_slash b) none (one_part t)
     by_case true h rest = cc
     by_case false h rest = ap (onto_first b) (rest h)
 
-lower_parts : (h : Bytes) → list_all is_lower_hex h ≡ true → (list_all is_lower_hex (take 2 h) ≡ true) × (list_all is_lower_hex (drop 2 h) ≡ true)
+pub lower_parts : (h : Bytes) → list_all is_lower_hex h ≡ true → (list_all is_lower_hex (take 2 h) ≡ true) × (list_all is_lower_hex (drop 2 h) ≡ true)
 lower_parts [] lower = (refl, refl)
 lower_parts (a ∷ []) lower = (lower, refl)
 lower_parts (a ∷ b ∷ h) lower =

@@ -37,8 +37,11 @@ is_at_file false false true is = absurd (cc is)
 is_at_file false false false is = absurd (cc is)
 
 module _ (tree : Tree) (place : Bytes) where
-  file_seen : true ≡ is_file_at tree place → File ≡ seen_at tree place
-  file_seen is = λ i. seen_of (is i) (is_folder (node_at tree (parent place))) (is_folder (node_at tree (parent (parent place))))
+  pub folder_seen : false ≡ is_file_at tree place → true ≡ is_folder (node_at tree (parent place)) → Folder ≡ seen_at tree place
+  folder_seen none there = λ i. seen_of (none i) (there i) (is_folder (node_at tree (parent (parent place))))
+
+  pub top_seen : false ≡ is_file_at tree place → false ≡ is_folder (node_at tree (parent place)) → true ≡ is_folder (node_at tree (parent (parent place))) → Top ≡ seen_at tree place
+  top_seen none missing there = λ i. seen_of (none i) (missing i) (there i)
 
   pub no_top : Nothing ≡ seen_at tree place → false ≡ is_folder (node_at tree (parent (parent place)))
   no_top is = is_nothing _ _ _ is
@@ -61,10 +64,3 @@ module _ (tree : Tree) (place : Bytes) where
       by_test false missing =
           let wrong : false ≡ true = none_in_missing tree place rooted (sym missing) ∙ file_there is in
           absurd (cc wrong)
-
-  pub no_file_there : (seen : Seen) → seen ≡ seen_at tree place → (seen ≡ File → ⊥) → is_file_at tree place ≡ false
-  no_file_there seen told other = by_test (is_file_at tree place) refl
-    where
-      by_test : (b : Bool) → is_file_at tree place ≡ b → is_file_at tree place ≡ false
-      by_test false none = none
-      by_test true is = absurd (other (told ∙ sym (file_seen (sym is))))

@@ -21,6 +21,13 @@ table_of history objects id =
     if contains_key (ids_of_objects objects) id
     then object_at (history (files_of_objects objects)).tree id else None
 
+-- The files are honest, and a file exists at the place of each known id.
+pub record KnownExist {F : Type 0} (IsHonest : F → Type 0) (history : F → History)
+    (objects : Objects F) : Type 0 where
+  pub honest : IsHonest (files_of_objects objects)
+  pub exist : (id : Id) → IsTrue (contains_key (ids_of_objects objects) id)
+      → IsSome (file_at (history (files_of_objects objects)).tree (object_place id))
+
 -- The files are honest, and an object is stored under each known id, which is of the store's kind.
 pub record HoldsKnown {F : Type 0} (IsHonest : F → Type 0) (history : F → History)
     (objects : Objects F) : Type 0 where

@@ -79,7 +79,7 @@ impl<F: Files> Names<F> {
         Ok(edits)
     }
 
-    // Adds the edit that packs the name, unless it is packed.
+    // Adds the edit that packs the name, unless it is packed. Its lock can be made.
     fn add_edit(
         &self,
         alloc: Global,
@@ -96,6 +96,7 @@ impl<F: Files> Names<F> {
         if self.is_packed(named)? {
             return Ok(());
         }
+        self.test_lock(alloc, named.name.to_path())?;
         let edit = edit_to_pack(alloc, named)?;
         edits.push(edit)?;
         Ok(())

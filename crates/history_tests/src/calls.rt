@@ -23,14 +23,14 @@ const FOLDER: &[u8] = b"objects/b6";
 // file is at its place.
 const THE_FIRST: u64 = 5;
 
-// Whether its folder exists, whether `objects` does, its folder, its text, its place.
-const IN_A_NEW_FOLDER: u64 = 5;
+// Whether its folder exists, its folder, its text, its place.
+const IN_A_NEW_FOLDER: u64 = 4;
 
-// Whether its folder exists, whether a file is at its place, its text, its place.
-const IN_A_FOLDER: u64 = 4;
+// Whether a file is at its place, its text, its place: the folder of a known object exists.
+const IN_A_FOLDER: u64 = 3;
 
-// Whether its folder exists, whether a file is at its place, what it holds.
-const STORED_ALREADY: u64 = 3;
+// Whether a file is at its place, what it holds.
+const STORED_ALREADY: u64 = 2;
 
 // A blob, three trees and the commit, none of which has a folder before; nothing is read.
 const OF_A_FIRST_COMMIT: u64 = THE_FIRST + 4 * IN_A_NEW_FOLDER;

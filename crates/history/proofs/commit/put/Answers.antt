@@ -1,7 +1,7 @@
 use Rattle.std.proofs.lemmas.Result.{err_from_is_err_and}
 use Rattle.std.proofs.Common.{◌≡◌, ◌∙◌, refl, Err, [], ◌∷◌, ◌⊎◌, ap, inl, inr, sym}
 use Rattle.history_store.specs.KeptIds.{kept}
-use Rattle.history.proofs.Puts.{folders_now, value_passes, value_stored, value_free, value_taken, value_known, put_stopped}
+use Rattle.history.proofs.Puts.{folders_now, known_exist, value_passes, value_stored, value_free, value_taken, value_known, put_stopped}
 use Rattle.history_store.proofs.ObjectParts.{values_are_objects}
 use Rattle.history_repository.specs.Faults.{fault_of_put}
 use Rattle.history_repository.specs.declared.stopped.Stopped.TheVariants as stops
@@ -42,11 +42,11 @@ returns-in_err-put_made-clause-puts g c = λ value is.
     let error = c.in_err-put_made.field-0.0 in
     let stopped = err_from_is_err_and c.from_residual.result c.from_residual.ensures.1 in
     record {
-      stores = λ values stand.
+      stores = λ values stand known.
           put_stopped _ kind values (value ∷ []) new.tree error c.from_residual.result (stopped.1 ∙ ap Err stopped.2)
-          (λ failed. counted (c.put_made.ensures.failed stand.honest (values_are_objects kind old.tree values stand.holds stand.own_ids) (c.in_err-put_made.was ∙ ap Err failed)))
+          (λ failed. counted (c.put_made.ensures.failed (known_exist g.F.Files.is_honest g.F.Files.history c.args.repository.now values stand known) (values_are_objects kind old.tree values stand.holds stand.own_ids) (c.in_err-put_made.was ∙ ap Err failed)))
           (λ id taken. value_taken kind old.tree new.tree values value c.args.object.now is stand.holds stand.own_ids (c.put_made.ensures.refuses.taken id (c.in_err-put_made.was ∙ ap Err taken) stand.honest));
-      passes = λ values stand.
+      passes = λ values stand known.
           value_passes kind old new values value c.args.object.now is stand.holds stand.own_ids
           (λ taken. ap g.F.Files.history (c.put_made.ensures.refuses.untouched stand.honest taken)) (c.put_made.ensures.writes.moments stand.honest);
       known = λ values known. rw (stopped.1) tt;
@@ -59,13 +59,13 @@ returns-clause-puts g c = λ value is.
     let new = g.F.Files.history c.put_made.new.self.files in
     let put = c.in_ok-put_made.ensures in
     record {
-      stores = λ values stand. (
+      stores = λ values stand known. (
         value_free kind old.tree new.tree values value c.args.object.now is stand.holds stand.own_ids (put.refuses.free stand.honest),
         value_stored kind old.tree new.tree values value c.args.object.now is stand.holds stand.own_ids (put.refuses.free stand.honest) (put.writes.stored stand.honest)
             (folders_now c.args.object.now old new (c.put_made.ensures.writes.moments stand.honest))
             (unchanged (λ files. (g.F.Files.history files).tree) _ _ (put.writes.finished stand.honest)),
       );
-      passes = λ values stand.
+      passes = λ values stand known.
           value_passes kind old new values value c.args.object.now is stand.holds stand.own_ids
           (λ taken. ap g.F.Files.history (c.put_made.ensures.refuses.untouched stand.honest taken)) (c.put_made.ensures.writes.moments stand.honest);
       known = λ values known.

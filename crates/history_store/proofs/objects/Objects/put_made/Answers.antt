@@ -1,6 +1,8 @@
-use Rattle.std.proofs.Common.{◌≡◌, ◌∙◌, ◌++◌, inl, inr, refl, sym, subst, ap, length, Bool, true, false, IsErrOf, Result, Ok, Err}
+use Rattle.std.proofs.Common.{◌≡◌, ◌↔◌, IsTrue, ◌∙◌, ◌++◌, inl, inr, refl, sym, subst, ap, length, Bool, true, false, IsErrOf, Result, Ok, Err}
 use denote.Enum.Bare.{sameb}
+use Rattle.std.proofs.lemmas.Bool.{false_from_ne_true}
 use Rattle.std.proofs.lemmas.Result.{err_from_is_err_and}
+use Rattle.std.specs.FinMap.{contains_key}
 use Rattle.gix_hash.specs.Id.{id_of}
 use Rattle.gix_object_lines.specs.Header.{header_text}
 use Rattle.gix_ref_file.specs.Changes.{is_file_at}
@@ -12,6 +14,8 @@ use Rattle.history_model.specs.Objects.{object_text}
 use Rattle.history_model.proofs.IdLemmas.{digest_is_id}
 use Rattle.history_model.proofs.RecoveredLemmas.{place_differs}
 use Rattle.history_store.specs.Calls.{KeepsHonesty, WritesObject}
+use Rattle.history_store.specs.Ids.{IdSet}
+use Rattle.history_store.specs.KnownObjects.{KnownExist}
 use Rattle.history_store.specs.Stores.{IsObjectPlace, place_of, put_fault, text_of}
 use Rattle.history_store.specs.Seen.{seen_at}
 use Rattle.history_store.specs.declared.folders.Seen.{Seen}
@@ -21,7 +25,6 @@ use Rattle.history_store.specs.declared.objects.PutMadeError.{PutMadeError}
 use Rattle.history_store.specs.declared.objects.PutMadeError.TheVariants as errors
 use Rattle.history_texts.specs.declared.object.NewObject.{NewObject}
 use Rattle.history_store.proofs.Honesty.{more_honesty, same_honesty}
-use Rattle.history_store.proofs.Seen.{file_there, no_file_there}
 use Rattle.history_store.proofs.Stored.{none_other, same_other, taken_by_other, untaken}
 use Rattle.history_store.proofs.Unwritten.{also_written, both_written, fault_apart, fault_of_file, found_written, newly_written, none_here, none_written, other_error, taken_error, text_here, untaken_ok}
 use Rattle.history_store.proofs.objects.Objects.put_made.Goals as goal
@@ -31,17 +34,17 @@ spelled : (object : NewObject) (content header : Bytes) → content ≡ object.c
 spelled object content header same is = ap (λ h. h ++ content) is ∙ ap (object_text object.kind) same
 
 -- a file was seen, or none was
-found_here : (seen : Seen) (same : Bool) → same ≡ sameb the_type seen File → same ≡ true → (tree : Tree) (place : Bytes) → seen ≡ seen_at tree place → is_file_at tree place ≡ true
-found_here File same equal is tree place told = file_there tree place told
+found_here : (seen : Seen) (same : Bool) → same ≡ sameb the_type seen File → same ≡ true → (tree : Tree) (place : Bytes) → (seen ≡ File) ↔ IsTrue (is_file_at tree place) → is_file_at tree place ≡ true
+found_here File same equal is tree place told = told.0 refl
 found_here Nothing same equal is tree place told = let wrong : false ≡ true = sym equal ∙ is in absurd (cc wrong)
 found_here Top same equal is tree place told = let wrong : false ≡ true = sym equal ∙ is in absurd (cc wrong)
 found_here Folder same equal is tree place told = let wrong : false ≡ true = sym equal ∙ is in absurd (cc wrong)
 
-found_none : (seen : Seen) (same : Bool) → same ≡ sameb the_type seen File → same ≡ false → (tree : Tree) (place : Bytes) → seen ≡ seen_at tree place → is_file_at tree place ≡ false
+found_none : (seen : Seen) (same : Bool) → same ≡ sameb the_type seen File → same ≡ false → (tree : Tree) (place : Bytes) → (seen ≡ File) ↔ IsTrue (is_file_at tree place) → is_file_at tree place ≡ false
 found_none File same equal other tree place told = let wrong : true ≡ false = sym equal ∙ other in absurd (cc wrong)
-found_none Nothing same equal other tree place told = no_file_there tree place _ told (λ is. absurd (cc is))
-found_none Top same equal other tree place told = no_file_there tree place _ told (λ is. absurd (cc is))
-found_none Folder same equal other tree place told = no_file_there tree place _ told (λ is. absurd (cc is))
+found_none Nothing same equal other tree place told = false_from_ne_true (is_file_at tree place) (λ there. let wrong = told.1 there in absurd (cc wrong))
+found_none Top same equal other tree place told = false_from_ne_true (is_file_at tree place) (λ there. let wrong = told.1 there in absurd (cc wrong))
+found_none Folder same equal other tree place told = false_from_ne_true (is_file_at tree place) (λ there. let wrong = told.1 there in absurd (cc wrong))
 
 abbrev done : Result (Unit {0}) PutMadeError
 done = Ok tt
@@ -126,7 +129,7 @@ returns-then-not-branch-clause-refuses g c = taken_error g.F.Files c.args.object
     let content = c.as_slice-content.result.now in
     inr (taken_by_other tree c.deref.result.now _ header content _
     (c.deref.ensures.value ∙ c.in_ok-place.ensures)
-    (found_here c.in_ok-seen.seen c.eq.result c.eq.ensures c.if-eq.true tree _ (c.in_ok-seen.ensures.seen honest))
+    (found_here c.in_ok-seen.seen c.eq.result c.eq.ensures c.if-eq.true tree _ (c.in_ok-seen.ensures.file honest))
     (λ equal.
     let found = (c.in_ok-holds.ensures.same honest).1 (ap (bytes_at tree) (c.deref-then-eq.ensures.value ∙ sym c.deref.ensures.value) ∙ equal ∙ ap (λ h. h ++ content) (sym c.deref-then-eq-2.ensures.0)) in
     let unlike = c.if-not-branch.true in
@@ -152,7 +155,7 @@ returns-in_err-write-clause-writes g c =
     (newly_written g.F.Files _ (place_of object) _ (text_of object) _ _ c.write.result (c.deref-else-eq.ensures.value ∙ c.in_ok-place.ensures)
     (ap (λ h. h ++ content) c.deref-else-eq-2.ensures.0 ∙ spelled object content _ c.as_slice-content.ensures.value c.loose_header-header.ensures)
     (place_differs (id_of object.id))
-    (λ honest here. none_here _ c.deref.result.now _ _ (c.deref.ensures.value ∙ c.in_ok-place.ensures) (found_none c.in_ok-seen.seen c.eq.result c.eq.ensures c.if-eq.false _ _ (c.in_ok-seen.ensures.seen honest)) here)
+    (λ honest here. none_here _ c.deref.result.now _ _ (c.deref.ensures.value ∙ c.in_ok-place.ensures) (found_none c.in_ok-seen.seen c.eq.result c.eq.ensures c.if-eq.false _ _ (c.in_ok-seen.ensures.file honest)) here)
     c.write.ensures.writes)
 
 pub returns-in_err-write-clause-refuses : goal.returns-in_err-write-clause-refuses
@@ -162,16 +165,21 @@ returns-in_err-write-clause-refuses g c =
     let p = err_from_is_err_and c.from_residual-in_err-write.result c.from_residual-in_err-write.ensures.1 in
     other_error g.F.Files object _ _ _ _ p.1 (λ id is. fault_apart c.in_err-write.field-0.0 id (sym p.2 ∙ is))
     (λ honest taken. absurd (untaken object tree c.is_reserved.result c.is_reserved.ensures c.if-is_reserved.false
-    (none_other tree c.deref.result.now _ _ (c.deref.ensures.value ∙ c.in_ok-place.ensures) (found_none c.in_ok-seen.seen c.eq.result c.eq.ensures c.if-eq.false _ _ (c.in_ok-seen.ensures.seen honest))) taken))
+    (none_other tree c.deref.result.now _ _ (c.deref.ensures.value ∙ c.in_ok-place.ensures) (found_none c.in_ok-seen.seen c.eq.result c.eq.ensures c.if-eq.false _ _ (c.in_ok-seen.ensures.file honest))) taken))
 
 pub returns-in_err-write-clause-failed : goal.returns-in_err-write-clause-failed
-returns-in_err-write-clause-failed g c = λ honest part failed.
+returns-in_err-write-clause-failed g c = λ exist part failed.
     let error = err_from_is_err_and c.from_residual-in_err-write.result c.from_residual-in_err-write.ensures.1 in
     let same = c.in_err-write.was ∙ ap Err (fault_of_file c.in_err-write.field-0.0 (cc (error.1, error.2, failed))) in
     let id = id_of c.args.object.now.id in
-    let placed : IsObjectPlace c.deref-else-eq.result.now = (id.kind, id, ap (is_id id.kind) c.args.object.now.named ∙ digest_is_id id.kind _, c.deref-else-eq.ensures.value ∙ c.in_ok-place.ensures) in
-    let seen_here = c.in_ok-seen.ensures.seen honest ∙ ap (seen_at (g.F.Files.history c.args.self.now.files).tree) (c.deref.ensures.value ∙ sym c.deref-else-eq.ensures.value) in
-    c.write.ensures.failed honest part placed seen_here same
+    let is : IsTrue (is_id id.kind id) = ap (is_id id.kind) c.args.object.now.named ∙ digest_is_id id.kind _ in
+    let placed : IsObjectPlace c.deref-else-eq.result.now = (id.kind, id, is, c.deref-else-eq.ensures.value ∙ c.in_ok-place.ensures) in
+    let before : KnownExist g.F.Files.is_honest g.F.Files.history (record c.args.self.now { ids = c.make_room.new.self }) = record {
+      honest = exist.honest;
+      exist = λ known is. exist.exist known (ap (λ (ids : IdSet). contains_key ids known) (sym c.make_room.ensures.ids) ∙ is);
+    } in
+    let seen_here = c.in_ok-seen.ensures.seen before (c.deref.ensures.value ∙ c.in_ok-place.ensures) is ∙ ap (seen_at (g.F.Files.history c.args.self.now.files).tree) (c.deref.ensures.value ∙ sym c.deref-else-eq.ensures.value) in
+    c.write.ensures.failed exist.honest part placed seen_here same
 
 -- ---- the object is stored
 
@@ -200,7 +208,7 @@ returns-clause-writes g c =
           subst (λ s. WritesObject g.F.Files (place_of object) (text_of object) old.files s.files done) (sym w.self-is)
           (found_written g.F.Files (place_of object) (text_of object) old.files done tt refl (λ honest.
           text_here tree c.deref.result.now (place_of object) c.loose_header-header.result.items content (text_of object) (c.deref.ensures.value ∙ c.in_ok-place.ensures)
-          (found_here c.in_ok-seen.seen c.eq.result c.eq.ensures w.if-eq.true tree _ (c.in_ok-seen.ensures.seen honest))
+          (found_here c.in_ok-seen.seen c.eq.result c.eq.ensures w.if-eq.true tree _ (c.in_ok-seen.ensures.file honest))
           (ap (bytes_at tree) (c.deref.ensures.value ∙ sym w.deref-then-eq.ensures.value) ∙ (w.in_ok-holds.ensures.same honest).0 w.if-not-branch.false ∙ ap (λ h. h ++ content) w.deref-then-eq-2.ensures.0)
           (spelled object content _ c.as_slice-content.ensures.value c.loose_header-header.ensures)))
       | else-eq+in_ok-write w ↦
@@ -209,7 +217,7 @@ returns-clause-writes g c =
           (newly_written g.F.Files _ (place_of object) _ (text_of object) _ _ w.write.result (w.deref-else-eq.ensures.value ∙ c.in_ok-place.ensures)
           (ap (λ h. h ++ content) w.deref-else-eq-2.ensures.0 ∙ spelled object content _ c.as_slice-content.ensures.value c.loose_header-header.ensures)
           (place_differs (id_of object.id))
-          (λ honest here. none_here _ c.deref.result.now _ _ (c.deref.ensures.value ∙ c.in_ok-place.ensures) (found_none c.in_ok-seen.seen c.eq.result c.eq.ensures w.if-eq.false _ _ (c.in_ok-seen.ensures.seen honest)) here)
+          (λ honest here. none_here _ c.deref.result.now _ _ (c.deref.ensures.value ∙ c.in_ok-place.ensures) (found_none c.in_ok-seen.seen c.eq.result c.eq.ensures w.if-eq.false _ _ (c.in_ok-seen.ensures.file honest)) here)
           w.write.ensures.writes))
     ]
 
@@ -226,5 +234,5 @@ returns-clause-refuses g c = untaken_ok g.F.Files _ _ _ _ _ refl (λ honest.
           (ap (bytes_at tree) (sym w.deref-then-eq.ensures.value) ∙ (w.in_ok-holds.ensures.same honest).0 w.if-not-branch.false ∙ ap (λ h. h ++ content) w.deref-then-eq-2.ensures.0)
           (sym (spelled object content _ c.as_slice-content.ensures.value c.loose_header-header.ensures)))
       | else-eq+in_ok-write w ↦
-          free (none_other tree c.deref.result.now _ _ (c.deref.ensures.value ∙ c.in_ok-place.ensures) (found_none c.in_ok-seen.seen c.eq.result c.eq.ensures w.if-eq.false _ _ (c.in_ok-seen.ensures.seen honest)))
+          free (none_other tree c.deref.result.now _ _ (c.deref.ensures.value ∙ c.in_ok-place.ensures) (found_none c.in_ok-seen.seen c.eq.result c.eq.ensures w.if-eq.false _ _ (c.in_ok-seen.ensures.file honest)))
     ])
