@@ -31,7 +31,7 @@ fn play(rt: &HostRuntime, root: &str, line: &str) -> io::Result<String> {
         let told = match word.split_once(':') {
             Some(("o", call)) => act(rt, &mut objects, call, &mut page),
             Some(("n", call)) => act(rt, &mut names, call, &mut page),
-            Some(("link", paths)) => link(rt, root, paths, &mut page)?,
+            Some((deed, paths)) => interfere(rt, root, deed, paths, &mut page)?,
             _ => None,
         };
         if told.is_none() {
@@ -56,13 +56,26 @@ fn act(rt: &HostRuntime, part: &mut RealFolder<'_>, call: &str, page: &mut Page)
     Some(())
 }
 
-// Makes a link: its path, and where it leads.
-fn link(rt: &HostRuntime, root: &str, paths: &str, page: &mut Page) -> io::Result<Option<()>> {
+// Does what another process does: makes a link or a hard link, of its path and where it leads, or
+// renames a file.
+fn interfere(
+    rt: &HostRuntime,
+    root: &str,
+    deed: &str,
+    paths: &str,
+    page: &mut Page,
+) -> io::Result<Option<()>> {
     let Some((path, to)) = paths.split_once(':') else {
         return Ok(None);
     };
     let place = format!(in rt.alloc(); "{root}/{path}")?;
-    symlink(rt, to, place.as_str())?;
-    page.word("linked");
+    let other = format!(in rt.alloc(); "{root}/{to}")?;
+    match deed {
+        "link" => symlink(rt, to, place.as_str())?,
+        "hard" => fs::hard_link(rt, other.as_str(), place.as_str())?,
+        "give" => fs::rename(rt, place.as_str(), other.as_str())?,
+        _ => return Ok(None),
+    }
+    page.word(if deed == "give" { "given" } else { "linked" });
     Ok(Some(()))
 }

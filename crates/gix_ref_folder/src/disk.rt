@@ -5,7 +5,7 @@ use crate::part::Part;
 use crate::system::{Found, System};
 use crate::system_errors::is_missing;
 use std::alloc::Global;
-use std::fs::{self, OpenFile, OpenOptions};
+use std::fs::{self, Metadata, OpenFile, OpenOptions};
 use std::io::{self, ErrorKind, Read, Seek, SeekFrom, Write};
 use std::os::unix::fs::MetadataExt;
 
@@ -19,12 +19,35 @@ use std::os::unix::fs::MetadataExt;
 #[derive(Drop)]
 pub struct Disk<R: fs::Files + AllocGlobal + Clone + Drop> {
     rt: R,
+    // The file that was made last, until another is changed.
+    made: Option<Made<R::File>>,
+}
+
+// A file that was made and is still open: so a link or a file that is put into its place meanwhile
+// isn't written.
+#[derive(Drop)]
+struct Made<F: OpenFile + Write + Drop> {
+    place: String,
+    file: F,
+    is_empty: bool,
+}
+
+impl<F: OpenFile + Write + Drop> Made<F> {
+    // Writes after what was written before.
+    fn write(&mut self, bytes: &[u8]) -> io::Result<()> {
+        if self.file.metadata()?.nlink() == 0 {
+            return Err(io::Error::other("the file was taken away"));
+        }
+        self.file.write_all(bytes)?;
+        self.is_empty = self.is_empty && bytes.is_empty();
+        Ok(())
+    }
 }
 
 impl<R: fs::Files + AllocGlobal + Clone + Drop> Disk<R> {
     /// Returns the system of a runtime.
     pub fn new(rt: R) -> Self {
-        Disk { rt }
+        Disk { rt, made: None }
     }
 
     fn look(&self, place: &str) -> io::Result<Found> {
@@ -114,38 +137,78 @@ impl<R: fs::Files + AllocGlobal + Clone + Drop> Disk<R> {
         how.open(&self.rt, place)
     }
 
-    fn put_new(&self, place: &str, bytes: &[u8]) -> io::Result<()> {
+    fn put_new(&mut self, place: &str, bytes: &[u8]) -> io::Result<()> {
+        self.made = None;
+        let path = String::from_str(self.rt.alloc(), place)?;
         let mut file = self.make(place)?;
-        file.write_all(bytes)
+        file.write_all(bytes)?;
+        self.made = Some(Made {
+            place: path,
+            file,
+            is_empty: bytes.is_empty(),
+        });
+        Ok(())
     }
 
-    // Opens a file to change it, and returns its length; one that is missing is made. The system
-    // would follow a link that was put into the place of a file just now, so what was opened is to
-    // be the file that was seen there.
-    fn open(&self, place: &str, how: &OpenOptions) -> io::Result<(R::File, u64)> {
+    // Returns the file that was made, if it has this path. Otherwise it is closed.
+    fn made_at(&mut self, place: &str) -> Option<Made<R::File>> {
+        match self.made.take() {
+            Some(made) if made.place.as_bytes() == place.as_bytes() => Some(made),
+            _ => None,
+        }
+    }
+
+    fn write_made(&mut self, mut made: Made<R::File>, bytes: &[u8]) -> io::Result<()> {
+        made.write(bytes)?;
+        self.made = Some(made);
+        Ok(())
+    }
+
+    // Opens a file to change it, and returns what was found there; one that is missing is made. The
+    // system would follow a link that was put into the place of a file just now, so what was opened
+    // is to be the file that was seen there.
+    fn open(&self, place: &str, how: &OpenOptions) -> io::Result<(R::File, Option<Metadata>)> {
         let seen = match fs::symlink_metadata(&self.rt, place) {
-            Err(error) if error.kind() == ErrorKind::NotFound => return Ok((self.make(place)?, 0)),
+            Err(error) if error.kind() == ErrorKind::NotFound => {
+                return Ok((self.make(place)?, None));
+            }
             seen => seen?,
         };
         if seen.is_file() {
             let file = how.open(&self.rt, place)?;
             let opened = file.metadata()?;
             if opened.ino() == seen.ino() && opened.dev() == seen.dev() {
-                return Ok((file, opened.len()));
+                return Ok((file, Some(opened)));
             }
         }
         Err(io::Error::other("not a file"))
     }
 
-    fn put(&self, place: &str, bytes: &[u8]) -> io::Result<()> {
-        let (mut file, len) = self.open(place, OpenOptions::new().write(true))?;
-        if len > 0 {
-            file.set_len(0)?;
+    fn put(&mut self, place: &str, bytes: &[u8]) -> io::Result<()> {
+        match self.made_at(place) {
+            Some(made) if made.is_empty => self.write_made(made, bytes),
+            _ => self.rewrite(place, bytes),
+        }
+    }
+
+    // Replaces what a file has, unless it has another path too.
+    fn rewrite(&self, place: &str, bytes: &[u8]) -> io::Result<()> {
+        let (mut file, found) = self.open(place, OpenOptions::new().write(true))?;
+        if let Some(found) = found {
+            if found.nlink() != 1 {
+                return Err(io::Error::other("the file has another path too"));
+            }
+            if found.len() > 0 {
+                file.set_len(0)?;
+            }
         }
         file.write_all(bytes)
     }
 
-    fn lengthen(&self, place: &str, bytes: &[u8]) -> io::Result<()> {
+    fn lengthen(&mut self, place: &str, bytes: &[u8]) -> io::Result<()> {
+        if let Some(made) = self.made_at(place) {
+            return self.write_made(made, bytes);
+        }
         let (mut file, _) = self.open(place, OpenOptions::new().append(true))?;
         file.write_all(bytes)
     }
@@ -192,18 +255,22 @@ impl<R: fs::Files + AllocGlobal + Clone + Drop> System for Disk<R> {
     }
 
     fn rename(&mut self, from: &str, to: &str) -> io::Result<()> {
+        self.made = None;
         fs::rename(&self.rt, from, to)
     }
 
     fn remove_file(&mut self, place: &str) -> io::Result<()> {
+        self.made = None;
         fs::remove_file(&self.rt, place)
     }
 
     fn make_folder(&mut self, place: &str) -> io::Result<()> {
+        self.made = None;
         fs::create_dir(&self.rt, place)
     }
 
     fn remove_folder(&mut self, place: &str) -> io::Result<()> {
+        self.made = None;
         fs::remove_dir(&self.rt, place)
     }
 

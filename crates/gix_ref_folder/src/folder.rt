@@ -22,6 +22,13 @@ const LONGEST_FILE_NAME: usize = 255;
 
 const LONGEST_NAME: usize = 250;
 
+// The most bytes that most systems take in a path.
+const LONGEST_PATH: usize = 4095;
+
+// The most bytes of a root. Below it the system takes the paths of all objects, and of all that a name of at most 250 bytes has, as its
+// log's lock.
+const LONGEST_ROOT: usize = 3800;
+
 /// A part of a real folder. What exists at a path is looked up by each call anew, but for the file
 /// that the last change made or wrote: it is renamed without a look.
 ///
@@ -127,13 +134,22 @@ impl<S: System> Folder<S> {
         if path.is_empty() {
             return Ok(Place::Folder);
         }
-        if path.ends_with(b".lock") && !has_short_names(path) {
+        if !self.has_room(path) {
             return Err(io::Error::new(ErrorKind::InvalidFilename, "File name too long"));
         }
         match self.place(path)? {
             Some(place) => self.found(place.as_str()),
             None => Ok(Place::Absent),
         }
+    }
+
+    // Whether the system takes the paths below the root, and this one if it is a lock's.
+    fn has_room(&self, path: &[u8]) -> bool {
+        let root = self.root.len();
+        if root > LONGEST_ROOT {
+            return false;
+        }
+        !path.ends_with(b".lock") || (path.len() < LONGEST_PATH - root && has_short_names(path))
     }
 
     // Returns whether the last change made or wrote the file at this path of the system's.

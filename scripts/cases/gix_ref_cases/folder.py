@@ -107,6 +107,26 @@ def by_hand_alone():
     fixed("link:refs/l:.. n:list:refs/l n:folder:refs/l n:remove-folder:refs/l n:list:-", "linked failed failed failed names:kept:refs")
     fixed(f"{link} n:rename:refs/l:a n:rename:kept:refs/l n:read:refs/l n:list:-", "linked failed done 1:so%201 names:refs")
     fixed(f"{link} n:remove:refs/l n:list:refs n:read:kept", "linked done names 1:so%201")
+    # What another process puts into the place of a file that was made just now isn't written, whatever it is; nor is a file that is to be
+    # replaced, but has another path.
+    for made, change in (("n:create:refs/m", "write"), ("n:create:refs/m", "append"), ("n:create:refs/m:x", "append")):
+        for put in ("hard:refs/l:kept give:refs/l:refs/m", "link:refs/l:../kept give:refs/l:refs/m", "hard:also:kept give:kept:refs/m"):
+            kept = "also" if "also" in put else "kept"
+            fixed(f"{made} {put} n:{change}:refs/m:2 n:last n:read:{kept}",
+                  "done linked given failed refs/m%3a%20the%20file%20was%20taken%20away 1:so%201")
+    fixed("hard:refs/l:kept n:write:refs/l:2 n:last n:read:kept n:append:refs/l:3 n:read:kept",
+          "linked failed refs/l%3a%20the%20file%20has%20another%20path%20too 1:so%201 done 2:so%2013")
+    fixed("hard:refs/l:kept n:remove:kept n:write:refs/l:2 n:read:refs/l", "linked done done 1:so%202")
+    # Another change ends that, and the file that is there is written.
+    fixed("n:create:refs/m n:create:refs/n n:write:refs/m:2 n:write:refs/n:34 n:append:refs/n:5 n:write:refs/n:6 n:read:refs/m n:read:refs/n",
+          "done done done done done done 1:so%202 1:so%206")
+    fixed("n:create:refs/m n:append:refs/m:2 n:write:refs/m:- n:append:refs/m:34 n:append:refs/m:5 n:read:refs/m", "done done done done done 3:so%20345")
+    fixed("n:create:refs/m give:refs/m:refs/n n:write:refs/n:2 n:write:refs/m:3 n:read:refs/n n:read:refs/m", "done given done done 1:so%202 1:so%203")
+    # The system takes no path of over 4,095 bytes with the folder's. A look at a lock's is for whoever is to make it.
+    deep = "/".join(["w" * 200] * 20) + "/"
+    fixed(f"n:kind:{deep}{'x' * 40}.lock n:kind:{deep}{'x' * 67} n:last", "absent absent none")
+    lock = f"{deep}{'x' * 67}.lock"
+    fixed(f"n:kind:{lock} n:last n:create:{lock} n:list:-", f"failed {lock}%3a%20File%20name%20too%20long failed names:kept:refs")
     # A path through links that lead in a circle isn't absent.
     fixed("link:l:l n:kind:l/x n:read:l/x n:last", "linked failed failed l/x%3a%20Too%20many%20levels%20of%20symbolic%20links")
     fixed("n:last o:last n:kind:none n:create:refs n:read:a/b n:last", "none none absent stands none:so%20 refs%3a%20File%20exists")
