@@ -33,11 +33,17 @@ struct Made<F: OpenFile + Write + Drop> {
 }
 
 impl<F: OpenFile + Write + Drop> Made<F> {
-    // Writes after what was written before.
-    fn write(&mut self, bytes: &[u8]) -> io::Result<()> {
+    // Fills a file that is empty; one that was taken away is reported, since another may be in its
+    // place.
+    fn fill(&mut self, bytes: &[u8]) -> io::Result<()> {
         if self.file.metadata()?.nlink() == 0 {
             return Err(io::Error::other("the file was taken away"));
         }
+        self.lengthen(bytes)
+    }
+
+    // Writes after what was written before.
+    fn lengthen(&mut self, bytes: &[u8]) -> io::Result<()> {
         self.file.write_all(bytes)?;
         self.is_empty = self.is_empty && bytes.is_empty();
         Ok(())
@@ -158,12 +164,6 @@ impl<R: fs::Files + AllocGlobal + Clone + Drop> Disk<R> {
         }
     }
 
-    fn write_made(&mut self, mut made: Made<R::File>, bytes: &[u8]) -> io::Result<()> {
-        made.write(bytes)?;
-        self.made = Some(made);
-        Ok(())
-    }
-
     // Opens a file to change it, and returns what was found there; one that is missing is made. The
     // system would follow a link that was put into the place of a file just now, so what was opened
     // is to be the file that was seen there.
@@ -186,7 +186,11 @@ impl<R: fs::Files + AllocGlobal + Clone + Drop> Disk<R> {
 
     fn put(&mut self, place: &str, bytes: &[u8]) -> io::Result<()> {
         match self.made_at(place) {
-            Some(made) if made.is_empty => self.write_made(made, bytes),
+            Some(mut made) if made.is_empty => {
+                made.fill(bytes)?;
+                self.made = Some(made);
+                Ok(())
+            }
             _ => self.rewrite(place, bytes),
         }
     }
@@ -206,8 +210,10 @@ impl<R: fs::Files + AllocGlobal + Clone + Drop> Disk<R> {
     }
 
     fn lengthen(&mut self, place: &str, bytes: &[u8]) -> io::Result<()> {
-        if let Some(made) = self.made_at(place) {
-            return self.write_made(made, bytes);
+        if let Some(mut made) = self.made_at(place) {
+            made.lengthen(bytes)?;
+            self.made = Some(made);
+            return Ok(());
         }
         let (mut file, _) = self.open(place, OpenOptions::new().append(true))?;
         file.write_all(bytes)

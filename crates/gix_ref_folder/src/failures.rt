@@ -1,4 +1,4 @@
-//! The count of failed changes, and the last call that failed, a change or a reading.
+//! The count of failed changes with the last of them; what is kept of each call.
 ghost use Rattle.std.specs.Prelude.{◌≡◌, ◌≤◌, ◌+◌, ◌-◌, ◌^◌, min, IfOk, IfNone, OnOk, Ok, IsErrOf};
 ghost use Rattle.gix_ref_file.specs.Changes.{Change};
 ghost use Rattle.gix_ref_file.specs.History.{HasRisen, History, Makes};
@@ -7,18 +7,19 @@ ghost use Rattle.gix_ref_folder.specs.Errors.{count_of};
 ghost use Rattle.gix_ref_folder.specs.Systems.{Does};
 
 use crate::failure::Failure;
+use crate::last_call::{LastCall, Outcome};
 use crate::system_errors::fault;
 use gix_ref_file::FileError;
 use std::alloc::Global;
-use std::cell::Cell;
 use std::io;
+use std::rc::Rc;
 
-// The calls that failed.
+// What is kept of calls.
 #[derive(Drop)]
 pub struct Failures {
     changes: Option<FailedChanges>,
-    // A reading that failed, or a file that couldn't be made since something is there, after the last such change.
-    reading: Cell<Option<Failure>>,
+    // The last call of all parts, if they share one.
+    call: Option<Rc<LastCall>>,
 }
 
 // How many changes failed, up to the last `u64`, and the last of them.
@@ -35,58 +36,63 @@ impl Failures {
     {
         Failures {
             changes: None,
-            reading: Cell::new(None),
+            call: None,
         }
     }
 
-    /// Returns the last call that failed or met something, if one did.
-    pub fn last(&mut self) -> Option<&Failure>
-        ensures { IfNone result (count_of self.old ≡ 0) }
+    /// Keeps calls in `call` too.
+    pub fn share(&mut self, call: Rc<LastCall>)
+        ensures { count_of self.new ≡ count_of self.old }
     {
-        let change = self.changes.as_ref().map(|changes| &changes.last);
-        self.reading.get_mut().as_ref().or(change)
+        self.call = Some(call);
     }
 
-    /// Returns what a reading returned; if it failed, why is kept.
+    /// Returns the last change that failed, if one did.
+    pub fn last(&self) -> Option<&Failure>
+        ensures { IfNone result (count_of self.now ≡ 0) }
+    {
+        self.changes.as_ref().map(|changes| &changes.last)
+    }
+
+    fn keep(&self, path: &[u8], outcome: Outcome) {
+        if let Some(call) = &self.call {
+            call.keep(path, outcome);
+        }
+    }
+
+    /// Returns what a reading returned, which is kept. One that was refused memory isn't.
     pub fn read<T: Drop>(
         &self,
-        alloc: Global,
         path: &[u8],
         read: io::Result<T>,
+        is_there: bool,
     ) -> Result<T, FileError>
         ensures ok { IfOk result (λ value. read ≡ Ok value) }
     {
         match read {
-            Ok(value) => Ok(value),
+            Ok(value) => {
+                self.keep(path, Outcome::Read(is_there));
+                Ok(value)
+            }
             Err(error) => {
                 let fault = fault(&error);
                 if fault == FileError::Failed {
-                    self.reading.set(Some(Failure::new(alloc, path, error)));
+                    self.keep(path, Outcome::Failed(error));
                 }
                 Err(fault)
             }
         }
     }
 
-    /// Keeps that something is at the path of a file that was to be made, until one is made there.
-    /// No call failed by that.
-    pub fn made(&self, alloc: Global, path: &[u8], made: &io::Result<bool>) {
-        match made {
-            Ok(true) => self.forget(path),
-            Ok(false) => {
-                let error = io::Error::other("File exists");
-                self.reading.set(Some(Failure::new(alloc, path, error)));
+    /// Keeps that something is at the path of a file that was to be made. If one was made, what
+    /// failed before was passed over.
+    pub fn made(&self, path: &[u8], made: &io::Result<bool>) {
+        match (made, &self.call) {
+            (Ok(false), Some(call)) => {
+                call.keep(path, Outcome::Failed(io::Error::other("File exists")));
             }
-            Err(_) => {}
-        }
-    }
-
-    // Forgets what was met at this path.
-    fn forget(&self, path: &[u8]) {
-        if let Some(failure) = self.reading.take() {
-            if failure.path() != path {
-                self.reading.set(Some(failure));
-            }
+            (Ok(true), Some(call)) => call.forget_failure(),
+            _ => {}
         }
     }
 
@@ -121,6 +127,7 @@ impl Failures {
         if fault == FileError::Memory {
             return fault;
         }
+        self.keep(path, Outcome::Failed(error));
         self.count(Failure::new(alloc, path, error));
         fault
     }
@@ -134,6 +141,5 @@ impl Failures {
             count: before.saturating_add(1),
             last,
         });
-        self.reading.set(None);
     }
 }

@@ -8,6 +8,7 @@ ghost use Rattle.gix_ref_folder.specs.Folders.{failures_of, root_of, part_of, sy
 
 use crate::failure::Failure;
 use crate::failures::Failures;
+use crate::last_call::LastCall;
 use crate::part::Part;
 use crate::system::{Found, System};
 use crate::system_errors::{is_missing, is_new};
@@ -16,6 +17,7 @@ use gix_ref_file::paths::is_path;
 use gix_ref_file::{FileError, Files, Place};
 use std::alloc::Global;
 use std::io::{self, ErrorKind};
+use std::rc::Rc;
 
 // The most bytes that most systems take in a name, and that a name may have beside which `.lock` is to fit too.
 const LONGEST_FILE_NAME: usize = 255;
@@ -68,10 +70,21 @@ impl<S: System> Folder<S> {
         }
     }
 
-    /// Returns the last call that failed, or that made no file since something was there, if there is
-    /// one; one that was refused memory isn't kept.
-    pub fn last_failure(&mut self) -> Option<&Failure>
-        ensures { IfNone result (failures_of self.old ≡ 0) }
+    /// Keeps in `call` what came of each call from now on. The other part may share it.
+    pub fn share(&mut self, call: Rc<LastCall>)
+        ensures history { history_in S.history self.new ≡ history_in S.history self.old }
+        ensures honest { IsHonestIn S.is_honest S.history self.old
+            → IsHonestIn S.is_honest S.history self.new }
+        ensures failures { failures_of self.new ≡ failures_of self.old }
+        ensures root { root_of self.new ≡ root_of self.old }
+        ensures part { part_of self.new ≡ part_of self.old }
+    {
+        self.failures.share(call);
+    }
+
+    /// Returns the last change that failed, if one did; one that was refused memory isn't kept.
+    pub fn last_failure(&self) -> Option<&Failure>
+        ensures { IfNone result (failures_of self.now ≡ 0) }
     {
         self.failures.last()
     }
@@ -393,11 +406,15 @@ impl<S: System> Files for Folder<S> {
     ghost is_atomic = { ⊥ };
 
     fn kind_of(&self, path: &[u8]) -> Result<Place, FileError> {
-        self.failures.read(self.alloc, path, self.kind(path))
+        let found = self.kind(path);
+        let is_there = !matches!(found, Ok(Place::Absent));
+        self.failures.read(path, found, is_there)
     }
 
     fn read(&self, path: &[u8], out: &mut Vec<u8>) -> Result<Option<usize>, FileError> {
-        let Some(bytes) = self.failures.read(self.alloc, path, self.bytes(path))? else {
+        let read = self.bytes(path);
+        let is_there = !matches!(read, Ok(None));
+        let Some(bytes) = self.failures.read(path, read, is_there)? else {
             return Ok(None);
         };
         out.extend_from_slice(&bytes)?;
@@ -406,17 +423,18 @@ impl<S: System> Files for Folder<S> {
 
     fn read_at(&self, path: &[u8], at: u64, buffer: &mut [u8]) -> Result<Option<usize>, FileError> {
         let read = self.bytes_from(path, at, buffer);
-        self.failures.read(self.alloc, path, read)
+        let is_there = !matches!(read, Ok(None));
+        self.failures.read(path, read, is_there)
     }
 
     fn list(&self, alloc: Global, folder: &[u8]) -> Result<Vec<Vec<u8>>, FileError> {
         let names = self.sorted_names(alloc, folder);
-        self.failures.read(self.alloc, folder, names)
+        self.failures.read(folder, names, true)
     }
 
     fn create_new(&mut self, alloc: Global, path: &[u8], bytes: &[u8]) -> Result<bool, FileError> {
         let made = self.make_new(path, bytes);
-        self.failures.made(alloc, path, &made);
+        self.failures.made(path, &made);
         self.failures.changed(alloc, path, made)
     }
 

@@ -5,10 +5,11 @@ use crate::over_files::OverFiles;
 use crate::rows::ROWS;
 use case_words::{Page, call_by};
 use gix_ref_file::{Files, MemoryFiles};
-use gix_ref_folder::{Folder, Part, System};
+use gix_ref_folder::{Folder, LastCall, Part, System};
 use gix_ref_fuse::Fuse;
 use std::alloc::{AllocError, Global};
 use std::io::{self, ErrorKind};
+use std::rc::Rc;
 use std::test::Fail;
 
 const ROOT: &str = "repository";
@@ -223,17 +224,16 @@ fn a_failed_call_is_no_absence(rt: HostRuntime) -> Result<(), Fail> {
         let system = OverFiles::new(alloc, String::from_str(alloc, ROOT)?, objects, names);
         let root = String::from_str(alloc, ROOT)?;
         let mut folder = Folder::new(alloc, system, root, Part::Names);
+        let last = Rc::new(alloc, LastCall::new(alloc))?;
+        folder.share(last.clone()?);
         let returned = play_on(alloc, &mut folder, words)?;
         assert_eq!(rt; returned.as_str(), wanted, "of {words}, at {call}");
-        let Some(failure) = folder.last_failure() else {
-            panic!(rt; "no failure is kept of {words}");
-        };
         let why = if wanted.ends_with("stands") {
             b": File exists".as_slice()
         } else {
             b": the files failed".as_slice()
         };
-        assert!(rt; failure.text(alloc)?.ends_with(why));
+        assert!(rt; last.cause().text(alloc)?.ends_with(why), "of {words}");
     }
     Ok(())
 }

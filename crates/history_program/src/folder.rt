@@ -1,15 +1,17 @@
 //! Performs the action of the program's words on a real folder, under its lock; writes help and errors.
 
 use crate::lock::lock_folder;
-use crate::notes::{note_failure, note_refusal};
-use gix_ref_folder::{Disk, Folder, Part};
+use crate::notes::{note_cause, note_refusal};
+use crate::replies::Replies;
+use gix_ref_folder::{Disk, Folder, LastCall, Part};
 use history::in_memory::Patient;
-use history::{Broken, Stream};
+use history::{Broken, OpenError, Stream};
 use history_actions::command_line::{AskError, Asked, read_words};
-use history_actions::{perform, report};
+use history_actions::{Failure, perform, report};
 use history_word::write_all;
 use std::alloc::AllocError;
 use std::io::{self, ErrorKind};
+use std::rc::Rc;
 
 /// The status of a line that isn't the program's.
 const BAD_LINE: u8 = 2;
@@ -48,32 +50,33 @@ fn act_under_lock(rt: &HostRuntime, asked: &Asked) -> Result<u8, AllocError> {
 
 // Acts on the two parts of the folder.
 fn act_on_folder(rt: &HostRuntime, asked: &Asked) -> Result<u8, AllocError> {
-    let objects = Folder::new(
-        rt.alloc(),
-        Disk::new(rt),
-        folder_path(rt, asked)?,
-        Part::Objects,
-    );
-    let names = Folder::new(
-        rt.alloc(),
-        Disk::new(rt),
-        folder_path(rt, asked)?,
-        Part::Names,
-    );
+    let folder = asked.folder.as_bytes();
+    let call = Rc::new(rt.alloc(), LastCall::new(rt.alloc()))?;
+    let objects = part_of_folder(rt, asked, Part::Objects, &call)?;
+    let names = part_of_folder(rt, asked, Part::Names, &call)?;
     // Each reply is written by one call, so no stream needs a buffer of its own.
     let mut reader = Stream::new(Patient::new(rt.stdin()));
-    let mut writer = Stream::new(rt.stdout());
+    let mut writer = Stream::new(Replies::new(rt, folder, &call));
     let mut errors = Stream::new(rt.stderr());
-    let mut performed = perform(rt.alloc(), asked, objects, names, &mut reader, &mut writer);
+    let performed = perform(rt.alloc(), asked, objects, names, &mut reader, &mut writer);
     let status = report(asked.kind, &performed.answer, &mut errors);
-    note_failure(rt, asked.folder.as_bytes(), &mut performed.objects);
-    note_failure(rt, asked.folder.as_bytes(), &mut performed.names);
+    if let Err(Failure::File | Failure::Unopened(OpenError::File)) = performed.answer {
+        note_cause(rt, folder, &call);
+    }
     Ok(status)
 }
 
-// Returns the folder's path.
-fn folder_path(rt: &HostRuntime, asked: &Asked) -> Result<String, AllocError> {
-    String::from_str(rt.alloc(), asked.folder.as_str())
+// Returns a part of the folder, whose calls are kept in `call`.
+fn part_of_folder<'a>(
+    rt: &'a HostRuntime,
+    asked: &Asked,
+    part: Part,
+    call: &Rc<LastCall>,
+) -> Result<Folder<Disk<&'a HostRuntime>>, AllocError> {
+    let root = String::from_str(rt.alloc(), asked.folder.as_str())?;
+    let mut shown = Folder::new(rt.alloc(), Disk::new(rt), root, part);
+    shown.share(call.clone()?);
+    Ok(shown)
 }
 
 // Writes a text to standard error, and returns the status. If that fails, nothing else can be

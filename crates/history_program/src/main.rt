@@ -8,6 +8,7 @@
 mod folder;
 mod lock;
 mod notes;
+mod replies;
 
 use history::in_memory::serve;
 use std::io::IsTerminal;

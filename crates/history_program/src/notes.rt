@@ -1,7 +1,7 @@
 //! Notes on standard error after a fault or a refused lock: which file or folder, and why.
 
 use crate::lock::Refusal;
-use gix_ref_folder::{Disk, Failure, Folder};
+use gix_ref_folder::{Failure, LastCall};
 use history::Stream;
 use history_word::write_all;
 use std::alloc::{AllocError, Global};
@@ -12,11 +12,9 @@ pub fn note_refusal(rt: &HostRuntime, folder: &[u8], refusal: &Refusal) {
     note(rt, text_of(rt.alloc(), folder, refusal));
 }
 
-/// Notes the last call that failed in a part of a folder, if one did.
-pub fn note_failure(rt: &HostRuntime, folder: &[u8], part: &mut Folder<Disk<&HostRuntime>>) {
-    if let Some(failure) = part.last_failure() {
-        note(rt, text_of_failure(rt.alloc(), folder, failure));
-    }
+/// Notes the last call on the parts of a folder, which led to a fault.
+pub fn note_cause(rt: &HostRuntime, folder: &[u8], call: &LastCall) {
+    note(rt, text_of_failure(rt.alloc(), folder, &call.cause()));
 }
 
 // Writes a note to standard error. If memory runs out for it, or that fails, nothing else can be

@@ -112,8 +112,8 @@ def by_hand_alone():
     for made, change in (("n:create:refs/m", "write"), ("n:create:refs/m", "append"), ("n:create:refs/m:x", "append")):
         for put in ("hard:refs/l:kept give:refs/l:refs/m", "link:refs/l:../kept give:refs/l:refs/m", "hard:also:kept give:kept:refs/m"):
             kept = "also" if "also" in put else "kept"
-            fixed(f"{made} {put} n:{change}:refs/m:2 n:last n:read:{kept}",
-                  "done linked given failed refs/m%3a%20the%20file%20was%20taken%20away 1:so%201")
+            outcome = "failed refs/m%3a%20the%20file%20was%20taken%20away" if change == "write" else "done none"
+            fixed(f"{made} {put} n:{change}:refs/m:2 n:last n:read:{kept}", f"done linked given {outcome} 1:so%201")
     fixed("hard:refs/l:kept n:write:refs/l:2 n:last n:read:kept n:append:refs/l:3 n:read:kept",
           "linked failed refs/l%3a%20the%20file%20has%20another%20path%20too 1:so%201 done 2:so%2013")
     fixed("hard:refs/l:kept n:remove:kept n:write:refs/l:2 n:read:refs/l", "linked done done 1:so%202")
@@ -128,13 +128,19 @@ def by_hand_alone():
     lock = f"{deep}{'x' * 67}.lock"
     fixed(f"n:kind:{lock} n:last n:create:{lock} n:list:-", f"failed {lock}%3a%20File%20name%20too%20long failed names:kept:refs")
     # A path through links that lead in a circle isn't absent.
-    fixed("link:l:l n:kind:l/x n:read:l/x n:last", "linked failed failed l/x%3a%20Too%20many%20levels%20of%20symbolic%20links")
-    fixed("n:last o:last n:kind:none n:create:refs n:read:a/b n:last", "none none absent stands none:so%20 refs%3a%20File%20exists")
-    fixed("n:folder:refs n:last n:remove-folder:none n:last o:last", "failed refs%3a%20File%20exists failed none%3a%20No%20such%20file%20or%20directory none")
+    fixed("link:l:l n:kind:l/x n:read:l/x last", "linked failed failed l/x%3a%20Too%20many%20levels%20of%20symbolic%20links")
+    # What explains a fault is the last call of both parts that failed or met something, else the last reading.
+    there, none, met = (files.word(it) for it in (b": read last, and no call failed", b": No such file or directory", b"refs: File exists"))
+    fixed("n:last o:last last n:kind:none last n:read:kept last o:read:objects/a last n:list:refs last "
+          "n:create:refs n:read:a/b last n:last forget last n:create:refs n:create:new last",
+          f"none none {there} absent none{none} 1:so%201 kept{there} none:so%20 objects/a{none} names refs{there} "
+          f"stands none:so%20 {met} none {there} stands done {there}")
+    fixed("n:folder:refs n:last n:remove-folder:none n:last o:last o:read:objects/a last",
+          f"failed refs%3a%20File%20exists failed none{none} none none:so%20 none{none}")
     fixed("o:write:objects/a:1 o:last n:write:objects/a:1 n:last",
           "failed objects/a%3a%20No%20such%20file%20or%20directory failed objects/a%3a%20no%20path%20of%20this%20part")
     fixed(f"n:write:{'w' * 251}:1 n:last", f"failed {'w' * 251}%3a%20no%20name%20for%20its%20lock%20file")
-    fixed("n:rename:none:kept n:last n:kind:%ff n:last", "failed kept%3a%20no%20file%20to%20move%20here failed %ff%3a%20not%20UTF-8")
+    fixed("n:rename:none:kept n:kind:%ff last n:last", "failed failed %ff%3a%20not%20UTF-8 kept%3a%20no%20file%20to%20move%20here")
 
 
 PATHS = [b"a", b"a/b", b"a/b/c", b"a-", b"b", b"b/c", b"c", b"..", b"a//b", b"", b"objects", b"objects/a", b"objects/a/b", b"objects-"]
