@@ -17,8 +17,7 @@ not_zero n = false_from_ne_true (suc n == 0) (λ zero. omega (arith, (Decides-eq
 told : (lists : List (Vec ObjectId Global)) (are : are_lists 0 lists ≡ true) (id : ObjectId) (byte : ℕ) (begins : Begins (id_of id) byte) (list : Vec ObjectId Global) (within : byte < length lists)
     (is : list ≡ slice_index_or lists byte list) (b : Bool) → b ≡ (length list.items == 0) → (ids : List ObjectId) → ids ≡ list.items → IsTrue (not b) ↔ HasBeside (set_of (joined lists)) (id_of id)
 told lists are id byte begins list within is b at [] same =
-    let none : b ≡ true = at ∙ ap (λ (xs : List ObjectId). length xs == 0) (sym same) in
-    (
+    let none : b ≡ true = at ∙ ap (λ (xs : List ObjectId). length xs == 0) (sym same) in (
       λ some. let wrong : false ≡ true = sym (ap not none) ∙ some in absurd (cc wrong),
       λ beside. absurd (beside_none lists are id byte begins list within is [] same refl beside),
     )
@@ -45,8 +44,7 @@ returns-in-None c =
     let lists = c.args.self.now.lists.items in
     let byte = c.from.result in
     let begins = subst (Begins (id_of c.args.id.now)) (sym c.from.ensures) c.first_byte.ensures in
-    let beyond = subst (λ ls. length ls ≤ byte) c.deref.ensures.value look.3 in
-    (
+    let beyond = subst (λ ls. length ls ≤ byte) c.deref.ensures.value look.3 in (
       λ wrong. absurd (cc wrong),
       λ (other, has, same). let wrong : true ≡ false = sym has ∙ contains-set_of (joined lists) other ∙ no_list lists c.args.self.now.in_order byte beyond other (begins ∙ sym same) in absurd (cc wrong),
     )
