@@ -375,6 +375,10 @@ fn if_written(place: String, done: &io::Result<()>) -> Option<String>
     }
 }
 
+fn has_found<T>(read: &io::Result<Option<T>>) -> bool {
+    !matches!(read, Ok(None))
+}
+
 fn has_short_names(path: &[u8]) -> bool {
     path.split(|byte| *byte == b'/')
         .all(|name| name.len() <= LONGEST_FILE_NAME)
@@ -413,7 +417,7 @@ impl<S: System> Files for Folder<S> {
 
     fn read(&self, path: &[u8], out: &mut Vec<u8>) -> Result<Option<usize>, FileError> {
         let read = self.bytes(path);
-        let is_there = !matches!(read, Ok(None));
+        let is_there = has_found(&read);
         let Some(bytes) = self.failures.read(path, read, is_there)? else {
             return Ok(None);
         };
@@ -423,7 +427,7 @@ impl<S: System> Files for Folder<S> {
 
     fn read_at(&self, path: &[u8], at: u64, buffer: &mut [u8]) -> Result<Option<usize>, FileError> {
         let read = self.bytes_from(path, at, buffer);
-        let is_there = !matches!(read, Ok(None));
+        let is_there = has_found(&read);
         self.failures.read(path, read, is_there)
     }
 
