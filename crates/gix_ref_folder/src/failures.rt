@@ -60,18 +60,19 @@ impl Failures {
         }
     }
 
-    /// Returns what a reading returned, which is kept. One that was refused memory isn't.
+    /// Returns what a reading returned. What it came to is kept: `outcome` if it didn't fail. One
+    /// that was refused memory isn't.
     pub fn read<T: Drop>(
         &self,
         path: &[u8],
         read: io::Result<T>,
-        is_there: bool,
+        outcome: Outcome,
     ) -> Result<T, FileError>
         ensures ok { IfOk result (λ value. read ≡ Ok value) }
     {
         match read {
             Ok(value) => {
-                self.keep(path, Outcome::Read(is_there));
+                self.keep(path, outcome);
                 Ok(value)
             }
             Err(error) => {

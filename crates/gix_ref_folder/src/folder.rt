@@ -8,7 +8,7 @@ ghost use Rattle.gix_ref_folder.specs.Folders.{failures_of, root_of, part_of, sy
 
 use crate::failure::Failure;
 use crate::failures::Failures;
-use crate::last_call::LastCall;
+use crate::last_call::{LastCall, Outcome};
 use crate::part::Part;
 use crate::system::{Found, System};
 use crate::system_errors::{is_missing, is_new};
@@ -204,6 +204,18 @@ impl<S: System> Folder<S> {
         match self.place(path)? {
             Some(place) => self.system.read(self.alloc, place.as_str()),
             None => Ok(None),
+        }
+    }
+
+    // What the reading of a file came to, if it didn't fail. An object is read only if it was there,
+    // so that somebody took it away.
+    fn outcome_of(&self, read: &io::Result<Option<Vec<u8>>>) -> Outcome {
+        if has_found(read) {
+            return Outcome::Read(true);
+        }
+        match self.part {
+            Part::Objects => Outcome::Failed(io::Error::other("No such file or directory")),
+            Part::Names => Outcome::Read(false),
         }
     }
 
@@ -412,13 +424,13 @@ impl<S: System> Files for Folder<S> {
     fn kind_of(&self, path: &[u8]) -> Result<Place, FileError> {
         let found = self.kind(path);
         let is_there = !matches!(found, Ok(Place::Absent));
-        self.failures.read(path, found, is_there)
+        self.failures.read(path, found, Outcome::Read(is_there))
     }
 
     fn read(&self, path: &[u8], out: &mut Vec<u8>) -> Result<Option<usize>, FileError> {
         let read = self.bytes(path);
-        let is_there = has_found(&read);
-        let Some(bytes) = self.failures.read(path, read, is_there)? else {
+        let outcome = self.outcome_of(&read);
+        let Some(bytes) = self.failures.read(path, read, outcome)? else {
             return Ok(None);
         };
         out.extend_from_slice(&bytes)?;
@@ -428,12 +440,12 @@ impl<S: System> Files for Folder<S> {
     fn read_at(&self, path: &[u8], at: u64, buffer: &mut [u8]) -> Result<Option<usize>, FileError> {
         let read = self.bytes_from(path, at, buffer);
         let is_there = has_found(&read);
-        self.failures.read(path, read, is_there)
+        self.failures.read(path, read, Outcome::Read(is_there))
     }
 
     fn list(&self, alloc: Global, folder: &[u8]) -> Result<Vec<Vec<u8>>, FileError> {
         let names = self.sorted_names(alloc, folder);
-        self.failures.read(folder, names, true)
+        self.failures.read(folder, names, Outcome::Read(true))
     }
 
     fn create_new(&mut self, alloc: Global, path: &[u8], bytes: &[u8]) -> Result<bool, FileError> {

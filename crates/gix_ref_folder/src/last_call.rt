@@ -10,7 +10,7 @@ use std::io;
 pub(crate) enum Outcome {
     /// It is a reading, and whether something was there to be read.
     Read(bool),
-    /// It failed.
+    /// It failed, or met what it mustn't.
     Failed(io::Error),
 }
 

@@ -129,14 +129,14 @@ def by_hand_alone():
     fixed(f"n:kind:{lock} n:last n:create:{lock} n:list:-", f"failed {lock}%3a%20File%20name%20too%20long failed names:kept:refs")
     # A path through links that lead in a circle isn't absent.
     fixed("link:l:l n:kind:l/x n:read:l/x last", "linked failed failed l/x%3a%20Too%20many%20levels%20of%20symbolic%20links")
-    # What explains a fault is the last call of both parts that failed or met something, else the last reading.
+    # What explains a fault is the last call of both parts that failed, met something or read no object, else the last reading.
     there, none, met = (files.word(it) for it in (b": read last, and no call failed", b": No such file or directory", b"refs: File exists"))
     fixed("n:last o:last last n:kind:none last n:read:kept last o:read:objects/a last n:list:refs last "
           "n:create:refs n:read:a/b last n:last forget last n:create:refs n:create:new last",
-          f"none none {there} absent none{none} 1:so%201 kept{there} none:so%20 objects/a{none} names refs{there} "
+          f"none none {there} absent none{none} 1:so%201 kept{there} none:so%20 objects/a{none} names objects/a{none} "
           f"stands none:so%20 {met} none {there} stands done {there}")
     fixed("n:folder:refs n:last n:remove-folder:none n:last o:last o:read:objects/a last",
-          f"failed refs%3a%20File%20exists failed none{none} none none:so%20 none{none}")
+          f"failed refs%3a%20File%20exists failed none{none} none none:so%20 objects/a{none}")
     fixed("o:write:objects/a:1 o:last n:write:objects/a:1 n:last",
           "failed objects/a%3a%20No%20such%20file%20or%20directory failed objects/a%3a%20no%20path%20of%20this%20part")
     fixed(f"n:write:{'w' * 251}:1 n:last", f"failed {'w' * 251}%3a%20no%20name%20for%20its%20lock%20file")
