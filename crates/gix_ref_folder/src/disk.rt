@@ -11,8 +11,8 @@ use std::os::unix::fs::MetadataExt;
 
 /// The calls of the system that a program runs on.
 ///
-/// A link is neither a file nor a folder: nothing is read or written through it, though one at a
-/// folder above the path is followed.
+/// A link is neither a file nor a folder: a look says so, and nothing is written through it. A
+/// reading follows a link to a file, and each call one at a folder above its path.
 ///
 /// That the calls do what [`System`] says of a part of what is below a root, and that nobody else
 /// changes it, is supposed: the runtime's calls promise nothing.
@@ -67,11 +67,6 @@ impl<R: fs::Files + AllocGlobal + Clone + Drop> Disk<R> {
         Ok(Found::Other)
     }
 
-    // The system follows a link that it opens, so what was opened is refused if a link is there.
-    fn is_link(&self, place: &str) -> bool {
-        fs::symlink_metadata(&self.rt, place).is_ok_and(|found| found.is_symlink())
-    }
-
     // Opens a file to read it, and returns the length that it has as it is open; `None` if nothing
     // is there, or a folder.
     fn opened(&self, place: &str) -> io::Result<Option<(R::File, u64)>> {
@@ -83,7 +78,7 @@ impl<R: fs::Files + AllocGlobal + Clone + Drop> Disk<R> {
         if found.is_dir() {
             return Ok(None);
         }
-        if !found.is_file() || self.is_link(place) {
+        if !found.is_file() {
             return Err(io::Error::other("neither a file nor a folder"));
         }
         Ok(Some((file, found.len())))
@@ -111,6 +106,11 @@ impl<R: fs::Files + AllocGlobal + Clone + Drop> Disk<R> {
         }
         file.read_exact(&mut buffer[..count])?;
         Ok(Some(count))
+    }
+
+    // The system follows a link that it opens, so what was listed is refused if a link is there.
+    fn is_link(&self, place: &str) -> bool {
+        fs::symlink_metadata(&self.rt, place).is_ok_and(|found| found.is_symlink())
     }
 
     fn names_in(&self, alloc: Global, place: &str) -> io::Result<Vec<Vec<u8>>> {

@@ -156,13 +156,16 @@ impl<S: System> Folder<S> {
         }
     }
 
-    // Whether the system takes the paths below the root, and this one if it is a lock's.
+    // Whether the system takes the paths below the root, and this one if it is a lock's: a name's
+    // log is to have one too, if it is cut.
     fn has_room(&self, path: &[u8]) -> bool {
         let root = self.root.len();
         if root > LONGEST_ROOT {
             return false;
         }
-        !path.ends_with(b".lock") || (path.len() < LONGEST_PATH - root && has_short_names(path))
+        let above = if path.starts_with(b"logs/") { 0 } else { 5 };
+        !path.ends_with(b".lock")
+            || (path.len() < LONGEST_PATH - root - above && has_short_names(path))
     }
 
     // Returns whether the last change made or wrote the file at this path of the system's.

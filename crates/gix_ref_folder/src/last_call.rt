@@ -53,9 +53,11 @@ impl LastCall {
         }
     }
 
-    // Keeps what came of a call, unless it hides one that failed.
+    // Keeps what came of a call, unless it hides one that failed. A look at a lock explains nothing:
+    // it is to be given back.
     pub(crate) fn keep(&self, path: &[u8], outcome: Outcome) {
-        if matches!(outcome, Outcome::Failed(_)) || !self.has_failed() {
+        let has_failed = matches!(outcome, Outcome::Failed(_));
+        if has_failed || !(self.has_failed() || path.ends_with(b".lock")) {
             self.set(path, outcome);
         }
     }

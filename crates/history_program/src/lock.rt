@@ -4,12 +4,16 @@ use history_actions::command_line::{Action, Asked};
 use std::fs::{self, File, TryLockError};
 use std::io::{self, ErrorKind};
 
+// The most bytes of a folder's path: below it the system takes the path of each object, and of all
+// that a name of at most 250 bytes has.
+const LONGEST_FOLDER: usize = 3800;
+
 /// Why a folder isn't acted on.
 #[derive(Drop)]
 pub enum Refusal {
     /// Another process is working there.
     Busy,
-    /// It doesn't exist, can't be opened, or can't be locked.
+    /// It doesn't exist, has too long a path, can't be opened, or can't be locked.
     File(io::Error),
 }
 
@@ -17,8 +21,8 @@ pub enum Refusal {
 /// `check` shares it with every other `check`, and any other action has it alone. It makes no file.
 /// `create` first makes the folder if it doesn't exist, but not its parents.
 ///
-/// Returns `Busy` if another process has the lock, and `File` if the folder can't be made, opened
-/// or locked.
+/// Returns `Busy` if another process has the lock, and `File` if the folder's path is too long, or
+/// it can't be made, opened or locked.
 pub fn lock_folder(rt: &HostRuntime, asked: &Asked) -> Result<File, Refusal> {
     let held = match folder_of(rt, asked) {
         Ok(held) => held,
@@ -38,6 +42,9 @@ pub fn lock_folder(rt: &HostRuntime, asked: &Asked) -> Result<File, Refusal> {
 // Returns the folder, opened.
 fn folder_of(rt: &HostRuntime, asked: &Asked) -> io::Result<File> {
     let folder = asked.folder.as_str();
+    if folder.len() > LONGEST_FOLDER {
+        return Err(io::Error::new(ErrorKind::InvalidFilename, "File name too long"));
+    }
     if asked.action == Action::Create {
         make_folder(rt, folder)?;
     }

@@ -5,7 +5,7 @@ use Rattle.std.specs.Bool.{Decides}
 use Rattle.std.proofs.lemmas.List.{append_cancel_left}
 use Rattle.std.specs.FinMap.{get, insert, remove}
 use Rattle.gix_ref_file.specs.Tree.{Tree, file, node_at, bytes_of, bytes_at}
-use Rattle.gix_ref_file.specs.Changes.{to_write, to_append, to_rename, allows, after, may_hold_file, is_file_at, MayLeave}
+use Rattle.gix_ref_file.specs.Changes.{to_write, to_rename, allows, after, may_hold_file, is_file_at, MayLeave}
 use Rattle.gix_ref_file.specs.History.{History, Adds}
 use Rattle.gix_ref_file.proofs.Histories.{adds_both, adds_joined, adds_weaker}
 use Rattle.gix_ref_file.proofs.Trees.{get-removed, get_inserted, same_path_itself}
@@ -16,7 +16,7 @@ use Rattle.history_texts.specs.ObjectTexts.{is_reserved}
 use Rattle.gix_ref_way.specs.Ways.{ChangesOneFile, FoldersAbove, KeepsFolders, SameFiles}
 use Rattle.history_store.specs.Stores.{KeepsFiles, HoldsFile, MayHold, MayStand, IsTaken, place_of, text_of}
 use Rattle.history_texts.specs.declared.object.NewObject.{NewObject}
-use Rattle.gix_ref_way.proofs.OneFile.{insert-insert, one_files, one_now}
+use Rattle.gix_ref_way.proofs.OneFile.{one_files, one_now}
 use Rattle.gix_ref_way.proofs.Stored.{apart_from_inserted, apart_from_removed, now_same}
 
 -- ---- one after another
@@ -56,15 +56,9 @@ while_renamed place text t x is (inr (n, may, made)) = inr (subst (HoldsFile pla
 pub after_rename : (place text : Bytes) (t x : Tree) → bytes_at t unfinished_place ≡ text → IsTrue (allows t (to_rename unfinished_place place)) → x ≡ after (to_rename unfinished_place place) t → HoldsFile place text t x
 after_rename place text t x is may made = subst (HoldsFile place text t) (sym made) (renamed place text t (from_and_2 _ _ may) is)
 
--- what is written, and what then is appended
+-- what is written is there
 file_inserted : (t : Tree) (bytes : Bytes) → bytes_at (insert t unfinished_place (file bytes)) unfinished_place ≡ bytes
 file_inserted t bytes = ap (λ node. unwrap_or (bytes_of node) []) (get_inserted t unfinished_place (file bytes))
-
-pub both_written : (header content : Bytes) (t u v : Tree) → u ≡ after (to_write unfinished_place header) t → v ≡ after (to_append unfinished_place content) u → v ≡ after (to_write unfinished_place (header ++ content)) t
-both_written header content t u v is_u is_v =
-    is_v ∙ ap (λ y. insert y unfinished_place (file (bytes_at y unfinished_place ++ content))) is_u
-    ∙ ap (λ bytes. insert (insert t unfinished_place (file header)) unfinished_place (file (bytes ++ content))) (file_inserted t header)
-    ∙ insert-insert t unfinished_place (file header) (file (header ++ content))
 
 -- ---- histories
 -- the histories of a put: folders are made, the text written, the file renamed

@@ -99,9 +99,9 @@ def by_hand_alone():
                     ("n", "write", path, b"1"), ("n", "append", path, b"1"), ("n", "rename", b"HEAD", path), ("n", "rename", path, b"a"),
                     ("n", "remove", path), ("n", "folder", path), ("n", "remove-folder", path), ("n", "list", b"")],
             ["absent", "none:so%20", "none:......", "names"] + ["failed"] * 8 + ["names:HEAD:refs"])
-    # A link is never read, written through or listed; it may be replaced and removed.
+    # A link is read as the file that it leads to, and never looked at, written through or listed; it may be replaced and removed.
     link = "link:refs/l:../kept"
-    fixed(f"{link} n:kind:refs/l n:read:refs/l n:read-at:refs/l:0 n:list:refs", "linked failed failed failed names:l")
+    fixed(f"{link} n:kind:refs/l n:read:refs/l n:read-at:refs/l:0 n:list:refs", "linked failed 1:so%201 1:1..... names:l")
     fixed(f"{link} n:create:refs/l n:write:refs/l:2 n:append:refs/l:3 n:read:kept n:last", "linked stands failed failed 1:so%201 refs/l%3a%20not%20a%20file")
     fixed("link:refs/l:../gone n:create:refs/l n:write:refs/l:2 n:append:refs/l:3 n:kind:gone", "linked stands failed failed absent")
     fixed("link:refs/l:.. n:list:refs/l n:folder:refs/l n:remove-folder:refs/l n:list:-", "linked failed failed failed names:kept:refs")
@@ -135,6 +135,9 @@ def by_hand_alone():
           "n:create:refs n:read:a/b last n:last forget last n:create:refs n:create:new last",
           f"none none {there} absent none{none} 1:so%201 kept{there} none:so%20 objects/a{none} names objects/a{none} "
           f"stands none:so%20 {met} none {there} stands done {there}")
+    # A look at a lock explains nothing, unless it fails.
+    fixed("n:read:none n:kind:a.lock n:read:kept.lock last n:read:kept n:create:a.lock n:kind:a.lock last",
+          f"none:so%20 absent none:so%20 none{none} 1:so%201 done file:0 kept{there}")
     fixed("n:folder:refs n:last n:remove-folder:none n:last o:last o:read:objects/a last",
           f"failed refs%3a%20File%20exists failed none{none} none none:so%20 objects/a{none}")
     fixed("o:write:objects/a:1 o:last n:write:objects/a:1 n:last",
