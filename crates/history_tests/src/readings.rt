@@ -365,8 +365,7 @@ fn calls_of_storing(
     Some(repository.objects.files().calls().saturating_sub(before))
 }
 
-// Once all is stored, storing it again compares each object with its file: the folder and the file
-// are looked up, and it is read.
+// Once all is stored, storing it again compares each object with its file: it is looked up and read.
 #[test]
 fn a_commit_compares_each_object_once(rt: HostRuntime) {
     let alloc = rt.alloc();
@@ -379,7 +378,7 @@ fn a_commit_compares_each_object_once(rt: HostRuntime) {
             assert!(rt; calls_of_storing(&mut repository, alloc, first).is_some());
             let again = first_command(&rt, alloc, input);
             let met = calls_of_storing(&mut repository, alloc, again);
-            let wanted = read.saturating_add(compared.saturating_mul(3));
+            let wanted = read.saturating_add(compared.saturating_mul(2));
             assert!(rt; met == Some(wanted), "{met:?} for {wanted}");
         }
     }

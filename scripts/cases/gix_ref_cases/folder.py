@@ -126,7 +126,7 @@ def by_hand_alone():
     deep = "/".join(["w" * 200] * 20) + "/"
     fixed(f"n:kind:{deep}{'x' * 40}.lock n:kind:{deep}{'x' * 67} n:last", "absent absent none")
     lock = f"{deep}{'x' * 67}.lock"
-    fixed(f"n:kind:{lock} n:last n:create:{lock} n:list:-", f"failed {lock}%3a%20File%20name%20too%20long failed names:kept:refs")
+    fixed(f"n:kind:{lock} last n:create:{lock} n:list:-", f"failed {lock}%3a%20File%20name%20too%20long failed names:kept:refs")
     # A path through links that lead in a circle isn't absent.
     fixed("link:l:l n:kind:l/x n:read:l/x last", "linked failed failed l/x%3a%20Too%20many%20levels%20of%20symbolic%20links")
     # What explains a fault is the last call of both parts that failed, met something or read no object, else the last reading.
