@@ -1,5 +1,6 @@
 """`Repo` over the engine: each command, batches, ends of the engine, and what is made on the client's side."""
 import gc
+import itertools
 import os
 import random
 import signal
@@ -10,6 +11,7 @@ import time
 import tracemalloc
 import unittest
 from typing import Any, Dict, List
+from unittest import mock
 
 import wunthavel
 from wunthavel import NEW, Change, Command, File, protocol
@@ -322,16 +324,16 @@ class Ends(WithRepo):
         self.chain(1)
         self.repo.close()
         code = (
-            "import os, signal, sys, threading, wunthavel\n"
+            "import os, signal, sys, threading, time, wunthavel\n"
             "from wunthavel import protocol\n"
             # A shell's background jobs begin with the signal ignored.
             "signal.signal(signal.SIGINT, signal.default_int_handler)\n"
             f"repo = wunthavel.Repo({self.store!r})\n"
-            "threading.Timer(0.3, os.kill, (os.getpid(), signal.SIGINT)).start()\n"
-            "count = 0\n"
+            "until = time.monotonic() + 20\n"
             "try:\n"
-            "    while True:\n"
-            "        count += repo.show().title == 'Page 0'\n"
+            "    threading.Timer(0.3, os.kill, (os.getpid(), signal.SIGINT)).start()\n"
+            "    while time.monotonic() < until:\n"
+            "        assert repo.show().title == 'Page 0'\n"
             "except KeyboardInterrupt:\n"
             "    pass\n"
             "if repo.closed:\n"
@@ -339,8 +341,67 @@ class Ends(WithRepo):
             "print(repo.show().title)\n"
             "repo.close()\n"
         )
-        done = subprocess.run([sys.executable, "-c", code], stdout=subprocess.PIPE, timeout=60, check=True)
+        done = subprocess.run([sys.executable, "-c", code], stdout=subprocess.PIPE, timeout=300, check=True)
         self.assertEqual(done.stdout, b"Page 0\n")
+
+    def is_in_step(self, ids: List[str]) -> None:
+        """Each commit is shown, or the engine is known to have ended."""
+        for id in ids:
+            try:
+                self.assertEqual(self.repo.show(id).id, id)
+            except wunthavel.EngineDied as died:
+                self.assertNotIn("answer", str(died))
+                self.assertTrue(self.repo.closed)
+                self.repo.reopen()
+            self.repo._engine.timeout = 60
+
+    def test_an_interruption_where_bytes_are_read_and_not_kept(self) -> None:
+        ids = self.chain(3)
+        self.repo._engine.timeout = 60
+        read = os.read
+
+        def interrupted(file: int, most: int) -> bytes:
+            if read(file, most):
+                raise KeyboardInterrupt
+            return b""
+
+        sent = self.repo.send(protocol.show(ids[0]))
+        with mock.patch("os.read", interrupted), self.assertRaises(KeyboardInterrupt):
+            sent.result()
+        with self.assertRaises(wunthavel.EngineDied) as met:
+            sent.result()
+        self.assertIn("interrupted", str(met.exception))
+        self.is_in_step(ids)
+
+    def test_an_interruption_at_any_line(self) -> None:
+        ids = self.chain(3)
+        place, interrupted = 0, True
+        while interrupted:
+            place, interrupted = place + 1, False
+            self.is_in_step(ids)
+            left = itertools.count(1)
+
+            def trace(frame: Any, event: str, _: Any) -> Any:
+                if event == "line" and next(left) == place:
+                    raise KeyboardInterrupt
+                return trace if frame.f_code.co_filename.endswith("engine.py") else None
+
+            sys.settrace(trace)
+            try:
+                self.repo.show(ids[0])
+            except KeyboardInterrupt:
+                interrupted = True
+            finally:
+                sys.settrace(None)
+        self.assertGreater(place, 50)
+
+    def test_an_interruption_of_the_end_is_gone_on_with(self) -> None:
+        ids = self.chain(3)
+        for part in ("_kill", "_ended"):
+            with mock.patch.object(self.repo._engine, part, side_effect=KeyboardInterrupt), self.assertRaises(KeyboardInterrupt):
+                self.repo.kill()
+            self.assertTrue(self.repo.closed)
+            self.is_in_step(ids)
 
     def test_closing_with_replies_that_came_and_werent_looked_at(self) -> None:
         self.chain(1)

@@ -27,6 +27,7 @@ PIPE = 1 << 20
 TOGETHER = 64
 # What recover mends, if a folder is refused for it.
 STOPPED = ("Unfinished", "LogWithoutName", "BadLog")
+INTERRUPTED = "the engine was interrupted"
 
 
 class EngineError(HistoryError):
@@ -181,6 +182,9 @@ class Pending(Generic[T]):
 class Engine:
     """A running engine. Its methods may be called by several threads, which take turns."""
 
+    # What the end of its output means.
+    ENDED = "the engine ended"
+
     def __init__(self, words: Sequence[str], timeout: Optional[float] = None) -> None:
         self.words, self.timeout = list(words), timeout
         self._lock = threading.RLock()
@@ -204,8 +208,11 @@ class Engine:
         assert self._process.stdin and self._process.stdout
         self._in, self._out = self._process.stdin.fileno(), self._process.stdout.fileno()
         self._can_write = True
-        self._poll = select.poll()
-        self._poll.register(self._out, select.POLLIN)
+        # What is waited for, if something waits to be written and if not.
+        self._both, self._replies = select.poll(), select.poll()
+        self._both.register(self._in, select.POLLOUT)
+        for poll in (self._both, self._replies):
+            poll.register(self._out, select.POLLIN)
         for it in (self._in, self._out):
             os.set_blocking(it, False)
             with contextlib.suppress(OSError, AttributeError):
@@ -234,22 +241,21 @@ class Engine:
     def send(self, command: Command[T], at_once: bool = True) -> Pending[T]:
         """Sends a command, and returns at once unless much waits to be written; then it reads replies meanwhile. One that needn't go at once is
         written with others, at the latest when a reply is waited for."""
-        with self._lock:
+        pending = Pending(self, command)
+        with self._lock, self._in_step():
             if self._over is not None:
                 raise EngineDied(f"the engine is closed or has ended ({self._over})", self._over.status, command=command)
-            pending = Pending(self, command)
-            with self._in_step():
-                self._busy = True
-                self._pending.append(pending)
-                self._unsent.append(memoryview(command.data))
-                self._unsent_bytes += len(command.data)
-                self._busy = False
-                if at_once or len(self._unsent) >= TOGETHER or self._unsent_bytes >= PIPE // 64:
-                    self._write()
-                while self._unsent_bytes > UNSENT and self._over is None:
-                    self._transfer()
-                    self._take_replies()
-            return pending
+            self._busy = True
+            self._pending.append(pending)
+            self._unsent.append(memoryview(command.data))
+            self._unsent_bytes += len(command.data)
+            self._busy = False
+            if at_once or len(self._unsent) >= TOGETHER or self._unsent_bytes >= PIPE // 64:
+                self._write()
+            while self._unsent_bytes > UNSENT and self._over is None:
+                self._transfer()
+                self._take_replies()
+        return pending
 
     def wait(self, pending: Pending[Any]) -> None:
         """Waits until the reply is there or the engine has ended."""
@@ -264,6 +270,9 @@ class Engine:
     @contextlib.contextmanager
     def _in_step(self) -> Any:
         """Ends the engine if a reply can't be read, or reading one is interrupted, since what comes then belongs to nothing."""
+        if self._busy:
+            # That was interrupted too.
+            self._end(INTERRUPTED, kill=True)
         try:
             yield
         except (ProtocolError, ValueError, IndexError) as error:
@@ -272,7 +281,7 @@ class Engine:
         except BaseException:
             # What a signal's handler raises, and most of all a keyboard's interruption.
             if self._busy:
-                self._end("the engine was interrupted", kill=True)
+                self._end(INTERRUPTED, kill=True)
             raise
 
     def _write(self) -> None:
@@ -283,7 +292,7 @@ class Engine:
                 count = os.writev(self._in, list(itertools.islice(self._unsent, TOGETHER)))
             except BlockingIOError:
                 break
-            except BrokenPipeError:
+            except ConnectionError:
                 # What it replied before it ended is still read.
                 self._can_write = False
                 self._unsent.clear()
@@ -298,14 +307,8 @@ class Engine:
 
     def _transfer(self) -> None:
         """Waits until something can be written or read, and does that."""
-        writing = bool(self._unsent) and self._can_write
-        if writing:
-            self._poll.register(self._in, select.POLLOUT)
-        try:
-            ready = self._poll.poll(None if self.timeout is None else self.timeout * 1000)
-        finally:
-            if writing:
-                self._poll.unregister(self._in)
+        poll = self._both if self._unsent and self._can_write else self._replies
+        ready = poll.poll(None if self.timeout is None else self.timeout * 1000)
         if not ready:
             self._end(f"the engine didn't answer for {self.timeout} seconds", kill=True)
             return
@@ -316,16 +319,21 @@ class Engine:
                 self._receive()
 
     def _receive(self) -> None:
+        """Reads what came. Read bytes that aren't kept would be lost."""
         need = self._pending[0]._need if self._pending else None
+        self._busy = True
         try:
             data = os.read(self._out, PIPE if need and need > PIPE // 256 else PIPE // 16)
         except BlockingIOError:
+            self._busy = False
             return
-        if data:
-            self._read += data
-        else:
+        except ConnectionError:
+            data = b""
+        self._read += data
+        self._busy = False
+        if not data:
             self._take_replies()
-            self._end("the engine ended")
+            self._end(self.ENDED)
 
     def _take_replies(self, until: Optional[Pending[Any]] = None) -> None:
         """Gives what was read to the commands that wait for it, in their order, up to this one."""
@@ -373,25 +381,27 @@ class Engine:
         self._searched = self._at
 
     def _end(self, why: str, kill: bool = False) -> None:
-        """Ends the process, and fails all commands that wait."""
+        """Ends the process, and fails all commands that wait. If this is interrupted, the next call goes on with it."""
         if self._over is not None:
             return
+        self._busy, self._can_write = True, False
         if kill:
             self._kill()
         status = self._ended()
         self._said.seek(0)
         said = text(self._said.read(1 << 16)).strip()
-        self._said.close()
         if status < 0:
             with contextlib.suppress(ValueError):
                 why += f", by signal {signal.Signals(-status).name}"
-        self._over = EngineDied(why, status, said)
         while self._pending:
             it = self._pending.popleft()
             it._fail(EngineDied(why, status, said, it.command))
         self._unsent.clear()
         self._unsent_bytes = 0
-        self._read.clear()
+        self._read = bytearray()
+        self._over = EngineDied(why, status, said)
+        self._busy = False
+        self._said.close()
 
     def _ended(self) -> int:
         """Waits for the end of a process whose standard output is closed; one that then lives on is killed."""
@@ -399,11 +409,11 @@ class Engine:
             if it:
                 with contextlib.suppress(OSError):
                     it.close()
-        try:
-            return self._process.wait(30)
-        except subprocess.TimeoutExpired:
+        for _ in range(2):
+            with contextlib.suppress(subprocess.TimeoutExpired):
+                return self._process.wait(30)
             self._kill()
-            return self._process.wait()
+        return -signal.SIGKILL
 
     def _kill(self) -> None:
         with contextlib.suppress(OSError):

@@ -6,7 +6,6 @@
 ...     repo.read("README")
 b'Hello.'
 """
-import contextlib
 import difflib
 import os
 import time
@@ -181,9 +180,15 @@ class Repo:
 
     def _start(self) -> Engine:
         engine = Engine(command_line("run", self.folder, self.sha256, self._program), self._timeout)
-        with contextlib.suppress(EngineDied):
+        try:
             # A question with a short answer: the engine replies once it has opened the folder.
             engine.wait(engine.send(protocol.names("refs/wunthavel/none")))
+        except EngineDied:
+            pass
+        except BaseException:
+            # Who is interrupted holds this frame, and would keep the folder from who opens it again.
+            engine.kill()
+            raise
         if engine.over is None:
             return engine
         raise _refusal(engine.over.said, engine.over.status, self.folder, self.sha256, self._program)

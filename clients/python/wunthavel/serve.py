@@ -638,6 +638,8 @@ class _Socket:
 class Connection(Engine):
     """A server's engine, to which commands are sent over a socket. `EngineDied` says that the server closed the connection."""
 
+    ENDED = "the server closed the connection"
+
     def __init__(self, address: Address, timeout: Optional[float] = None) -> None:
         sock = _connect(address)
         self.words, self.timeout = [str(address)], timeout
@@ -656,14 +658,6 @@ class Connection(Engine):
         sock.setblocking(False)
         self._poll = select.poll()
 
-    def _write(self) -> None:
-        try:
-            super()._write()
-        except ConnectionError:
-            self._can_write = self._busy = False
-            self._unsent.clear()
-            self._unsent_bytes = 0
-
     def _transfer(self) -> None:
         """Waits until something can be written or read, and does that."""
         writes = bool(self._unsent) and self._can_write
@@ -677,19 +671,6 @@ class Connection(Engine):
             self._write()
         if events & ~select.POLLOUT and self._over is None:
             self._receive()
-
-    def _receive(self) -> None:
-        try:
-            data = os.read(self._out, PIPE)
-        except BlockingIOError:
-            return
-        except ConnectionError:
-            data = b""
-        if data:
-            self._read += data
-        else:
-            self._take_replies()
-            self._end("the server closed the connection")
 
 
 def _connect(address: Address) -> socket.socket:
@@ -721,7 +702,7 @@ class ServedRepo(Repo):
         connection = Connection(self._address, self._timeout)
         try:
             connection.send(protocol.names("refs/wunthavel/none")).result()
-        except HistoryError:
+        except BaseException:
             connection.kill()
             raise
         return connection
