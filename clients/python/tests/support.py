@@ -1,15 +1,19 @@
-"""What the tests share: a repository in a temporary folder, and engines that misbehave."""
+"""What the tests share: a repository in a temporary folder, engines that misbehave, and waiting for other processes."""
+import contextlib
 import os
 import shutil
 import stat
 import sys
 import tempfile
+import time
 import unittest
-from typing import Any, List
+from typing import Any, Callable, Iterable, List, Optional
 
 import wunthavel
 
 ADA = wunthavel.Actor("Ada Lovelace", "ada@example.org", 1700000000, "+0100")
+# How many seconds anything may take, on a slow machine that has much else to do.
+PATIENCE = 300.0
 # Reads the line of the question that opens a repository, answers it, and goes on with what a test says.
 FAKE = """#!{python}
 import os, sys, time
@@ -18,6 +22,36 @@ sys.stdin.buffer.readline()
 os.write(1, b"ok names 0 refs/heads/main\\n")
 {body}
 """
+
+
+def wait_until(what: Callable[[], object]) -> None:
+    """Waits until this holds."""
+    end = time.monotonic() + PATIENCE
+    while not what():
+        if time.monotonic() > end:
+            raise AssertionError("it was waited for in vain")
+        time.sleep(0.01)
+
+
+def running(words: bytes, among: Optional[Iterable[str]] = None) -> List[int]:
+    """Returns the processes, of these or of all, whose command lines have this in them; one that has ended has none."""
+    found = []
+    for pid in filter(str.isdigit, os.listdir("/proc")) if among is None else among:
+        with contextlib.suppress(OSError), open(f"/proc/{pid}/cmdline", "rb") as it:
+            if words in it.read():
+                found.append(int(pid))
+    return found
+
+
+def all_shown(terminal: int) -> bytes:
+    """Returns all that was written to a terminal until its last process ended."""
+    shown = b""
+    # Its end is an error.
+    with contextlib.suppress(OSError):
+        while True:
+            shown += os.read(terminal, 4096)
+    os.close(terminal)
+    return shown
 
 
 class WithRepo(unittest.TestCase):

@@ -17,6 +17,7 @@ import wunthavel
 from wunthavel import cli, protocol, worktree
 from wunthavel.protocol import File
 from wunthavel.worktree import WorkError, WorkTree, refuse_path
+from tests.support import PATIENCE, all_shown
 
 PACKAGE = os.path.dirname(os.path.dirname(os.path.abspath(__file__)))
 
@@ -290,7 +291,7 @@ class Commands(AtATerminal):
 class Processes(AtATerminal):
     def run_words(self, *words: str, **options: Any) -> "subprocess.CompletedProcess[bytes]":
         env = {**os.environ, "PYTHONPATH": PACKAGE}
-        return subprocess.run([sys.executable, "-m", "wunthavel", *words], stdout=subprocess.PIPE, stderr=subprocess.PIPE, env=env, timeout=60, **options)
+        return subprocess.run([sys.executable, "-m", "wunthavel", *words], stdout=subprocess.PIPE, stderr=subprocess.PIPE, env=env, timeout=PATIENCE, **options)
 
     def test_as_a_program(self) -> None:
         self.assertEqual(self.run_words("init", "there").returncode, 0)
@@ -314,7 +315,7 @@ class Processes(AtATerminal):
     def test_a_reader_that_leaves(self) -> None:
         self.begin()
         code = f"{sys.executable} -m wunthavel log | true; exit ${{PIPESTATUS[0]}}"
-        done = subprocess.run(["bash", "-c", code], env={**os.environ, "PYTHONPATH": PACKAGE}, stderr=subprocess.PIPE, timeout=60)
+        done = subprocess.run(["bash", "-c", code], env={**os.environ, "PYTHONPATH": PACKAGE}, stderr=subprocess.PIPE, timeout=PATIENCE)
         self.assertNotIn(b"Traceback", done.stderr)
 
     def test_colours_at_a_terminal_alone(self) -> None:
@@ -326,18 +327,16 @@ class Processes(AtATerminal):
         master, slave = pty.openpty()
         process = subprocess.Popen([sys.executable, "-m", "wunthavel", "log"], stdout=slave, stderr=slave, env=env)
         os.close(slave)
-        process.wait(60)
-        self.assertIn(b"\x1b[33m", os.read(master, 4096))
-        os.close(master)
+        self.assertIn(b"\x1b[33m", all_shown(master))
+        self.assertEqual(process.wait(PATIENCE), 0)
 
     def test_the_progress_bar(self) -> None:
         master, slave = pty.openpty()
         code = "import time; from wunthavel.progress import Progress\nwith Progress('objects', 8) as bar:\n    for _ in range(8): time.sleep(0.1); bar.step()"
         process = subprocess.Popen([sys.executable, "-c", code], stderr=slave, env={**os.environ, "PYTHONPATH": PACKAGE})
         os.close(slave)
-        process.wait(60)
-        shown = os.read(master, 4096)
-        os.close(master)
+        shown = all_shown(master)
+        self.assertEqual(process.wait(PATIENCE), 0)
         self.assertIn(b"objects [", shown)
         self.assertTrue(shown.endswith(b"\r\x1b[K"))
 

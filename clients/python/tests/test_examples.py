@@ -9,7 +9,7 @@ import threading
 from typing import Any, List
 
 import wunthavel
-from tests.support import ADA, WithRepo
+from tests.support import ADA, PATIENCE, WithRepo
 
 PACKAGE = os.path.dirname(os.path.dirname(os.path.abspath(__file__)))
 
@@ -32,7 +32,7 @@ class Programs(WithRepo):
         """Returns the lines that an example prints."""
         path = os.path.join(PACKAGE, "examples", f"{name}.py")
         env = {**os.environ, "PYTHONPATH": PACKAGE}
-        done = subprocess.run([sys.executable, path, self.folder, *words], input=given.encode(), stdout=subprocess.PIPE, env=env, timeout=60, check=True)
+        done = subprocess.run([sys.executable, path, self.folder, *words], input=given.encode(), stdout=subprocess.PIPE, env=env, timeout=PATIENCE, check=True)
         return done.stdout.decode().splitlines()
 
     def test_wiki(self) -> None:
@@ -112,5 +112,5 @@ class Readme(WithRepo):
     def test_shell(self) -> None:
         env = {**os.environ, "PYTHONPATH": PACKAGE, "WUNTHAVEL_AUTHOR": "Ada <ada@example.org>"}
         code = f"set -e\nwunthavel() {{ {sys.executable} -m wunthavel \"$@\"; }}\nmkdir notes\necho Hello > notes/page\n" + "\n".join(self.blocks("sh"))
-        done = subprocess.run(["bash", "-c", code], env=env, stdout=subprocess.PIPE, stderr=subprocess.STDOUT, timeout=120)
+        done = subprocess.run(["bash", "-c", code], env=env, stdout=subprocess.PIPE, stderr=subprocess.STDOUT, timeout=PATIENCE)
         self.assertEqual(done.returncode, 0, done.stdout.decode())

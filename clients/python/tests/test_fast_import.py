@@ -247,7 +247,7 @@ class Streams(Case):
                 time.sleep(0.001)
             process.kill()
             process.wait()
-            self.wait_for_engines()
+            self.wait_for_others()
         done = subprocess.run(call, env=env, stdout=subprocess.PIPE, stderr=subprocess.PIPE)
         self.assertEqual(done.returncode, 0, done.stdout)
         said = json.loads(done.stdout)
@@ -258,17 +258,6 @@ class Streams(Case):
         with contextlib.suppress(OSError):
             return len(os.listdir(os.path.join(self.store, "objects")))
         return 0
-
-    def wait_for_engines(self) -> None:
-        """An engine whose client was killed does what it was sent and ends."""
-        end = time.monotonic() + 20
-        while time.monotonic() < end and any(self.store.encode() in self.line_of(it) for it in os.listdir("/proc") if it.isdigit()):
-            time.sleep(0.01)
-
-    def line_of(self, pid: str) -> bytes:
-        with contextlib.suppress(OSError), open(f"/proc/{pid}/cmdline", "rb") as it:
-            return it.read()
-        return b""
 
     def test_heads(self) -> None:
         self.init()

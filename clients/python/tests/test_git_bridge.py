@@ -19,6 +19,7 @@ sys.path.insert(0, os.path.dirname(os.path.dirname(os.path.abspath(__file__))))
 from wunthavel import bridge_folder, bridge_git, git_export, git_import
 from wunthavel.bridge_forms import Patterns, is_full_name
 from wunthavel.engine import EngineError, act, find_engine
+from tests.support import running, wait_until
 
 PACKAGE = os.path.dirname(os.path.dirname(os.path.abspath(__file__)))
 WHO = {"NAME": "Ada Lovelace", "EMAIL": "ada@example.org", "DATE": "1700000000 +0100"}
@@ -98,6 +99,10 @@ class Case(unittest.TestCase):
         self.addCleanup(room.cleanup)
         self.room = room.name
         self.source, self.store, self.dest = (os.path.join(self.room, it) for it in ("source", "store", "dest.git"))
+
+    def wait_for_others(self) -> None:
+        """What a killed process started may still work: an engine does what it was sent, and git holds its locks."""
+        wait_until(lambda: not running(os.fsencode(self.room)))
 
     def init(self, *flags: str) -> str:
         os.makedirs(self.source)
@@ -343,6 +348,7 @@ class Increments(Case):
             time.sleep(whole * (0.4 + 1.2 * chance.random()))
             process.send_signal(signal.SIGKILL)
             process.communicate()
+            self.wait_for_others()
             look()
         done = subprocess.run(call, env=env, stderr=subprocess.PIPE)
         self.assertEqual(done.returncode, 0, done.stderr)

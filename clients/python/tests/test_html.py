@@ -14,7 +14,7 @@ from unittest import mock
 import wunthavel
 from wunthavel import cli, html
 from tests import histories
-from tests.support import ADA, WithRepo
+from tests.support import ADA, PATIENCE, WithRepo
 
 BROWSER = next(filter(None, map(shutil.which, ("chromium", "chromium-browser", "google-chrome", "chrome"))), None)
 
@@ -151,7 +151,7 @@ class InABrowser(unittest.TestCase):
         """Returns the document as the browser has it after the scripts."""
         profile = tempfile.mkdtemp(dir=cls.room)
         words = [str(BROWSER), "--headless", "--no-sandbox", "--disable-gpu", "--window-size=1400,900", "--virtual-time-budget=4000", "--dump-dom"]
-        done = subprocess.run([*words, f"--user-data-dir={profile}", address], stdout=subprocess.PIPE, stderr=subprocess.DEVNULL, timeout=120)
+        done = subprocess.run([*words, f"--user-data-dir={profile}", address], stdout=subprocess.PIPE, stderr=subprocess.DEVNULL, timeout=PATIENCE)
         return None if done.returncode else done.stdout.decode()
 
     def page(self, place: str = "") -> str:

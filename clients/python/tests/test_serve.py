@@ -24,6 +24,7 @@ from wunthavel.engine import EngineDied, EngineError, act, find_engine
 from wunthavel.protocol import HistoryError, Refused
 from wunthavel.serve import ServeError, connect, tcp_address
 from wunthavel.serve_wire import LONGEST_LINE, BadCommand, Parts, command, reply
+from tests.support import PATIENCE, running, wait_until
 
 PACKAGE = os.path.dirname(os.path.dirname(os.path.abspath(__file__)))
 LOAD = int(os.environ.get("WUNTHAVEL_LOAD", "10000"))
@@ -102,20 +103,28 @@ class Served(unittest.TestCase):
         with process:
             assert process.stdout
             lines = process.stdout.read().splitlines()
-            status = process.wait(30)
+            status = process.wait(PATIENCE)
         if not kill:
             self.assertEqual(status, 0, lines)
         return json.loads(lines[-1]) if lines else {}
 
-    def engine_pid(self) -> int:
-        """Returns the process id of the server's engine."""
+    def engines(self) -> List[int]:
+        """Returns the process id of the server's engine, if one runs."""
         assert self.process
         with open(f"/proc/{self.process.pid}/task/{self.process.pid}/children", encoding="ascii") as it:
-            return int((it.read().split() or ["0"])[0])
+            return running(b"\0run\0", it.read().split())
+
+    def kill_engine(self) -> None:
+        """Kills the server's engine once one runs, and waits for its end."""
+        wait_until(self.engines)
+        for pid in self.engines():
+            with contextlib.suppress(ProcessLookupError):
+                os.kill(pid, signal.SIGKILL)
+            wait_until(lambda: not running(b"\0run\0", [str(pid)]))
 
     def raw(self, address: Any = None) -> socket.socket:
         sock = socket.socket(socket.AF_UNIX) if address is None else socket.socket()
-        sock.settimeout(20)
+        sock.settimeout(PATIENCE)
         sock.connect(address or self.address)
         self.addCleanup(sock.close)
         return sock
@@ -123,8 +132,10 @@ class Served(unittest.TestCase):
     def ask(self, text: bytes) -> bytes:
         """Returns all that is replied to this until the server closes the connection."""
         sock = self.raw()
-        sock.sendall(text)
-        sock.shutdown(socket.SHUT_WR)
+        # It may be closed before that is sent.
+        with contextlib.suppress(OSError):
+            sock.sendall(text)
+            sock.shutdown(socket.SHUT_WR)
         return self.rest(sock)
 
     def rest(self, sock: socket.socket) -> bytes:
@@ -250,14 +261,12 @@ class WithTheEngine(Served):
                 self.stop(kill=True)
                 self.start()
             else:
-                with contextlib.suppress(ProcessLookupError):
-                    os.kill(self.engine_pid(), signal.SIGKILL)
-        time.sleep(0.5)
+                self.kill_engine()
+        wait_until(lambda: sum(map(len, acknowledged.values())) > 10)
         over.set()
         for it in threads:
-            it.join(30)
+            it.join(PATIENCE)
             self.assertFalse(it.is_alive())
-        self.assertGreater(sum(map(len, acknowledged.values())), 10)
         with connect(self.address) as repo:
             for name, ids in acknowledged.items():
                 self.assertLessEqual(set(ids), set(repo.log_ids(name)) if ids else set())
@@ -270,8 +279,10 @@ class WithTheEngine(Served):
         with connect(self.address) as repo:
             for _ in range(5):
                 pending = [repo.send(protocol.content("main", "a")) for _ in range(300)]
-                os.kill(self.engine_pid(), signal.SIGKILL)
+                self.kill_engine()
                 self.assertEqual({it.result().data for it in pending}, {b"main 1"})
+                # These may all be of before the end, but this one isn't.
+                self.assertEqual(repo.read("a", "main"), b"main 1")
         self.assertEqual(self.stop()["restarts"], 5)
 
     # Clients that stall, flood or die.
@@ -280,10 +291,10 @@ class WithTheEngine(Served):
         """Another client is answered soon."""
         began = time.monotonic()
         self.assertIn(b"ok names", self.ask(b"names\n"))
-        self.assertLess(time.monotonic() - began, 15)
+        self.assertLess(time.monotonic() - began, 60)
 
     def test_a_client_that_stops_inside_a_command(self) -> None:
-        self.start("--stall", "1")
+        self.start("--stall", "3")
         slow = self.raw()
         slow.sendall(b"names\n" + self.commit("main", 1)[:-4])
         for _ in range(3):
@@ -292,20 +303,24 @@ class WithTheEngine(Served):
         self.assertEqual(self.ask(b"names\n"), b"ok names 0 refs/heads/main\n")
 
     def test_a_client_that_reads_no_replies(self) -> None:
-        self.start("--stall", "1")
+        self.start("--stall", "3")
         self.ask(b"commit refs/heads/main new\nput file 1 3000000\na\n" + b"x" * 3000000 + b"\n" + ACTOR)
         deaf = self.raw()
         deaf.sendall(b"show main path 1\na\n" * 2000)
         for _ in range(4):
             self.is_quick()
-        end = time.monotonic() + 20
-        while time.monotonic() < end:
+        deaf.setblocking(False)
+
+        def is_closed() -> bool:
             try:
                 deaf.send(b"names\n")
+            except BlockingIOError:
+                return False
             except OSError:
-                break
-            time.sleep(0.1)
-        self.assertLess(time.monotonic(), end, "it is still served")
+                return True
+            return False
+
+        wait_until(is_closed)
 
     def test_a_client_that_floods(self) -> None:
         self.start()
@@ -313,9 +328,10 @@ class WithTheEngine(Served):
         flood.settimeout(0.2)
 
         def pour() -> None:
+            text, at = b"names\n" * 1000, 0
             while not over.is_set():
                 with contextlib.suppress(socket.timeout):
-                    flood.send(b"names\n" * 1000)
+                    at = (at + flood.send(text[at:])) % len(text)
 
         def drink() -> None:
             while not over.is_set():
@@ -369,8 +385,7 @@ class WithTheEngine(Served):
             it.recv(100)
         self.assertEqual(self.rest(self.raw()), b"fault Busy\n")
         first.close()
-        time.sleep(0.3)
-        self.assertEqual(self.ask(b"names\n"), b"ok names 0 refs/heads/main\n")
+        wait_until(lambda: self.ask(b"names\n") == b"ok names 0 refs/heads/main\n")
 
     def test_a_client_that_says_nothing(self) -> None:
         self.start("--idle", "0.5")
@@ -501,7 +516,7 @@ class WithAFakeEngine(Served):
         return said
 
     def test_an_engine_that_thinks_for_too_long(self) -> None:
-        self.begin("--engine-time", "1")
+        self.begin("--engine-time", "5")
         self.assertEqual(self.ask(self.switch("hang")), b"")
         self.assertEqual(self.ask(self.switch("a")), b"ok switch\n")
 
