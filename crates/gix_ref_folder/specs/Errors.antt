@@ -1,5 +1,5 @@
 -- Errors of the system: what they mean, and what is kept of the last one.
-use Rattle.std.specs.Prelude.{◌≡◌, ℕ, Bool, true, false, List, Option, Some, None, Result, Ok, Err, IfOk}
+use Rattle.std.specs.Prelude.{◌≡◌, ◌⊎◌, ℕ, Bool, true, false, List, [], Option, Some, None, option_map, Result, Ok, Err, IfOk, IsSomeAnd}
 use Rattle.std.specs.IoError.{error_kind}
 use Rattle.std.specs.declared.io.Error.{Error}
 use Rattle.std.specs.declared.io.ErrorKind.{ErrorKind}
@@ -35,6 +35,11 @@ failed_path failure = failure.path.items
 abbrev pub failed_error : Failure → Error
 failed_error failure = failure.error
 
+-- a failed call of this path and with this error; the path is empty if memory for it was refused
+abbrev pub IsFailureOf : List ℕ → Error → Failure → Type 0
+IsFailureOf path error failure =
+    ((failure.path.items ≡ path) ⊎ (failure.path.items ≡ [])) × (failure.error ≡ error)
+
 -- how many changes failed
 abbrev pub failed_count : Option FailedChanges → ℕ
 failed_count (Some changes) = changes.count
@@ -42,3 +47,11 @@ failed_count None = 0
 
 abbrev pub count_of : Failures → ℕ
 count_of failures = failed_count failures.changes
+
+-- the last change that failed
+abbrev pub last_of : Failures → Option Failure
+last_of failures = option_map (λ changes. changes.last) failures.changes
+
+-- a change failed, and the last that did is of this path and with this error
+abbrev pub IsLast : List ℕ → Error → Failures → Type 0
+IsLast path error failures = IsSomeAnd (last_of failures) (IsFailureOf path error)

@@ -5,9 +5,10 @@ use Rattle.std.specs.declared.alloc.Global.{Global}
 use Rattle.gix_ref_file.specs.History.{History}
 use Rattle.gix_ref_file.specs.Changes.{Change, is_file_at}
 use Rattle.gix_ref_file.specs.Tree.{Tree, is_path, node_at, bytes_of}
-use Rattle.gix_ref_folder.specs.Errors.{count_of}
+use Rattle.gix_ref_folder.specs.Errors.{count_of, last_of}
 use Rattle.gix_ref_folder.specs.Parts.{has}
 use Rattle.gix_ref_folder.specs.Systems.{IsPlaceOf, Does}
+use Rattle.gix_ref_folder.specs.declared.failure.Failure.{Failure}
 use Rattle.gix_ref_folder.specs.declared.folder.Folder.{Folder}
 use Rattle.gix_ref_folder.specs.declared.part.Part.{Part}
 
@@ -23,6 +24,10 @@ part_of folder = folder.part
 -- how many changes failed
 abbrev pub failures_of : {S : Type 0} → Folder S → ℕ
 failures_of folder = count_of folder.failures
+
+-- the last change that failed
+abbrev pub last_in : {S : Type 0} → Folder S → Option Failure
+last_in folder = last_of folder.failures
 
 -- what it holds and held is what the system does, of its part below its root
 abbrev pub history_in : {S : Type 0} → (S → List ℕ → Part → History) → Folder S → History

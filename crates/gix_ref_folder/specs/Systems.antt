@@ -1,5 +1,5 @@
 -- What a system's calls report and do at its own paths, said of a part of what is below a root.
-use Rattle.std.specs.Prelude.{◌≡◌, ⊤, ℕ, List, [], ◌++◌, ◌∷◌, ◌&&◌, length, map, Option, Some, option_map, Result, OnOk, IfOk, IsTrue, IsSome, Vec, IsPermutation}
+use Rattle.std.specs.Prelude.{◌≡◌, ⊤, ℕ, List, [], ◌++◌, ◌∷◌, ◌&&◌, length, map, Option, Some, option_map, Result, OnOk, IsTrue, IsSome, Vec, IsPermutation}
 use Rattle.std.specs.List.{filter}
 use Rattle.std.specs.FinMap.{get}
 use Rattle.std.specs.declared.alloc.Global.{Global}

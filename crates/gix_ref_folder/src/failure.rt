@@ -1,6 +1,6 @@
 //! A call that failed (`Failure`): its path, the system's error, and its text.
 ghost use Rattle.std.specs.Prelude.{◌≡◌, ◌++◌, ◌∷◌, ℕ, List, IfOk};
-ghost use Rattle.gix_ref_folder.specs.Errors.{failed_path, failed_error};
+ghost use Rattle.gix_ref_folder.specs.Errors.{failed_path, failed_error, IsFailureOf};
 
 use std::alloc::{AllocError, Global};
 use std::io;
@@ -15,7 +15,7 @@ pub struct Failure {
 impl Failure {
     // Keeps only the error if memory for the path is refused.
     pub(crate) fn new(alloc: Global, path: &[u8], error: io::Error) -> Self
-        ensures error { failed_error result ≡ error }
+        ensures { IsFailureOf path.now error result }
     {
         Failure {
             path: Vec::from_slice(alloc, path).unwrap_or(Vec::new(alloc)),

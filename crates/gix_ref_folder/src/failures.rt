@@ -1,9 +1,9 @@
 //! The count of failed changes with the last of them; what is kept of each call.
-ghost use Rattle.std.specs.Prelude.{◌≡◌, ◌≤◌, ◌+◌, ◌-◌, ◌^◌, min, IfOk, IfNone, OnOk, Ok, IsErrOf};
+ghost use Rattle.std.specs.Prelude.{◌≡◌, ◌≤◌, ◌+◌, ◌-◌, ◌^◌, min, option_map, IfErr, IfNone, IfOk, OnOk, Ok, Some, IsErrOf};
 ghost use Rattle.gix_ref_file.specs.Changes.{Change};
 ghost use Rattle.gix_ref_file.specs.History.{HasRisen, History, Makes};
 ghost use Rattle.gix_ref_file.specs.declared.files.FileError.TheVariants.{Failed, Memory};
-ghost use Rattle.gix_ref_folder.specs.Errors.{count_of};
+ghost use Rattle.gix_ref_folder.specs.Errors.{count_of, last_of, IsLast};
 ghost use Rattle.gix_ref_folder.specs.Systems.{Does};
 
 use crate::failure::Failure;
@@ -42,14 +42,16 @@ impl Failures {
 
     /// Keeps calls in `call` too.
     pub fn share(&mut self, call: Rc<LastCall>)
-        ensures { count_of self.new ≡ count_of self.old }
+        ensures count { count_of self.new ≡ count_of self.old }
+        ensures last { last_of self.new ≡ last_of self.old }
     {
         self.call = Some(call);
     }
 
     /// Returns the last change that failed, if one did.
     pub fn last(&self) -> Option<&Failure>
-        ensures { IfNone result (count_of self.now ≡ 0) }
+        ensures last { option_map (λ last. last.now) result ≡ last_of self.now }
+        ensures none { IfNone result (count_of self.now ≡ 0) }
     {
         self.changes.as_ref().map(|changes| &changes.last)
     }
@@ -112,6 +114,8 @@ impl Failures {
         ensures unfailed { OnOk result (count_of self.new ≡ count_of self.old) }
         ensures risen { IsErrOf result Failed → HasRisen (count_of self.old) (count_of self.new) }
         ensures memory { IsErrOf result Memory → count_of self.new ≡ count_of self.old }
+        ensures named { IsErrOf result Failed
+            → IfErr changed (λ error. IsLast path.now error self.new) }
     {
         match changed {
             Ok(value) => Ok(value),
@@ -123,6 +127,7 @@ impl Failures {
         ensures later { count_of self.old ≤ count_of self.new }
         ensures risen { result ≡ Failed → HasRisen (count_of self.old) (count_of self.new) }
         ensures memory { result ≡ Memory → count_of self.new ≡ count_of self.old }
+        ensures named { result ≡ Failed → IsLast path.now error self.new }
     {
         let fault = fault(&error);
         if fault == FileError::Memory {
@@ -136,6 +141,7 @@ impl Failures {
     fn count(&mut self, last: Failure)
         ensures count { count_of self.new ≡ min (count_of self.old + 1) (2 ^ 64 - 1) }
         ensures later { count_of self.old ≤ count_of self.new }
+        ensures last { last_of self.new ≡ Some last }
     {
         let before = self.changes.as_ref().map_or(0, |changes| changes.count);
         self.changes = Some(FailedChanges {

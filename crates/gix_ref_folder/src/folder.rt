@@ -1,14 +1,14 @@
 //! Files of a real folder (`Folder`): the calls of `Files` by the system's; names that are too long, sorted lists.
-ghost use Rattle.std.specs.Prelude.{◌≡◌, ◌↔◌, length, map, option_map, IfOk, IfSome, IfNone, OnOk, ◌≤◌, [], is_none, string_bytes, IsOk, IsTrue};
+ghost use Rattle.std.specs.Prelude.{◌≡◌, ◌↔◌, ℕ, List, Some, length, map, option_map, IfOk, IfSome, IfNone, OnOk, ◌≤◌, [], is_none, string_bytes, IsOk, IsTrue};
 ghost use Rattle.gix_ref_file.specs.Tree.{node_at, place_of, bytes_of, bytes_at, names_at, part, overwritten};
 ghost use Rattle.gix_ref_file.specs.Changes.{Change, to_create, to_write, to_append, to_rename, to_remove_file, to_make_folder, to_remove_folder};
 ghost use Rattle.gix_ref_file.specs.Calls.{Finds};
 ghost use Rattle.gix_ref_folder.specs.Systems.{IsPlaceOf, AreNames, Reads};
-ghost use Rattle.gix_ref_folder.specs.Folders.{failures_of, root_of, part_of, system_of, history_in, IsHonestIn, IsPlaceIn, IsFileIn, IsFileThere, Acts};
+ghost use Rattle.gix_ref_folder.specs.Folders.{failures_of, last_in, root_of, part_of, system_of, history_in, IsHonestIn, IsPlaceIn, IsFileIn, IsFileThere, Acts};
 
 use crate::failure::Failure;
 use crate::failures::Failures;
-use crate::last_call::{LastCall, Outcome};
+use crate::last_call::{LastCall, Outcome, nothing_there};
 use crate::part::Part;
 use crate::system::{Found, System};
 use crate::system_errors::{is_missing, is_new};
@@ -27,9 +27,9 @@ const LONGEST_NAME: usize = 250;
 // The most bytes that most systems take in a path.
 const LONGEST_PATH: usize = 4095;
 
-// The most bytes of a root. Below it the system takes the paths of all objects, and of all that a name of at most 250 bytes has, as its
-// log's lock.
-const LONGEST_ROOT: usize = 3800;
+/// The most bytes of a root. Below it the system takes the paths of all objects, and of all that a name of at most 250 bytes has, as its
+/// log's lock.
+pub const LONGEST_ROOT: usize = 3800;
 
 /// A part of a real folder. What exists at a path is looked up by each call anew, but for the file
 /// that the last change made or wrote: it is renamed without a look.
@@ -84,7 +84,8 @@ impl<S: System> Folder<S> {
 
     /// Returns the last change that failed, if one did; one that was refused memory isn't kept.
     pub fn last_failure(&self) -> Option<&Failure>
-        ensures { IfNone result (failures_of self.now ≡ 0) }
+        ensures last { option_map (λ last. last.now) result ≡ last_in self.now }
+        ensures none { IfNone result (failures_of self.now ≡ 0) }
     {
         self.failures.last()
     }
@@ -213,12 +214,10 @@ impl<S: System> Folder<S> {
     // What the reading of a file came to, if it didn't fail. An object is read only if it was there,
     // so that somebody took it away.
     fn outcome_of(&self, read: &io::Result<Option<Vec<u8>>>) -> Outcome {
-        if has_found(read) {
-            return Outcome::Read(true);
-        }
-        match self.part {
-            Part::Objects => Outcome::Failed(io::Error::other("No such file or directory")),
-            Part::Names => Outcome::Read(false),
+        match (self.part, has_found(read)) {
+            (Part::Objects, true) => Outcome::Object,
+            (Part::Objects, false) => Outcome::Failed(nothing_there()),
+            (Part::Names, is_there) => Outcome::Read(is_there),
         }
     }
 
@@ -327,20 +326,31 @@ impl<S: System> Folder<S> {
         done
     }
 
-    // The system would rename a folder too.
-    fn move_file(&mut self, from: &[u8], to: &[u8]) -> io::Result<()>
-        ensures change { Acts S.is_honest S.history self.old self.new
-            (to_rename from.now to.now) result }
+    // The system's path of a file that is to be moved. The system would move a folder too.
+    fn source(&self, path: &[u8]) -> io::Result<String>
+        ensures { Finds (IsHonestIn S.is_honest S.history) (history_in S.history) self.now
+            (λ tree. IfOk result (λ place.
+            IsFileIn (string_bytes self.now.root) self.now.part path.now tree (Some place))) }
+    {
+        match self.file_place(path)? {
+            Some(place) => Ok(place),
+            None => Err(nothing_there()),
+        }
+    }
+
+    // Moves the file at a place that was looked up, if it was found.
+    fn move_file(&mut self, source: io::Result<String>, to: &[u8]) -> io::Result<()>
+        ensures change { (from : List ℕ)
+            → Finds (IsHonestIn S.is_honest S.history) (history_in S.history) self.old
+            (λ tree. IfOk source (λ place.
+            IsFileIn (string_bytes self.old.root) self.old.part from tree (Some place)))
+            → Acts S.is_honest S.history self.old self.new (to_rename from to.now) result }
         ensures failures { failures_of self.new ≡ failures_of self.old }
     {
+        let from = source?;
         let to = self.target(to)?;
-        match self.file_place(from)? {
-            Some(from) => {
-                self.written = None;
-                self.system.rename(from.as_str(), to.as_str())
-            }
-            None => Err(io::Error::new(ErrorKind::NotFound, "no file to move here")),
-        }
+        self.written = None;
+        self.system.rename(from.as_str(), to.as_str())
     }
 
     fn take_file(&mut self, path: &[u8]) -> io::Result<()>
@@ -468,8 +478,10 @@ impl<S: System> Files for Folder<S> {
     }
 
     fn rename(&mut self, alloc: Global, from: &[u8], to: &[u8]) -> Result<(), FileError> {
-        let moved = self.move_file(from, to);
-        self.failures.changed(alloc, to, moved)
+        let source = self.source(from);
+        let named = if source.is_ok() { to } else { from };
+        let moved = self.move_file(source, to);
+        self.failures.changed(alloc, named, moved)
     }
 
     fn remove_file(&mut self, alloc: Global, path: &[u8]) -> Result<(), FileError> {

@@ -13,7 +13,7 @@ mod system_errors;
 
 pub use disk::Disk;
 pub use failure::Failure;
-pub use folder::Folder;
+pub use folder::{Folder, LONGEST_ROOT};
 pub use last_call::LastCall;
 pub use part::Part;
 pub use system::{Found, System};

@@ -215,25 +215,125 @@ const FAILING: [(u64, Option<usize>, &str, &str); 14] = [
     ),
 ];
 
+// Returns a folder in memory whose names' files fail at a call, which is kept in `last`.
+fn failing_folder(
+    alloc: Global,
+    call: u64,
+    kept: Option<usize>,
+    last: &Rc<LastCall>,
+) -> Result<Folder<OverFiles<Fuse<MemoryFiles>>>, AllocError> {
+    let objects = Fuse::failing_at(MemoryFiles::new(alloc), 0, None);
+    let names = Fuse::failing_at(MemoryFiles::new(alloc), call, kept);
+    let system = OverFiles::new(alloc, String::from_str(alloc, ROOT)?, objects, names);
+    let root = String::from_str(alloc, ROOT)?;
+    let mut folder = Folder::new(alloc, system, root, Part::Names);
+    folder.share(last.clone()?);
+    Ok(folder)
+}
+
 #[test]
 fn a_failed_call_is_no_absence(rt: HostRuntime) -> Result<(), Fail> {
     let alloc = rt.alloc();
     for (call, kept, words, wanted) in FAILING {
-        let objects = Fuse::failing_at(MemoryFiles::new(alloc), 0, None);
-        let names = Fuse::failing_at(MemoryFiles::new(alloc), call, kept);
-        let system = OverFiles::new(alloc, String::from_str(alloc, ROOT)?, objects, names);
-        let root = String::from_str(alloc, ROOT)?;
-        let mut folder = Folder::new(alloc, system, root, Part::Names);
         let last = Rc::new(alloc, LastCall::new(alloc))?;
-        folder.share(last.clone()?);
+        let mut folder = failing_folder(alloc, call, kept, &last)?;
         let returned = play_on(alloc, &mut folder, words)?;
         assert_eq!(rt; returned.as_str(), wanted, "of {words}, at {call}");
-        let why = if wanted.ends_with("stands") {
+        // A failure before a file was made was passed over.
+        let why = if wanted.ends_with("done stands") {
             b": File exists".as_slice()
         } else {
             b": the files failed".as_slice()
         };
         assert!(rt; last.cause().text(alloc)?.ends_with(why), "of {words}");
     }
+    Ok(())
+}
+
+/// The call of the names' files that fails, words, the call that explains a fault after them, and
+/// the last change that failed.
+const EXPLAINED: [(u64, &str, &str, &str); 5] = [
+    // What is missing or can't be looked at is the source.
+    (
+        3,
+        "write:HEAD:ref folder:refs rename:HEAD:new",
+        "HEAD: the files failed",
+        "HEAD: the files failed",
+    ),
+    (
+        9,
+        "rename:none:new remove:other",
+        "none: No such file or directory",
+        "other: the files failed",
+    ),
+    // The rename itself failed.
+    (
+        4,
+        "write:HEAD:ref folder:refs rename:HEAD:new read:HEAD",
+        "new: the files failed",
+        "new: the files failed",
+    ),
+    // What failed first explains what failed later.
+    (
+        2,
+        "write:HEAD:ref read:HEAD remove:none remove:HEAD",
+        "HEAD: the files failed",
+        "none: the files failed",
+    ),
+    // A file that was made shows that what failed before was passed over.
+    (
+        1,
+        "create:HEAD create:HEAD remove:none",
+        "none: the files failed",
+        "none: the files failed",
+    ),
+];
+
+#[test]
+fn the_first_call_that_failed_explains_a_fault(rt: HostRuntime) -> Result<(), Fail> {
+    let alloc = rt.alloc();
+    for (call, words, wanted, wanted_change) in EXPLAINED {
+        let last = Rc::new(alloc, LastCall::new(alloc))?;
+        let mut folder = failing_folder(alloc, call, None, &last)?;
+        let _ = play_on(alloc, &mut folder, words)?;
+        let told = last.cause().text(alloc)?;
+        assert!(rt;
+            told.as_slice() == wanted.as_bytes(),
+            "of {words}, at {call}"
+        );
+        let told = match folder.last_failure() {
+            Some(failure) => failure.text(alloc)?,
+            None => Vec::new(alloc),
+        };
+        assert!(rt;
+            told.as_slice() == wanted_change.as_bytes(),
+            "of {words}, at {call}"
+        );
+        last.forget();
+        assert!(rt; last.cause().path().is_empty());
+    }
+    Ok(())
+}
+
+#[test]
+fn objects_that_were_read_are_kept(rt: HostRuntime) -> Result<(), Fail> {
+    let alloc = rt.alloc();
+    let root = String::from_str(alloc, ROOT)?;
+    let mut folder = Folder::new(alloc, filled(alloc)?, root, Part::Objects);
+    let last = Rc::new(alloc, LastCall::new(alloc))?;
+    folder.share(last.clone()?);
+    let _ = play_on(
+        alloc,
+        &mut folder,
+        "read:objects/ab kind:objects read:objects/ab",
+    )?;
+    let kept = last.take_objects();
+    assert!(rt; kept.as_slice() == b"objects/ab\nobjects/ab\n".as_slice());
+    assert!(rt; last.take_objects().is_empty());
+    // A call that failed explains a fault without them.
+    let _ = play_on(alloc, &mut folder, "read:objects/ab read:objects/none")?;
+    assert!(rt; last.take_objects().is_empty());
+    let told = last.cause().text(alloc)?;
+    assert!(rt; told.as_slice() == b"objects/none: No such file or directory".as_slice());
     Ok(())
 }

@@ -129,21 +129,25 @@ def by_hand_alone():
     fixed(f"n:kind:{lock} last n:create:{lock} n:list:-", f"failed {lock}%3a%20File%20name%20too%20long failed names:kept:refs")
     # A path through links that lead in a circle isn't absent.
     fixed("link:l:l n:kind:l/x n:read:l/x last", "linked failed failed l/x%3a%20Too%20many%20levels%20of%20symbolic%20links")
-    # What explains a fault is the last call of both parts that failed, met something or read no object, else the last reading.
+    # What explains a fault is the first call of both parts that failed, met something or read no object, else the last reading. A file that
+    # is made since shows that what failed was passed over.
     there, none, met = (files.word(it) for it in (b": read last, and no call failed", b": No such file or directory", b"refs: File exists"))
     fixed("n:last o:last last n:kind:none last n:read:kept last o:read:objects/a last n:list:refs last "
-          "n:create:refs n:read:a/b last n:last forget last n:create:refs n:create:new last",
+          "n:create:refs n:read:a/b last n:last forget last n:create:refs last n:create:new last",
           f"none none {there} absent none{none} 1:so%201 kept{there} none:so%20 objects/a{none} names objects/a{none} "
-          f"stands none:so%20 {met} none {there} stands done {there}")
+          f"stands none:so%20 objects/a{none} none {there} stands {met} done {there}")
     # A look at a lock explains nothing, unless it fails.
     fixed("n:read:none n:kind:a.lock n:read:kept.lock last n:read:kept n:create:a.lock n:kind:a.lock last",
           f"none:so%20 absent none:so%20 none{none} 1:so%201 done file:0 kept{there}")
     fixed("n:folder:refs n:last n:remove-folder:none n:last o:last o:read:objects/a last",
-          f"failed refs%3a%20File%20exists failed none{none} none none:so%20 objects/a{none}")
+          f"failed {met} failed none{none} none none:so%20 {met}")
     fixed("o:write:objects/a:1 o:last n:write:objects/a:1 n:last",
           "failed objects/a%3a%20No%20such%20file%20or%20directory failed objects/a%3a%20no%20path%20of%20this%20part")
     fixed(f"n:write:{'w' * 251}:1 n:last", f"failed {'w' * 251}%3a%20no%20name%20for%20its%20lock%20file")
-    fixed("n:rename:none:kept n:kind:%ff last n:last", "failed failed %ff%3a%20not%20UTF-8 kept%3a%20no%20file%20to%20move%20here")
+    # A rename is noted under its source if that is missing or can't be looked at, else under its target.
+    fixed("n:rename:none:kept n:last link:l:l n:rename:l/x:kept n:last n:rename:kept:refs n:last last forget n:kind:%ff last",
+          f"failed none{none} linked failed l/x%3a%20Too%20many%20levels%20of%20symbolic%20links failed refs%3a%20Is%20a%20directory "
+          f"none{none} failed %ff%3a%20not%20UTF-8")
 
 
 PATHS = [b"a", b"a/b", b"a/b/c", b"a-", b"b", b"b/c", b"c", b"..", b"a//b", b"", b"objects", b"objects/a", b"objects/a/b", b"objects-"]

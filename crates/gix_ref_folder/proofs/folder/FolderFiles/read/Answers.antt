@@ -1,5 +1,5 @@
 use Rattle.std.proofs.Common.{◌≡◌, ◌∙◌, ap, sym, length, rules}
-use Rattle.std.specs.Prelude.{IfOk, option_map, Some, None}
+use Rattle.std.specs.Prelude.{option_map, Some}
 use Rattle.std.proofs.lemmas.List.{append-nil}
 use Rattle.gix_ref_folder.proofs.Reported.{appended}
 use Rattle.gix_ref_folder.proofs.folder.FolderFiles.read.Goals as goal
