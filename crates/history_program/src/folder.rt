@@ -41,7 +41,7 @@ fn act_under_lock(rt: &HostRuntime, asked: &Asked) -> Result<u8, AllocError> {
         Ok(held) => held,
         Err(refusal) => {
             let status = write_error(rt, b"fault File\n", 1);
-            note_refusal(rt, asked.folder.as_bytes(), &refusal);
+            note_refusal(rt, asked.folder.as_str(), &refusal);
             return Ok(status);
         }
     };
@@ -50,7 +50,7 @@ fn act_under_lock(rt: &HostRuntime, asked: &Asked) -> Result<u8, AllocError> {
 
 // Acts on the two parts of the folder.
 fn act_on_folder(rt: &HostRuntime, asked: &Asked) -> Result<u8, AllocError> {
-    let folder = asked.folder.as_bytes();
+    let folder = asked.folder.as_str();
     let call = Rc::new(rt.alloc(), LastCall::new(rt.alloc()))?;
     let objects = part_of_folder(rt, asked, Part::Objects, &call)?;
     let names = part_of_folder(rt, asked, Part::Names, &call)?;

@@ -1,12 +1,9 @@
 //! The system's lock on a folder, so that one process at a time works there; the folder is made and opened.
 
+use gix_ref_folder::LONGEST_ROOT;
 use history_actions::command_line::{Action, Asked};
 use std::fs::{self, File, TryLockError};
 use std::io::{self, ErrorKind};
-
-// The most bytes of a folder's path: below it the system takes the path of each object, and of all
-// that a name of at most 250 bytes has.
-const LONGEST_FOLDER: usize = 3800;
 
 /// Why a folder isn't acted on.
 #[derive(Drop)]
@@ -42,7 +39,7 @@ pub fn lock_folder(rt: &HostRuntime, asked: &Asked) -> Result<File, Refusal> {
 // Returns the folder, opened.
 fn folder_of(rt: &HostRuntime, asked: &Asked) -> io::Result<File> {
     let folder = asked.folder.as_str();
-    if folder.len() > LONGEST_FOLDER {
+    if folder.len() > LONGEST_ROOT {
         return Err(io::Error::new(ErrorKind::InvalidFilename, "File name too long"));
     }
     if asked.action == Action::Create {

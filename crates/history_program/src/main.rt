@@ -5,6 +5,7 @@
 //! terminal it reports how it is called.
 #![tactic(auto)]
 
+mod causes;
 mod folder;
 mod lock;
 mod notes;

@@ -1,20 +1,21 @@
 //! Notes on standard error after a fault or a refused lock: which file or folder, and why.
 
+use crate::causes::{text_of_cause, with_reason};
 use crate::lock::Refusal;
-use gix_ref_folder::{Failure, LastCall};
+use gix_ref_folder::LastCall;
 use history::Stream;
 use history_word::write_all;
 use std::alloc::{AllocError, Global};
 use std::io;
 
 /// Notes why a folder isn't acted on.
-pub fn note_refusal(rt: &HostRuntime, folder: &[u8], refusal: &Refusal) {
+pub fn note_refusal(rt: &HostRuntime, folder: &str, refusal: &Refusal) {
     note(rt, text_of(rt.alloc(), folder, refusal));
 }
 
-/// Notes the last call on the parts of a folder, which led to a fault.
-pub fn note_cause(rt: &HostRuntime, folder: &[u8], call: &LastCall) {
-    note(rt, text_of_failure(rt.alloc(), folder, &call.cause()));
+/// Notes what led to a fault in a folder.
+pub fn note_cause(rt: &HostRuntime, folder: &str, call: &LastCall) {
+    note(rt, text_of_cause(rt, folder, call));
 }
 
 // Writes a note to standard error. If memory runs out for it, or that fails, nothing else can be
@@ -35,26 +36,17 @@ fn line_of(alloc: Global, text: &[u8]) -> Result<Vec<u8>, AllocError> {
     Ok(line)
 }
 
-// Returns the path and the reason of a failure; of the root's, whose path is empty, the folder's.
-fn text_of_failure(alloc: Global, folder: &[u8], failure: &Failure) -> Result<Vec<u8>, AllocError> {
-    let text = failure.text(alloc)?;
-    if !failure.path().is_empty() {
-        return Ok(text);
-    }
-    let mut named = Vec::from_slice(alloc, folder)?;
-    named.extend_from_slice(&text)?;
-    Ok(named)
-}
-
 // Returns the folder, and why it isn't acted on.
-fn text_of(alloc: Global, folder: &[u8], refusal: &Refusal) -> Result<Vec<u8>, AllocError> {
-    let mut text = Vec::from_slice(alloc, folder)?;
-    text.extend_from_slice(b": ")?;
+fn text_of(alloc: Global, folder: &str, refusal: &Refusal) -> Result<Vec<u8>, AllocError> {
+    // A path without bytes is written as a shell takes it.
+    let shown = if folder.is_empty() { "''" } else { folder };
     match refusal {
-        Refusal::Busy => text.extend_from_slice(b"another process works there")?,
-        Refusal::File(error) => text.extend_from_slice(reason(alloc, error)?.as_bytes())?,
+        Refusal::Busy => with_reason(alloc, shown.as_bytes(), b"another process works there"),
+        Refusal::File(error) => {
+            let reason = reason(alloc, error)?;
+            with_reason(alloc, shown.as_bytes(), reason.as_bytes())
+        }
     }
-    Ok(text)
 }
 
 // Returns the system's words for an error, without its number.

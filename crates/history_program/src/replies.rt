@@ -9,13 +9,13 @@ use std::io::{self, Write};
 #[derive(Drop)]
 pub struct Replies<'a> {
     rt: &'a HostRuntime,
-    folder: &'a [u8],
+    folder: &'a str,
     call: &'a LastCall,
 }
 
 impl<'a> Replies<'a> {
     /// Returns the output of a run on this folder, whose parts keep their calls in `call`.
-    pub fn new(rt: &'a HostRuntime, folder: &'a [u8], call: &'a LastCall) -> Self {
+    pub fn new(rt: &'a HostRuntime, folder: &'a str, call: &'a LastCall) -> Self {
         Replies { rt, folder, call }
     }
 }
@@ -26,8 +26,8 @@ impl Write for Replies<'_> {
         if reply == b"fault File\n".as_slice() {
             note_cause(self.rt, self.folder, self.call);
         }
-        // What failed on the way to any other reply was passed over.
-        self.call.forget_failure();
+        // What failed before this reply explains no later one.
+        self.call.forget();
         Ok(reply.len())
     }
 
