@@ -7,6 +7,7 @@ mod Joining
 mod KeptNames
 mod LogPieces
 mod LogTexts
+mod LongLines
 mod LooseTexts
 mod MadeNames
 mod PackedLines
@@ -15,6 +16,7 @@ mod PackedTexts
 mod ReadSoFar
 mod RecordCauses
 mod Returns
+mod ShortLines
 pub mod Sizes
 mod Standing
 mod Surveyed

@@ -85,7 +85,7 @@ module _ (kind : Kind) where
   one_more r seen (Some rs) = refl
 
   -- a record's own line, whatever comes after it
-  at_record : (m : ℕ) (line : List ℕ) (ls : List (List ℕ)) (r : Record) → record_line kind line ≡ Some r
+  pub at_record : (m : ℕ) (line : List ℕ) (ls : List (List ℕ)) (r : Record) → record_line kind line ≡ Some r
       → all_good (items kind m false (line ∷ ls)) ≡ with_item (Good (with_peel r (peel_behind kind (Some r) ls))) (all_good (items kind (next_number m) (is_some (peel_behind kind (Some r) ls)) ls))
   at_record m line ls r is = ap (λ o. all_good (item_of m line (peel_behind kind o ls) o ∷ items kind (next_number m) (is_some (peel_behind kind o ls)) ls)) is
 
@@ -167,7 +167,7 @@ module _ (kind : Kind) where
     names = refl;
   }
 
-  all_more : {r : Record} {all : List Record} (o : Option (List Record)) → with_item (Good r) o ≡ Some all → (more : List Record) × (o ≡ Some more) × (r ∷ more ≡ all)
+  pub all_more : {r : Record} {all : List Record} (o : Option (List Record)) → with_item (Good r) o ≡ Some all → (more : List Record) × (o ≡ Some more) × (r ∷ more ≡ all)
   all_more None e = none_some e
   all_more {r} (Some more) e = (more, refl, same_Some (r ∷ more) _ e)
 

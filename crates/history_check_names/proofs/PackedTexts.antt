@@ -20,7 +20,7 @@ none_some e = cc
 -- ---- the header
 
 -- what a text begins with, its first lines begin with
-headed_first : (n : ℕ) (text : List ℕ) → is_headed (first_lines (suc n) text) ≡ is_headed text
+pub headed_first : (n : ℕ) (text : List ℕ) → is_headed (first_lines (suc n) text) ≡ is_headed text
 headed_first n [] = refl
 headed_first n (byte ∷ rest) = by_end _
   where

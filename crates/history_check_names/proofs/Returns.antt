@@ -1,4 +1,4 @@
--- Which line of a text with a carriage return is the first that a file of packed names can't have.
+-- Which line is the first that a file of packed names can't have, told by the lines before it.
 use Rattle.std.proofs.Common.{◌≡◌, ◌⊎◌, inl, inr, refl, sym, ◌∙◌, ap, subst, ℕ, zero, suc, ◌+◌, ◌-◌, ◌<◌, ◌≤◌, Bool, true, false, cond, not, ◌&&◌, ◌||◌, List, [], ◌∷◌, ◌++◌, length, take, Option, Some, None, arith, length-append, append-nil, append_assoc}
 use Rattle.std.specs.Prelude.{◌==◌}
 use Rattle.std.proofs.lemmas.Bool.{cases_lt, or_parts}
@@ -8,7 +8,7 @@ use Rattle.gix_ref_format.specs.Packed.{Record, packed_records}
 use Rattle.history_model.specs.Bytes.{Bytes, has_byte}
 use Rattle.history_model.specs.PackedNames.{says_sorted}
 use Rattle.history_check_names.specs.Packed.{HasBadRecord, are_good_names, first_lines, is_packed_text, record_names}
-use Rattle.history_check_names.specs.PackedRead.{AreLinesOf, IsPackedFault}
+use Rattle.history_check_names.specs.PackedRead.{AreLinesOf, IsEnded, IsPackedFault}
 use Rattle.history_texts.specs.declared.open_error.OpenError.{OpenError}
 use Rattle.history_texts.specs.declared.open_error.OpenError.TheVariants.{BadPacked}
 use Rattle.history_check_names.proofs.PackedTexts.{text_by, text_none}
@@ -28,7 +28,7 @@ first_first (suc m) (suc n) (byte ∷ rest) few = by_end (first_first m n rest (
     by_end ended going false is = ap (λ b. cond b (byte ∷ first_lines m (first_lines (suc n) rest)) (byte ∷ first_lines (suc m) (first_lines (suc n) rest))) is ∙ ap (λ t. byte ∷ t) going
 
 -- the first lines go on after bytes that end no line
-into_line : (line more : Bytes) (n : ℕ) → has_byte 10 line ≡ false → first_lines (suc n) (line ++ more) ≡ line ++ first_lines (suc n) more
+pub into_line : (line more : Bytes) (n : ℕ) → has_byte 10 line ≡ false → first_lines (suc n) (line ++ more) ≡ line ++ first_lines (suc n) more
 into_line [] more n none = refl
 into_line (b ∷ line) more n none =
     let parts = or_parts (b == 10) (has_byte 10 line) none in
@@ -40,6 +40,7 @@ pub record IsCounted (text rest : Bytes) (count : ℕ) : Type 0 where
   pub done : Bytes
   pub are : text ≡ done ++ rest
   pub few : count ≤ length done
+  pub ended : IsEnded done
   pub first : (n : ℕ) (more : Bytes) → first_lines (count + n) (done ++ more) ≡ done ++ first_lines n more
 
 pub none_counted : (text rest : Bytes) (count : ℕ) → rest ≡ text → count ≡ 0 → IsCounted text rest count
@@ -47,6 +48,7 @@ none_counted text rest count same none = subst (λ r. IsCounted text r count) (s
   done = [];
   are = refl;
   few = omega arith;
+  ended = inl refl;
   first = λ n more. ap (λ k. first_lines k more) (let e : 0 + n ≡ n = omega arith in e);
 }))
 
@@ -56,6 +58,7 @@ module _ (text rest : Bytes) (count : ℕ) (so_far : IsCounted text rest count) 
     done = so_far.done ++ (line ++ 10 ∷ []);
     are = so_far.are ∙ ap (λ r. so_far.done ++ r) cut ∙ grouped behind;
     few = omega (arith, so_far.few, length-append so_far.done (line ++ 10 ∷ []), length-append line (10 ∷ []));
+    ended = inr (so_far.done ++ line, sym (append_assoc so_far.done line (10 ∷ [])));
     first = λ n more.
         ap (λ t. first_lines (count + 1 + n) t) (sym (grouped more)) ∙ ap (λ k. first_lines k (so_far.done ++ (line ++ 10 ∷ more))) (let e : count + 1 + n ≡ count + suc n = omega arith in e)
         ∙ so_far.first (suc n) (line ++ 10 ∷ more) ∙ ap (λ t. so_far.done ++ t) (into_line line (10 ∷ more) n none) ∙ grouped (first_lines n more);
@@ -68,7 +71,7 @@ module _ (text rest : Bytes) (count : ℕ) (so_far : IsCounted text rest count) 
   count_small = omega (arith, so_far.few, ap length so_far.are, length-append so_far.done rest)
 
   pub all_counted : (whole : Bytes) (end : ℕ) → has_byte 10 rest ≡ false → whole ≡ take end text → end ≡ length text - length rest → AreLinesOf text whole count
-  all_counted whole end none is ends = subst (λ w. AreLinesOf text w count) (sym same) (record { rest = rest; are = so_far.are; endless = none; few = so_far.few; first = so_far.first })
+  all_counted whole end none is ends = subst (λ w. AreLinesOf text w count) (sym same) (record { rest = rest; are = so_far.are; endless = none; few = so_far.few; ended = so_far.ended; first = so_far.first })
     where
       front : (xs : Bytes) → take (length xs) (xs ++ rest) ≡ xs
       front [] = empty rest
@@ -83,42 +86,27 @@ module _ (text rest : Bytes) (count : ℕ) (so_far : IsCounted text rest count) 
           is ∙ ap (λ n. take n text) (let e : end ≡ length so_far.done = omega (arith, ends, ap length so_far.are, length-append so_far.done rest) in e)
           ∙ ap (take (length so_far.done)) so_far.are ∙ front so_far.done
 
--- ---- a text with a carriage return
+-- ---- the lines in a beginning of a text
 
--- no text that has one is a file of packed names
-returns_bad : (kind : Kind) (text : Bytes) → has_byte 13 text ≡ true → is_packed_text kind text ≡ false
-returns_bad kind text has = go (packed_records kind text) refl
-  where
-    go : (o : Option (List Record)) → packed_records kind text ≡ o → is_packed_text kind text ≡ false
-    go None is = text_none kind [] text is
-    go (Some records) is = text_by kind [] records text is ∙ ap (λ b. not b && are_good_names (says_sorted text) (record_names records)) has
-
-module _ (kind : Kind) (text front back whole : Bytes) (count : ℕ) (cut : text ≡ front ++ 13 ∷ back) (lines : AreLinesOf front whole count) where
-  whole_text : text ≡ whole ++ (lines.rest ++ 13 ∷ back)
-  whole_text = cut ∙ ap (λ t. t ++ 13 ∷ back) lines.are ∙ append_assoc whole lines.rest (13 ∷ back)
+module _ (kind : Kind) (text front more whole : Bytes) (count : ℕ) (cut : text ≡ front ++ more) (lines : AreLinesOf front whole count) where
+  whole_text : text ≡ whole ++ (lines.rest ++ more)
+  whole_text = cut ∙ ap (λ t. t ++ more) lines.are ∙ append_assoc whole lines.rest more
 
   first_whole : first_lines count text ≡ whole
   first_whole =
-      ap (first_lines count) whole_text ∙ ap (λ n. first_lines n (whole ++ (lines.rest ++ 13 ∷ back))) (let e : count ≡ count + 0 = omega arith in e)
-      ∙ lines.first 0 (lines.rest ++ 13 ∷ back) ∙ append-nil whole
+      ap (first_lines count) whole_text ∙ ap (λ n. first_lines n (whole ++ (lines.rest ++ more))) (let e : count ≡ count + 0 = omega arith in e)
+      ∙ lines.first 0 (lines.rest ++ more) ∙ append-nil whole
 
-  last_has : has_byte 13 (first_lines (count + 1) text) ≡ true
-  last_has =
-      ap (has_byte 13) (ap (first_lines (count + 1)) whole_text ∙ lines.first 1 (lines.rest ++ 13 ∷ back) ∙ ap (λ t. whole ++ t) (into_line lines.rest (13 ∷ back) 0 lines.endless))
-      ∙ list_any-append (λ b. b == 13) whole (lines.rest ++ 13 ∷ first_lines 1 back)
-      ∙ ap (λ b. has_byte 13 whole || b) (list_any-append (λ b. b == 13) lines.rest (13 ∷ first_lines 1 back) ∙ either (has_byte 13 lines.rest)) ∙ either (has_byte 13 whole)
-    where
-      either : (b : Bool) → (b || true) ≡ true
-      either true = refl
-      either false = refl
+  first_next : first_lines (count + 1) text ≡ whole ++ (lines.rest ++ first_lines 1 more)
+  first_next = ap (first_lines (count + 1)) whole_text ∙ lines.first 1 (lines.rest ++ more) ∙ ap (λ t. whole ++ t) (into_line lines.rest more 0 lines.endless)
 
-  -- the lines before its line are good
-  pub return_bad : (number : ℕ) → number ≡ count + 1 → is_packed_text kind whole ≡ true → HasBadRecord kind text number
-  return_bad number is good = record {
+  -- they are good, and with the next line they aren't
+  pub bad_after : (number : ℕ) → number ≡ count + 1 → is_packed_text kind whole ≡ true → is_packed_text kind (whole ++ (lines.rest ++ first_lines 1 more)) ≡ false → HasBadRecord kind text number
+  bad_after number is good bad = record {
     before = count;
     number_is = is;
     good = ap (is_packed_text kind) first_whole ∙ good;
-    bad = ap (λ n. is_packed_text kind (first_lines n text)) is ∙ returns_bad kind (first_lines (count + 1) text) last_has;
+    bad = ap (λ n. is_packed_text kind (first_lines n text)) is ∙ ap (is_packed_text kind) first_next ∙ bad;
   }
 
   few_first : (m : ℕ) → m ≤ count → first_lines m whole ≡ first_lines m text
@@ -154,3 +142,26 @@ module _ (kind : Kind) (text front back whole : Bytes) (count : ℕ) (cut : text
   pub fault_bad : (error : OpenError) → IsPackedFault kind whole error → IsPackedFault kind text error
   fault_bad (BadPacked number) fault = line_bad number fault
   fault_bad _ fault = fault
+
+-- ---- a text with a carriage return
+
+-- no text that has one is a file of packed names
+returns_bad : (kind : Kind) (text : Bytes) → has_byte 13 text ≡ true → is_packed_text kind text ≡ false
+returns_bad kind text has = go (packed_records kind text) refl
+  where
+    go : (o : Option (List Record)) → packed_records kind text ≡ o → is_packed_text kind text ≡ false
+    go None is = text_none kind [] text is
+    go (Some records) is = text_by kind [] records text is ∙ ap (λ b. not b && are_good_names (says_sorted text) (record_names records)) has
+
+-- the lines before its line are good
+pub return_bad : (kind : Kind) (text front back whole : Bytes) (count : ℕ) → text ≡ front ++ 13 ∷ back → AreLinesOf front whole count → (number : ℕ) → number ≡ count + 1 → is_packed_text kind whole ≡ true → HasBadRecord kind text number
+return_bad kind text front back whole count cut lines number is good = bad_after kind text front (13 ∷ back) whole count cut lines number is good (returns_bad kind (whole ++ (lines.rest ++ first_lines 1 (13 ∷ back))) has)
+  where
+    either : (b : Bool) → (b || true) ≡ true
+    either true = refl
+    either false = refl
+
+    has : has_byte 13 (whole ++ (lines.rest ++ 13 ∷ first_lines 1 back)) ≡ true
+    has =
+        list_any-append (λ b. b == 13) whole (lines.rest ++ 13 ∷ first_lines 1 back)
+        ∙ ap (λ b. has_byte 13 whole || b) (list_any-append (λ b. b == 13) lines.rest (13 ∷ first_lines 1 back) ∙ either (has_byte 13 lines.rest)) ∙ either (has_byte 13 whole)

@@ -90,7 +90,7 @@ by_rules name = is_partial_name name && begins refs_front name && is_utf8 name
 long_name : (name : Bytes) → max_name < length name → is_name name ≡ false
 long_name name long = ap (λ b. by_rules name && b) (too_many (length name) max_name long) ∙ no (by_rules name)
 
-name_short : (name : Bytes) → is_name name ≡ true → length name ≤ max_name
+pub name_short : (name : Bytes) → is_name name ≡ true → length name ≤ max_name
 name_short name named = leb-true (length name) max_name (and_parts (by_rules name) (nat_le (length name) max_name) named).1
 
 -- ---- a name's file
@@ -99,7 +99,7 @@ long_id : (kind : Kind) (digits : Bytes) → 64 < length digits → (length digi
 long_id Sha1 digits long = apart (length digits) 40 (omega (arith, long))
 long_id Sha256 digits long = apart (length digits) 64 long
 
-no_id : (kind : Kind) (digits : Bytes) → 64 < length digits → id_from_hex kind digits ≡ None
+pub no_id : (kind : Kind) (digits : Bytes) → 64 < length digits → id_from_hex kind digits ≡ None
 no_id kind digits long = missed _ (length digits == hex_len kind) (long_id kind digits long)
   where
     missed : (o : Option Id) (b : Bool) → b ≡ false → cond b o None ≡ None

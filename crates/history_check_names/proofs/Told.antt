@@ -19,7 +19,7 @@ use Rattle.history_check_names.specs.Causes.{HasCause, IsCollision, IsCollisionO
 use Rattle.history_check_names.specs.Logs.{HasFault, SpellsLog}
 use Rattle.history_check_names.specs.Sound.{IsApart, IsSoundFile}
 use Rattle.history_check_names.specs.Packed.{has_name, has_record, is_packed_text}
-use Rattle.history_check_names.specs.PackedRead.{IsPackedFault, ReadsPacked, names_in}
+use Rattle.history_check_names.specs.PackedRead.{IsPackedCause, IsPackedFault, ReadsPacked, names_in}
 use Rattle.history_check_names.specs.Stored.{is_of_wrong_kind, may_be_held}
 use Rattle.history_check_objects.specs.Stored.{Facts, kind_in}
 use Rattle.history_texts.specs.declared.open_error.NamedBy.TheVariants.{Name}
@@ -114,6 +114,12 @@ pub fault_cause : (A : Type 0) (kind : Kind) (facts : Facts) (tree : Tree) (erro
 fault_cause A kind facts tree (BadPacked number) h = h
 fault_cause A kind facts tree Memory h = tt
 fault_cause A kind facts tree _ h = absurd h
+
+pub long_cause : (A : Type 0) (kind : Kind) (facts : Facts) (tree : Tree) (error : OpenError) → IsPackedCause A kind (bytes_at tree packed_place) error → HasCause A kind facts tree error
+long_cause A kind facts tree (BadPacked number) h = h
+long_cause A kind facts tree File h = h
+long_cause A kind facts tree Memory h = tt
+long_cause A kind facts tree _ h = absurd h
 
 -- ---- names that collide
 

@@ -6,6 +6,8 @@ pub mod laws;
 mod log;
 mod loose;
 mod packed;
+mod packed_pieces;
+mod pieces;
 mod records;
 mod survey;
 

@@ -1,12 +1,13 @@
 //! Tests a log, read in pieces: each line is a move, with its two ids, actor and message, and not too long.
 
-ghost use Rattle.std.specs.Prelude.{◌≡◌, ◌<◌, ◌≤◌, ◌+◌, ◌++◌, ◌^◌, length, drop, min, true, IfErr, IfOk, IsErrOf, IsFalse, MatchOption, MatchResult};
+ghost use Rattle.std.specs.Prelude.{◌≡◌, ◌<◌, ◌≤◌, ◌+◌, ◌++◌, ◌^◌, length, drop, true, IfErr, IfOk, IsErrOf, IsFalse, MatchOption, MatchResult};
 ghost use Rattle.gix_ref_file.specs.Calls.{Finds};
-ghost use Rattle.gix_ref_file.specs.Tree.{bytes_at, part};
+ghost use Rattle.gix_ref_file.specs.Tree.{bytes_at};
 ghost use Rattle.gix_ref_file.specs.declared.files.FileError.TheVariants.{Failed};
 ghost use Rattle.history_model.specs.Bytes.{Bytes, has_byte};
-ghost use Rattle.history_check_names.specs.Logs.{AreParts, HasFault, IsEndless, IsFoundIn, IsLineFault, IsPiece, IsUncut, SpellsEntry, TellsIds, TellsLower, BeginsWithMoves, max_piece, parts_of};
+ghost use Rattle.history_check_names.specs.Logs.{AreParts, HasFault, IsEndless, IsFoundIn, IsLineFault, IsPiece, IsUncut, SpellsEntry, TellsIds, TellsLower, BeginsWithMoves, parts_of};
 
+use crate::pieces::piece_at;
 use gix_hash::Kind;
 use gix_object_lines::cut::split_once;
 use gix_ref_file::{FileError, Files};
@@ -17,9 +18,6 @@ use std::alloc::{AllocError, Global};
 
 /// The most bytes of a line that is read, with its line feed.
 const MAX_LOG_LINE: usize = 4_096;
-
-/// The most bytes of a log that are read at once, more than a line may have.
-const MAX_PIECE: u64 = 65_536;
 
 /// Why a log isn't read: a line that is no move's, or one that is too long, by its number, counted
 /// from 1; or no memory is left.
@@ -71,26 +69,6 @@ pub(crate) fn log_fault<F: Files>(
         }
     }
     Ok(None)
-}
-
-// Returns the bytes of a file from a position on, at most so many, and at most those of a piece.
-fn piece_at<F: Files>(
-    alloc: Global,
-    files: &F,
-    path: &[u8],
-    at: u64,
-    most: u64,
-) -> Result<Vec<u8>, FileError>
-    ensures bytes { Finds F.is_honest F.history files.now (λ tree. IfOk result
-        (λ piece. piece.items ≡ part (bytes_at tree path.now) at (min most max_piece))) }
-    ensures few { IfOk result (λ piece. length piece.items ≤ most) }
-    ensures failed { IsErrOf result Failed → F.reading_may_fail }
-{
-    let room = most.min(MAX_PIECE) as usize;
-    let mut piece = vec![in alloc; 0; room]?;
-    let count = files.read_at(path, at, &mut piece)?.unwrap_or(0);
-    piece.truncate(count);
-    Ok(piece)
 }
 
 // Tests the lines that end in a piece of a log: each is a move in the written form, within the

@@ -80,8 +80,8 @@ impl<'a> Packed<'a> {
     }
 }
 
-// Returns the lines that end in a text, and how many they are.
-fn whole_lines(text: &[u8]) -> (&[u8], usize)
+/// Returns the lines that end in a text, and how many they are.
+pub(crate) fn whole_lines(text: &[u8]) -> (&[u8], usize)
     ensures { AreLinesOf text.now result.0.now result.1 }
 {
     let mut rest = text;

@@ -1,8 +1,8 @@
 //! Surveys the names part: HEAD's branch, the text of `packed-refs`, and all folders and files.
 
-ghost use Rattle.std.specs.Prelude.{◌≡◌, IfErr, IfOk, OnOk};
+ghost use Rattle.std.specs.Prelude.{◌≡◌, option_map, IfErr, IfOk, OnOk};
 ghost use Rattle.gix_ref_file.specs.Tree.{bytes_at};
-ghost use Rattle.history_model.specs.Places.{packed_place};
+ghost use Rattle.history_model.specs.Places.{file_at, packed_place};
 ghost use Rattle.gix_ref_file.specs.Calls.{Finds};
 ghost use Rattle.history_model.specs.Forms.{is_branch};
 ghost use Rattle.history_model.specs.Repository.{Repository};
@@ -17,6 +17,7 @@ ghost use Rattle.history_check_objects.specs.Stored.{AreFactsOf, Facts, facts_in
 use crate::file::{file_len, test_file};
 use crate::loose::MAX_LOOSE;
 use crate::packed::Packed;
+use crate::packed_pieces::test_long;
 use crate::records::test_records;
 use gix_hash::Kind;
 use gix_ref_file::paths::{is_deeper, joined};
@@ -32,7 +33,8 @@ use std::alloc::Global;
 /// `packed-refs`, holds a stored commit or tag and is no folder of another; a record's peeled id is
 /// its tag's commit; each log is of a name and has only moves; and there is nothing else but folders
 /// of names and logs. A name's own file takes precedence over its record. No file is changed; each
-/// is read once, a long log in pieces, and each folder is listed once.
+/// is read once, a long log in pieces, and each folder is listed once. A long `packed-refs` is gone
+/// through in pieces first, and is read whole only if it may be one.
 ///
 /// Otherwise the error is a cause that holds of this part, none that only objects have. It is `File`
 /// if a call of the files failed, and `Memory` if no memory is left.
@@ -56,7 +58,7 @@ pub fn survey_names<F: Files>(
         (λ tree. StandsNames tree r → IfErr result IsOpenFault) }
 {
     let branch = head_branch(alloc, &*names)?;
-    let text = names.read_packed(alloc)?;
+    let text = packed_text(alloc, &*names)?;
     let bytes = text.as_deref().unwrap_or(b"");
     test_all(alloc, names.files(), names.kind(), stored, bytes)?;
     match names.keep_packed(alloc, text) {
@@ -87,6 +89,19 @@ fn head_branch<F: Files>(alloc: Global, names: &Names<F>) -> Result<Vec<u8>, Ope
         return Ok(branch);
     }
     Err(OpenError::BadHead)
+}
+
+// Returns the text of `packed-refs`, if there is one. It is read whole only if it may be a file of
+// packed names.
+fn packed_text<F: Files>(alloc: Global, names: &Names<F>) -> Result<Option<Vec<u8>>, OpenError>
+    ensures found { Finds F.is_honest F.history (files_of_names names.now) (λ tree. IfOk result
+        (λ text. option_map (λ text. text.items) text ≡ file_at tree packed_place)) }
+    ensures wrong { (facts : Facts) → Finds F.is_honest F.history (files_of_names names.now)
+        (λ tree. IfErr result
+        (HasCause F.reading_may_fail (kind_of_names names.now) facts tree)) }
+{
+    test_long(alloc, names.files(), names.kind())?;
+    Ok(names.read_packed(alloc)?)
 }
 
 // Returns whether it is a branch's name.

@@ -63,8 +63,8 @@ fn write_records(alloc: Global, names: &mut MemoryFiles) -> Result<(), Fail> {
     Ok(())
 }
 
-// An opening lists the folder and sees what `packed-refs` is, and reads it once.
-const OF_AN_OPENING: u64 = 2;
+// An opening sees how long `packed-refs` is, reads it once, lists the folder and sees what it is.
+const OF_AN_OPENING: u64 = 3;
 
 #[test]
 fn an_opening_alone_reads_records(rt: HostRuntime) -> Result<(), Fail> {

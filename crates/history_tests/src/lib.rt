@@ -20,6 +20,8 @@ mod names;
 #[cfg(test)]
 mod opened;
 #[cfg(test)]
+mod packed;
+#[cfg(test)]
 mod readings;
 #[cfg(test)]
 mod rounds;

@@ -35,6 +35,19 @@ returns-in_err-branch-clause-accepted g c = λ r same are honest stands.
     let p = err_from_is_err_and c.from_residual.result c.from_residual.ensures.1 in
     rw (p.1, p.2) (fault_alone g.F.Files.reading_may_fail c.args.names.now.kind facts tree r c.in_err-branch.field-0.0 same are stands (c.in_err-branch.ensures.wrong facts honest))
 
+pub returns-in_err-text-clause-wrong : goal.returns-in_err-text-clause-wrong
+returns-in_err-text-clause-wrong g c = λ honest.
+    let facts = facts_in c.args.stored.now in
+    let p = err_from_is_err_and c.from_residual-in_err-text.result c.from_residual-in_err-text.ensures.1 in
+    rw (p.1, p.2) (c.in_err-text.ensures.wrong facts honest)
+
+pub returns-in_err-text-clause-accepted : goal.returns-in_err-text-clause-accepted
+returns-in_err-text-clause-accepted g c = λ r same are honest stands.
+    let tree = (g.F.Files.history c.args.names.now.store.files).tree in
+    let facts = facts_in c.args.stored.now in
+    let p = err_from_is_err_and c.from_residual-in_err-text.result c.from_residual-in_err-text.ensures.1 in
+    rw (p.1, p.2) (fault_alone g.F.Files.reading_may_fail c.args.names.now.kind facts tree r c.in_err-text.field-0.0 same are stands (c.in_err-text.ensures.wrong facts honest))
+
 pub returns-in_err-test_all-clause-accepted : goal.returns-in_err-test_all-clause-accepted
 returns-in_err-test_all-clause-accepted g c = λ r same are honest stands.
     let tree = (g.F.Files.history c.args.names.now.store.files).tree in
