@@ -9,6 +9,7 @@ pub mod Listings
 pub mod Nexts
 pub mod Paths
 pub mod Placed
+pub mod SeenFolders
 pub mod Steps
 pub mod Texts
 pub mod Turns

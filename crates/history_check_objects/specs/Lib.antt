@@ -1,4 +1,5 @@
 pub mod Flaws
+pub mod Folders
 pub mod Links
 pub mod Listing
 pub mod Nexts

@@ -9,4 +9,4 @@ mod stored;
 mod whole;
 
 pub use stored::Stored;
-pub use whole::whole_objects;
+pub use whole::{WholeObjects, whole_objects};

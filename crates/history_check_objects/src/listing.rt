@@ -1,9 +1,10 @@
-//! Lists the ids of a part's objects by the paths of its files, of which any other is stray or unfinished.
+//! Lists the ids of a part's objects by the paths of its files, of which any other is stray or unfinished, and its folders.
 ghost use Rattle.std.specs.Prelude.{◌≡◌, ◌≢◌, IfErr, IfOk, IsTrue, MatchOption, OnOk};
 ghost use Rattle.gix_hash.specs.Id.{Id, id_of};
 ghost use Rattle.history_model.specs.Forms.{is_id};
 ghost use Rattle.history_model.specs.Places.{object_place};
 ghost use Rattle.history_check_objects.specs.Flaws.{IsObjectsFlaw};
+ghost use Rattle.history_check_objects.specs.Folders.{HasFolders};
 ghost use Rattle.history_check_objects.specs.Listing.{Gathers, IsNoPlace};
 ghost use Rattle.history_check_objects.specs.Surveying.{AreListed};
 
@@ -12,36 +13,51 @@ use gix_ref_file::paths::{is_deeper, joined};
 use gix_ref_file::{Files, Place};
 use history_texts::{OpenError, Part, UNFINISHED, object_place, parse_lower_hex};
 use std::alloc::{AllocError, Global};
+use std::collections::BTreeSet;
 
-/// Returns the ids whose places have files. Otherwise the error is `Stray` for another file or a
+/// What a part has: the ids whose places have files, and the folders that they are in.
+#[derive(Drop)]
+pub(crate) struct Listed {
+    pub(crate) ids: Vec<ObjectId>,
+    pub(crate) folders: BTreeSet<Vec<u8>>,
+}
+
+/// Returns the ids whose places have files, and the folders of the part. Otherwise the error is `Stray` for another file or a
 /// folder that isn't one of objects, `Unfinished` for the unfinished file, `File` if a call of the
 /// files failed, or `Memory` if no memory is left.
 pub(crate) fn list_objects<F: Files>(
     alloc: Global,
     files: &F,
     kind: Kind,
-) -> Result<Vec<ObjectId>, OpenError>
+) -> Result<Listed, OpenError>
     ensures listed { F.is_honest files.now
-        → IfOk result (λ ids. AreListed kind (F.history files.now).tree ids.items) }
+        → IfOk result (λ listed. AreListed kind (F.history files.now).tree listed.ids.items) }
+    ensures folders { F.is_honest files.now
+        → IfOk result (λ listed. HasFolders (F.history files.now).tree listed.folders) }
     ensures flaw { F.is_honest files.now
         → IfErr result (IsObjectsFlaw F.reading_may_fail kind (F.history files.now).tree) }
 {
     let mut ids = Vec::new(alloc);
-    gather(alloc, files, kind, b"", &mut ids)?;
-    Ok(ids)
+    let mut folders = BTreeSet::new(alloc);
+    gather(alloc, files, kind, b"", &mut ids, &mut folders)?;
+    Ok(Listed { ids, folders })
 }
 
-// Adds the ids whose places have files below a folder. The errors are those of `list_objects`.
+// Adds the ids whose places have files below a folder, and the folders there. The errors are those
+// of `list_objects`.
 fn gather<F: Files>(
     alloc: Global,
     files: &F,
     kind: Kind,
     folder: &[u8],
     ids: &mut Vec<ObjectId>,
+    folders: &mut BTreeSet<Vec<u8>>,
 ) -> Result<(), OpenError>
     ensures gathered { F.is_honest files.now
         → OnOk result (Gathers kind (F.history files.now).tree folder.now ids.old.items
         ids.new.items) }
+    ensures folders { F.is_honest files.now → HasFolders (F.history files.now).tree folders.old
+        → OnOk result (HasFolders (F.history files.now).tree folders.new) }
     ensures flaw { F.is_honest files.now
         → IfErr result (IsObjectsFlaw F.reading_may_fail kind (F.history files.now).tree) }
 {
@@ -49,7 +65,8 @@ fn gather<F: Files>(
         let path = joined(alloc, folder, name)?;
         match files.kind_of(&path)? {
             Place::Folder if Part::Objects.may_hold_folder(&path) && is_deeper(&path, folder) => {
-                gather(alloc, files, kind, &path, ids)?;
+                gather(alloc, files, kind, &path, ids, folders)?;
+                folders.insert(path)?;
             }
             Place::Folder => return Err(OpenError::Stray(path)),
             // A name that is gone: the folder changed while it was read.

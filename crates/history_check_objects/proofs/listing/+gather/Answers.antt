@@ -7,13 +7,18 @@ use Rattle.gix_ref_file.proofs.Listings.{map_length}
 use Rattle.history_model.specs.Places.{is_object_folder}
 use Rattle.gix_ref_way.proofs.Surveys.{is_listed, not_absent, is_deep}
 use Rattle.history_check_objects.specs.Flaws.{IsObjectsFlaw}
+use Rattle.history_check_objects.specs.Folders.{HasFolders}
 use Rattle.history_check_objects.specs.Listing.{Gathers}
 use Rattle.history_check_objects.proofs.Listings.{GathersSome, all_gathered, file_more, folder_is_stray, folder_more, no_place, none_yet, told}
+use Rattle.history_check_objects.proofs.SeenFolders.{one_seen}
 use Rattle.history_check_objects.proofs.listing.+gather.Goals as goal
-use Rattle.history_check_objects.proofs.listing.+gather.Goals.{then-may_hold_folder+else-is_deeper, else-may_hold_folder, in-Folder+in_ok-gather-in-Folder, in-File+in_ok-id-in-File+in_ok-push-in-File}
+use Rattle.history_check_objects.proofs.listing.+gather.Goals.{then-may_hold_folder+else-is_deeper, else-may_hold_folder, in-Folder+in_ok-gather-in-Folder+in_ok-insert-in-Folder, in-File+in_ok-id-in-File+in_ok-push-in-File}
 
 pub loop-name-init : goal.loop-name-init
-loop-name-init g t c = λ honest. none_yet c.args.kind (g.F.Files.history c.args.files.now).tree c.args.folder.now c.args.ids.now.items _
+loop-name-init g t c = record {
+  gathered = λ honest. none_yet c.args.kind (g.F.Files.history c.args.files.now).tree c.args.folder.now c.args.ids.now.items _;
+  folders = λ honest has. has;
+}
 
 pub returns-in_err-id-in-File-clause-flaw : goal.returns-in_err-id-in-File-clause-flaw
 returns-in_err-id-in-File-clause-flaw g t c = λ honest.
@@ -45,30 +50,44 @@ returns-in-Absent-clause-flaw g t c = λ honest.
     absurd (not_absent tree c.in_ok-path.path.items l.is_path l.there (ap (λ p. place_of (node_at tree p)) (sym c.deref-in-loop-name.ensures.value) ∙ sym (c.in_ok-kind_of.ensures.place honest) ∙ c.in-Absent.is))
 
 pub loop-name-preserved : goal.loop-name-preserved
-loop-name-preserved g t c = λ honest.
-    let tree = (g.F.Files.history c.args.files.now).tree in
-    let rooted = g.met.F.Files.rooted c.args.files.now honest in
-    let listed = map (λ (name : Vec ℕ Global). name.items) c.deref-name-items.result.now in
-    let names = ap (map (λ (name : Vec ℕ Global). name.items)) c.deref-name-items.ensures.value ∙ c.in_ok-list.ensures.names honest in
-    let l = is_listed tree c.args.folder.now c.deref-name-items.result.now c.loop-name.name-index c.name-item.result c.in_ok-path.path.items c.deref.result.now rooted names c.loop-name-test.true c.name-item.is c.deref.ensures.value c.in_ok-path.ensures in
-    let place = ap (λ p. place_of (node_at tree p)) (sym c.deref-in-loop-name.ensures.value) ∙ sym (c.in_ok-kind_of.ensures.place honest) in
-    let path = c.in_ok-path.path.items in
-    elim c.match-branch-4.branch [
-      | in-Folder+in_ok-gather-in-Folder w ↦
-          let may : is_object_folder path ≡ true = search rules in
-          let opened : w.deref-in-Folder.result.now ≡ path = w.deref-in-Folder.ensures.value in
-          let below = subst (λ p. Gathers c.args.kind tree p c.loop-name.ids.items w.gather.new.ids.items) opened (w.in_ok-gather-in-Folder.ensures.gathered honest) in
-          subst (λ (ids : Vec ObjectId Global). GathersSome c.args.kind tree c.args.folder.now c.args.ids.now.items ids.items listed (c.loop-name.name-index + 1)) (sym w.ids-is)
-          (folder_more c.args.kind tree rooted c.args.folder.now c.args.ids.now.items c.loop-name.ids.items listed c.loop-name.name-index (c.loop-name.invariant honest) path l.at l.is_path w.gather.new.ids.items (place ∙ w.in-Folder.is) may below)
-      | in-File+in_ok-id-in-File+in_ok-push-in-File w ↦
-          let pushed : c.match-branch-4.ids.items ≡ c.loop-name.ids.items ++ w.in_ok-id-in-File.id ∷ [] = search rules in
-          subst (λ (ids : List ObjectId). GathersSome c.args.kind tree c.args.folder.now c.args.ids.now.items ids listed (c.loop-name.name-index + 1)) (sym pushed)
-          (file_more c.args.kind tree rooted c.args.folder.now c.args.ids.now.items c.loop-name.ids.items listed c.loop-name.name-index (c.loop-name.invariant honest) path l.at l.is_path _ w.in_ok-id-in-File.id (place ∙ w.in-File.is)
-          w.in_ok-id-in-File.ensures.placed.0 w.in_ok-id-in-File.ensures.placed.1)
-    ]
+loop-name-preserved g t c = record {
+  gathered = λ honest.
+      let tree = (g.F.Files.history c.args.files.now).tree in
+      let rooted = g.met.F.Files.rooted c.args.files.now honest in
+      let listed = map (λ (name : Vec ℕ Global). name.items) c.deref-name-items.result.now in
+      let names = ap (map (λ (name : Vec ℕ Global). name.items)) c.deref-name-items.ensures.value ∙ c.in_ok-list.ensures.names honest in
+      let l = is_listed tree c.args.folder.now c.deref-name-items.result.now c.loop-name.name-index c.name-item.result c.in_ok-path.path.items c.deref.result.now rooted names c.loop-name-test.true c.name-item.is c.deref.ensures.value c.in_ok-path.ensures in
+      let place = ap (λ p. place_of (node_at tree p)) (sym c.deref-in-loop-name.ensures.value) ∙ sym (c.in_ok-kind_of.ensures.place honest) in
+      let path = c.in_ok-path.path.items in
+      elim c.match-branch-4.branch [
+        | in-Folder+in_ok-gather-in-Folder+in_ok-insert-in-Folder w ↦
+            let may : is_object_folder path ≡ true = search rules in
+            let opened : w.deref-in-Folder.result.now ≡ path = w.deref-in-Folder.ensures.value in
+            let below = subst (λ p. Gathers c.args.kind tree p c.loop-name.ids.items w.gather.new.ids.items) opened (w.in_ok-gather-in-Folder.ensures.gathered honest) in
+            subst (λ (ids : Vec ObjectId Global). GathersSome c.args.kind tree c.args.folder.now c.args.ids.now.items ids.items listed (c.loop-name.name-index + 1)) (sym w.ids-is)
+            (folder_more c.args.kind tree rooted c.args.folder.now c.args.ids.now.items c.loop-name.ids.items listed c.loop-name.name-index (c.loop-name.invariant.gathered honest) path l.at l.is_path w.gather.new.ids.items (place ∙ w.in-Folder.is) may below)
+        | in-File+in_ok-id-in-File+in_ok-push-in-File w ↦
+            let pushed : c.match-branch-4.ids.items ≡ c.loop-name.ids.items ++ w.in_ok-id-in-File.id ∷ [] = search rules in
+            subst (λ (ids : List ObjectId). GathersSome c.args.kind tree c.args.folder.now c.args.ids.now.items ids listed (c.loop-name.name-index + 1)) (sym pushed)
+            (file_more c.args.kind tree rooted c.args.folder.now c.args.ids.now.items c.loop-name.ids.items listed c.loop-name.name-index (c.loop-name.invariant.gathered honest) path l.at l.is_path _ w.in_ok-id-in-File.id (place ∙ w.in-File.is)
+            w.in_ok-id-in-File.ensures.placed.0 w.in_ok-id-in-File.ensures.placed.1)
+      ];
+  folders = λ honest has.
+      let tree = (g.F.Files.history c.args.files.now).tree in
+      let place = ap (λ p. place_of (node_at tree p)) (sym c.deref-in-loop-name.ensures.value) ∙ sym (c.in_ok-kind_of.ensures.place honest) in
+      elim c.match-branch-4.branch [
+        | in-Folder+in_ok-gather-in-Folder+in_ok-insert-in-Folder w ↦
+            subst (HasFolders tree) (sym w.folders-is)
+            (one_seen tree _ _ c.in_ok-path.path _ w.in_ok-insert-in-Folder.ensures.keys (place ∙ w.in-Folder.is) (w.in_ok-gather-in-Folder.ensures.folders honest (c.loop-name.invariant.folders honest has)))
+        | in-File+in_ok-id-in-File+in_ok-push-in-File w ↦ subst (HasFolders tree) (sym w.folders-is) (c.loop-name.invariant.folders honest has)
+      ];
+}
 
 pub returns-clause-gathered : goal.returns-clause-gathered
 returns-clause-gathered g t c = λ honest.
     let names = ap (map (λ (name : Vec ℕ Global). name.items)) c.deref-name-items.ensures.value ∙ c.in_ok-list.ensures.names honest in
-    all_gathered c.args.kind (g.F.Files.history c.args.files.now).tree (g.met.F.Files.rooted c.args.files.now honest) c.args.folder.now c.args.ids.now.items c.loop-name.ids.items _ c.loop-name.name-index (c.loop-name.invariant honest)
+    all_gathered c.args.kind (g.F.Files.history c.args.files.now).tree (g.met.F.Files.rooted c.args.files.now honest) c.args.folder.now c.args.ids.now.items c.loop-name.ids.items _ c.loop-name.name-index (c.loop-name.invariant.gathered honest)
     (omega (arith, c.loop-name-test.false, map_length c.deref-name-items.result.now)) names
+
+pub returns-clause-folders : goal.returns-clause-folders
+returns-clause-folders g t c = λ honest has. c.loop-name.invariant.folders honest has
