@@ -11,12 +11,12 @@ use Rattle.gix_hash.specs.Views.{IsBytesOf}
 use Rattle.gix_hash.proofs.ByteLists.{id-digits_len}
 use Rattle.gix_hash.proofs.KindLemmas.{hex_len-byte_len}
 use Rattle.gix_hash.specs.declared.object_id.ObjectId.{ObjectId}
-use Rattle.history_model.proofs.IdLemmas.{id_itself, one_id}
+use Rattle.history_model.proofs.IdLemmas.{one_id}
 use Rattle.std.specs.Prelude.{Result, Ok, Err, is_ok}
 use Rattle.std.specs.FinMap.{contains_key}
 use Rattle.std.specs.List.Sorted.{IsBinarySearchResult, IsNonDecreasingBy, IsSearchInRange}
 use Rattle.std.specs.Ordering.{ordering_index}
-use Rattle.history_store.specs.Ids.{HasBeside, are_lists, belongs_to, is_list_of, is_whole, joined, set_of, with_id}
+use Rattle.history_store.specs.Ids.{are_lists, belongs_to, is_list_of, is_whole, joined, set_of, with_id}
 use Rattle.history_texts.specs.IdLists.{is_one_of}
 use Rattle.history_store.proofs.IdSets.{by_own_id, contains-set_of, has_with, insert_in_order, none_here, one_here, one_of_both, one_of_insert, one_set, or_false, or_group, or_swap, rising, AreInOrder, BelongsAt}
 use Rattle.std.proofs.lemmas.Bool.{and_from, and_parts}
@@ -181,19 +181,6 @@ module _ (lists : List (Vec ObjectId Global)) (are : are_lists 0 lists ≡ true)
   contains_found r inside position b told =
       told ∙ found ids id r (and_parts _ _ of_byte).1 inside position ∙ ap (λ xs. is_one_of xs (id_of id)) own_ids
       ∙ sym (own_list lists are byte list within (id_of id) begins) ∙ sym (contains-set_of (joined lists) (id_of id))
-
-  -- an id has the same first byte if the list isn't empty, and only then
-  pub beside_one : (first : ObjectId) (rest : List ObjectId) → ids ≡ first ∷ rest → HasBeside (set_of (joined lists)) (id_of id)
-  beside_one first rest one =
-      let own : is_list_of byte (first ∷ rest) ≡ true = subst (λ xs. is_list_of byte xs ≡ true) one of_byte in
-      let told = told_byte byte first (and_parts _ _ (and_parts _ _ own).0).0 in
-      let here : is_one_of ids (id_of first) ≡ true = ap (λ xs. is_one_of xs (id_of first)) one ∙ ap (λ b. b || is_one_of rest (id_of first)) (id_itself (id_of first)) in
-      (id_of first, contains-set_of (joined lists) (id_of first) ∙ own_list lists are byte list within (id_of first) (sym told) ∙ ap (λ xs. is_one_of xs (id_of first)) (sym own_ids) ∙ here, told ∙ begins)
-
-  pub beside_none : ids ≡ [] → HasBeside (set_of (joined lists)) (id_of id) → ⊥
-  beside_none none (other, has, same) =
-      let wrong : true ≡ false = sym has ∙ contains-set_of (joined lists) other ∙ own_list lists are byte list within other (begins ∙ sym same) ∙ ap (λ xs. is_one_of xs other) (sym own_ids ∙ none) in
-      absurd (cc wrong)
 
   pub listed_again : (r : Result ℕ ℕ) → IsSearchInRange r (length ids) → IsBinarySearchResult (λ y. by_own_id y id) ids r → is_ok r ≡ true → (new : Vec ObjectId Global) → new ≡ list
       → set_of (joined (slice_set lists byte new)) ≡ with_id (set_of (joined lists)) (id_of id)

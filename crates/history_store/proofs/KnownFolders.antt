@@ -1,105 +1,56 @@
--- The folders of a known object exist, and an id with the same first byte has its file in them.
-use Rattle.std.proofs.Common.{◌≡◌, ◌⊎◌, inl, inr, refl, sym, ◌∙◌, ap, false, ◌∷◌, ◌++◌, [], take, drop, Option, Some, None}
-use Rattle.std.specs.Prelude.{IsTrue, IsSome, codes}
-use Rattle.gix_hash.specs.Id.{Id}
-use Rattle.gix_hash.specs.Spelling.{hex_text}
-use Rattle.gix_hash.specs.declared.kind.Kind.{Kind}
-use Rattle.gix_ref_file.specs.Tree.{Tree, Node, bytes_of, is_folder, node_at, parent, IsRooted}
-use Rattle.gix_ref_way.specs.Ways.{HasFoldersAbove, IsAbove}
-use Rattle.gix_ref_way.proofs.Upward.{all_above}
-use Rattle.history_model.specs.Bytes.{Bytes, has_byte}
-use Rattle.history_model.specs.Forms.{is_id}
-use Rattle.history_model.specs.Objects.{hex}
-use Rattle.history_model.specs.Places.{file_at, object_place}
-use Rattle.history_texts.proofs.FirstParts.{Behind, behind, none_above}
-use Rattle.history_store.proofs.FolderPlaces.{hex_lower, no_slash_lower}
-use Rattle.history_store.proofs.ObjectParts.{lower_parts}
+-- Folders that are known to exist: a known path is one, and so are the folders of a place whose own folder is; all are still there
+-- after what keeps folders.
+use Rattle.std.proofs.Common.{◌≡◌, ◌⊎◌, inl, inr, refl, sym, ◌∙◌, ap, subst, Bool, true, false, ◌||◌, List, [], ◌∷◌, Vec, ℕ}
+use Rattle.std.specs.Prelude.{IsTrue}
+use Rattle.std.specs.BTreeSet.{BTreeSet, contains_by}
+use Rattle.std.specs.List.{AllByRecursion, list_any}
+use Rattle.std.specs.Ordering.{is_eq}
+use Rattle.std.specs.declared.alloc.Global.{Global}
+use Rattle.gix_ref_file.specs.History.{History, Adds}
+use Rattle.gix_ref_file.specs.Tree.{Tree, is_folder, node_at, parent, path_cmp}
+use Rattle.gix_ref_file.proofs.Rooted.{adds_now}
+use Rattle.gix_ref_file.proofs.Trees.{one_path}
+use Rattle.gix_ref_way.specs.Ways.{HasFoldersAbove, IsAbove, KeepsFolders}
+use Rattle.history_model.specs.Bytes.{Bytes}
+use Rattle.history_check_objects.specs.Folders.{HasFolders}
 use Rattle.history_store.proofs.OwnFolders.{own_folder}
 
--- ---- what is above an object's place
+-- ---- folders of a tree
+module _ (tree : Tree) where
+  abbrev IsOne : Vec ℕ Global → Type 0
+  IsOne path = IsTrue (is_folder (node_at tree path.items))
 
-module _ (kind : Kind) (id : Id) (is : IsTrue (is_id kind id)) where
-  abbrev two : Bytes
-  two = take 2 (hex id)
-
-  abbrev others : Bytes
-  others = drop 2 (hex id)
-
-  clear_two : has_byte 47 two ≡ false
-  clear_two = no_slash_lower two (lower_parts (hex id) (hex_lower kind id is)).0
-
-  clear_others : has_byte 47 others ≡ false
-  clear_others = no_slash_lower others (lower_parts (hex id) (hex_lower kind id is)).1
-
-  -- it is the folder of all objects or the object's own
-  above_place : (place : Bytes) → IsAbove place (object_place id) → (place ≡ codes "objects") ⊎ (place ≡ codes "objects/" ++ two)
-  above_place place (rest, at) = first (behind (codes "objects") (two ++ 47 ∷ others) place rest refl at)
+  pub known_is_folder : (folders : BTreeSet (Vec ℕ Global)) (path : Bytes) → IsTrue (contains_by (λ (own : Vec ℕ Global). path_cmp path own.items) folders) → HasFolders tree folders → IsTrue (is_folder (node_at tree path))
+  known_is_folder folders path has exist = among folders.keys has exist
     where
-      second : (inner : Bytes) → place ≡ codes "objects/" ++ inner → Behind two others inner rest → (place ≡ codes "objects") ⊎ (place ≡ codes "objects/" ++ two)
-      second inner same (inl own) = inr (same ∙ ap (λ p. codes "objects/" ++ p) own)
-      second inner same (inr (deeper, own, left)) = absurd (none_above others deeper rest clear_others left)
+      among : (keys : List (Vec ℕ Global)) → IsTrue (list_any (λ (own : Vec ℕ Global). is_eq (path_cmp path own.items)) keys) → AllByRecursion IsOne keys → IsTrue (is_folder (node_at tree path))
+      among [] has all = absurd (cc has)
+      among (own ∷ keys) has all = by_first (is_eq (path_cmp path own.items)) refl has (λ rest. among keys rest all.1)
+        where
+          by_first : (b : Bool) → is_eq (path_cmp path own.items) ≡ b → IsTrue (b || list_any (λ (other : Vec ℕ Global). is_eq (path_cmp path other.items)) keys)
+              → (IsTrue (list_any (λ (other : Vec ℕ Global). is_eq (path_cmp path other.items)) keys) → IsTrue (is_folder (node_at tree path))) → IsTrue (is_folder (node_at tree path))
+          by_first true same has further = ap (λ p. is_folder (node_at tree p)) (one_path path own.items same) ∙ all.0
+          by_first false other has further = further has
 
-      first : Behind (codes "objects") (two ++ 47 ∷ others) place rest → (place ≡ codes "objects") ⊎ (place ≡ codes "objects/" ++ two)
-      first (inl same) = inl same
-      first (inr (inner, same, left)) = second inner same (behind two others inner rest clear_two left)
+  pub same_folders : (old new : BTreeSet (Vec ℕ Global)) → new.keys ≡ old.keys → HasFolders tree old → HasFolders tree new
+  same_folders old new same has = subst (AllByRecursion IsOne) (sym same) has
 
-  -- above one of these is the folder of all objects alone
-  above_folder : (outer own : Bytes) → IsAbove outer own → (own ≡ codes "objects") ⊎ (own ≡ codes "objects/" ++ two) → outer ≡ codes "objects"
-  above_folder outer own (rest, at) (inl root) = absurd (none_above (codes "objects") outer rest refl (sym root ∙ at))
-  above_folder outer own (rest, at) (inr inner) = first (behind (codes "objects") two outer rest refl (sym inner ∙ at))
+  -- the folder that a place is in
+  pub own_is_folder : (place : Bytes) → HasFoldersAbove place tree → IsTrue (is_folder (node_at tree (parent place)))
+  own_is_folder place above = by_case (own_folder place (parent place) refl)
     where
-      first : Behind (codes "objects") two outer rest → outer ≡ codes "objects"
-      first (inl same) = same
-      first (inr (deeper, same, left)) = absurd (none_above two deeper rest clear_two left)
+      by_case : (parent place ≡ []) ⊎ IsAbove (parent place) place → IsTrue (is_folder (node_at tree (parent place)))
+      by_case (inl root) = ap (λ p. is_folder (node_at tree p)) root
+      by_case (inr within) = above (parent place) within
 
-top_above : (id : Id) → IsAbove (codes "objects") (object_place id)
-top_above id = (take 2 (hex id) ++ 47 ∷ drop 2 (hex id), refl)
+-- ---- what keeps folders
+folders_stay : (old new : Tree) → KeepsFolders old new → (keys : List (Vec ℕ Global)) → AllByRecursion (IsOne old) keys → AllByRecursion (IsOne new) keys
+folders_stay old new keeps [] all = tt
+folders_stay old new keeps (path ∷ keys) all = (keeps path.items all.0, folders_stay old new keeps keys all.1)
 
-own_above : (id : Id) → IsAbove (codes "objects/" ++ take 2 (hex id)) (object_place id)
-own_above id = (drop 2 (hex id), refl)
-
-two_same : (id other : Id) → take 2 other.digits ≡ take 2 id.digits → take 2 (hex other) ≡ take 2 (hex id)
-two_same id other same = text_same id.digits other.digits same
+pub folders_now : (old new : History) (folders : BTreeSet (Vec ℕ Global)) → Adds (KeepsFolders old.tree) old new → HasFolders old.tree folders → HasFolders new.tree folders
+folders_now old new folders adds has = from_now (adds_now _ old new adds)
   where
-    text_same : (a b : Bytes) → take 2 b ≡ take 2 a → take 2 (hex_text b) ≡ take 2 (hex_text a)
-    text_same [] [] same = refl
-    text_same [] (y ∷ b) same = cc
-    text_same (x ∷ a) [] same = cc
-    text_same (x ∷ []) (y ∷ []) same = ap hex_text same
-    text_same (x ∷ []) (y ∷ z ∷ b) same = cc
-    text_same (x ∷ w ∷ a) (y ∷ []) same = cc
-    text_same (x ∷ w ∷ a) (y ∷ z ∷ b) same = ap hex_text same
-
--- ---- folders that exist
-
-module _ (tree : Tree) (rooted : IsRooted tree) (other : Id) (there : IsSome (file_at tree (object_place other))) where
-  all_there : HasFoldersAbove (object_place other) tree
-  all_there = all_above tree (object_place other) rooted (rooted (object_place other) (some (node_at tree (object_place other)) there)).1
-    where
-      some : (node : Option Node) → IsSome (bytes_of node) → IsSome node
-      some None is = cc
-      some (Some node) is = refl
-
-  pub top_there : (kind : Kind) (id : Id) → IsTrue (is_id kind id) → IsTrue (is_folder (node_at tree (parent (parent (object_place id)))))
-  top_there kind id is = by_own (own_folder (object_place id) (parent (object_place id)) refl)
-    where
-      is_root : (own : Bytes) → (own ≡ codes "objects") ⊎ (own ≡ codes "objects/" ++ take 2 (hex id)) → (parent own ≡ []) ⊎ IsAbove (parent own) own → IsTrue (is_folder (node_at tree (parent own)))
-      is_root own at (inl root) = ap (λ p. is_folder (node_at tree p)) root
-      is_root own at (inr above) = ap (λ p. is_folder (node_at tree p)) (above_folder kind id is (parent own) own above at) ∙ all_there (codes "objects") (top_above other)
-
-      by_own : (parent (object_place id) ≡ []) ⊎ IsAbove (parent (object_place id)) (object_place id) → IsTrue (is_folder (node_at tree (parent (parent (object_place id)))))
-      by_own (inl root) = ap (λ p. is_folder (node_at tree (parent p))) root
-      by_own (inr above) = is_root (parent (object_place id)) (above_place kind id is (parent (object_place id)) above) (own_folder (parent (object_place id)) (parent (parent (object_place id))) refl)
-
-  pub folder_there : (kind : Kind) (id : Id) → IsTrue (is_id kind id) → take 2 other.digits ≡ take 2 id.digits → IsTrue (is_folder (node_at tree (parent (object_place id))))
-  folder_there kind id is same = by_own (own_folder (object_place id) (parent (object_place id)) refl)
-    where
-      by_place : (own : Bytes) → (own ≡ codes "objects") ⊎ (own ≡ codes "objects/" ++ take 2 (hex id)) → IsTrue (is_folder (node_at tree own))
-      by_place own (inl root) = ap (λ p. is_folder (node_at tree p)) root ∙ all_there (codes "objects") (top_above other)
-      by_place own (inr inner) =
-          ap (λ p. is_folder (node_at tree p)) (inner ∙ ap (λ t. codes "objects/" ++ t) (sym (two_same id other same)))
-          ∙ all_there (codes "objects/" ++ take 2 (hex other)) (own_above other)
-
-      by_own : (parent (object_place id) ≡ []) ⊎ IsAbove (parent (object_place id)) (object_place id) → IsTrue (is_folder (node_at tree (parent (object_place id))))
-      by_own (inl root) = ap (λ p. is_folder (node_at tree p)) root
-      by_own (inr above) = by_place (parent (object_place id)) (above_place kind id is (parent (object_place id)) above)
+    from_now : (new.tree ≡ old.tree) ⊎ KeepsFolders old.tree new.tree → HasFolders new.tree folders
+    from_now (inl same) = subst (λ (tree : Tree). HasFolders tree folders) (sym same) has
+    from_now (inr keeps) = folders_stay old.tree new.tree keeps folders.keys has

@@ -43,6 +43,9 @@ module _ (tree : Tree) (place : Bytes) where
   pub top_seen : false ≡ is_file_at tree place → false ≡ is_folder (node_at tree (parent place)) → true ≡ is_folder (node_at tree (parent (parent place))) → Top ≡ seen_at tree place
   top_seen none missing there = λ i. seen_of (none i) (missing i) (there i)
 
+  pub nothing_seen : false ≡ is_file_at tree place → false ≡ is_folder (node_at tree (parent place)) → false ≡ is_folder (node_at tree (parent (parent place))) → Nothing ≡ seen_at tree place
+  nothing_seen none missing outer = λ i. seen_of (none i) (missing i) (outer i)
+
   pub no_top : Nothing ≡ seen_at tree place → false ≡ is_folder (node_at tree (parent (parent place)))
   no_top is = is_nothing _ _ _ is
 

@@ -58,11 +58,6 @@ joined lists = flat_map (λ list. list.items) lists
 abbrev pub AreOfKind : Kind → IdSet → Type 0
 AreOfKind kind ids = (id : Id) → IsTrue (contains_key ids id) → id.kind ≡ kind
 
--- an id of the set has the same first byte: its first two digits are the same
-abbrev pub HasBeside : IdSet → Id → Type 0
-HasBeside ids id =
-    (other : Id) × IsTrue (contains_key ids other) × (take 2 other.digits ≡ take 2 id.digits)
-
 -- the id comes before the other, if both are of one kind
 abbrev pub ComesBefore : ObjectId → ObjectId → Type 0
 ComesBefore id other =

@@ -1,15 +1,18 @@
-//! Makes the folder that an object's file is in, and those above it, if they are missing.
+//! Makes the folder that an object's file is in, and those above it, if they are missing, and notes which exist.
 ghost use Rattle.std.specs.Prelude.{◌≡◌, ◌≤◌, OnOk, IsErrOf};
 ghost use Rattle.gix_ref_file.specs.Calls.{Passes};
 ghost use Rattle.gix_ref_file.specs.History.{HasRisen};
+ghost use Rattle.gix_ref_file.specs.Tree.{IsRooted, Tree, parent};
 ghost use Rattle.gix_ref_file.specs.declared.files.FileError.TheVariants.{Failed, Memory};
-ghost use Rattle.gix_ref_way.specs.Ways.{SameFiles, FoldersAbove, NoFileAbove, HasFoldersAbove, KeepsFolders};
+ghost use Rattle.gix_ref_way.specs.Ways.{SameFiles, FoldersAbove, IsFolderAt, NoFileAbove, HasFoldersAbove, KeepsFolders};
+ghost use Rattle.history_check_objects.specs.Folders.{HasFolders};
 ghost use Rattle.history_store.specs.Seen.{seen_at};
 ghost use Rattle.history_store.specs.Stores.{IsObjectPlace};
 
 use gix_ref_file::paths::parent;
 use gix_ref_file::{FileError, Files};
-use std::alloc::Global;
+use std::alloc::{AllocError, Global};
+use std::collections::BTreeSet;
 
 /// What exists at an object's place, or of the two folders that it is in.
 #[derive(Clone, Copy, PartialEq, Eq, Debug)]
@@ -56,4 +59,34 @@ pub(crate) fn make_missing<F: Files>(
         Seen::Top => files.make_folder(alloc, folder),
         Seen::Folder | Seen::File => Ok(()),
     }
+}
+
+/// Notes that the two folders of an object's place exist. Fails only if memory runs out; the first
+/// may be noted then.
+pub(crate) fn note_folders(
+    alloc: Global,
+    folders: &mut BTreeSet<Vec<u8>>,
+    place: &[u8],
+) -> Result<(), AllocError>
+    ensures { (tree : Tree) → IsRooted tree → IsFolderAt (parent place.now) tree
+        → HasFolders tree folders.old → HasFolders tree folders.new }
+{
+    let folder = parent(place);
+    note_folder(alloc, folders, parent(folder))?;
+    note_folder(alloc, folders, folder)
+}
+
+// Notes that a folder exists. Fails only if memory runs out.
+fn note_folder(
+    alloc: Global,
+    folders: &mut BTreeSet<Vec<u8>>,
+    folder: &[u8],
+) -> Result<(), AllocError>
+    ensures { (tree : Tree) → IsFolderAt folder.now tree
+        → HasFolders tree folders.old → HasFolders tree folders.new }
+{
+    if !folders.contains(folder) {
+        folders.insert(folder.to_vec(alloc)?)?;
+    }
+    Ok(())
 }

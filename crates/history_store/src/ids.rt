@@ -20,10 +20,10 @@ pub struct Ids {
 }
 
 impl Ids {
-    ghost use Rattle.std.specs.Prelude.{◌≡◌, ◌≤◌, ◌↔◌, length, OnOk};
+    ghost use Rattle.std.specs.Prelude.{◌≡◌, ◌≤◌, length, OnOk};
     ghost use Rattle.std.specs.FinMap.{contains_key, empty, len};
     ghost use Rattle.gix_hash.specs.Id.{Id, id_of};
-    ghost use Rattle.history_store.specs.Ids.{AreOfKind, HasBeside, IsAscending, with_id};
+    ghost use Rattle.history_store.specs.Ids.{AreOfKind, IsAscending, with_id};
     ghost use Rattle.history_texts.specs.IdLists.{is_one_of};
     ghost use Rattle.history_store.specs.KeptIds.{HasRoom, kept, left};
     ghost use Rattle.history_store.specs.Prefixes.{CanName, IsHit};
@@ -80,16 +80,6 @@ impl Ids {
     {
         match self.lists.get(usize::from(id.first_byte())) {
             Some(list) => list.binary_search(id).is_ok(),
-            None => false,
-        }
-    }
-
-    /// Returns whether an id in the set has the same first byte.
-    pub fn has_beside(&self, id: &ObjectId) -> bool
-        ensures { IsTrue result ↔ HasBeside (kept self.now) (id_of id.now) }
-    {
-        match self.lists.get(usize::from(id.first_byte())) {
-            Some(list) => !list.as_slice().is_empty(),
             None => false,
         }
     }

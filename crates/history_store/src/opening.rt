@@ -1,18 +1,20 @@
 //! Opens a part that is whole as a store of objects, with what is known of them, or returns why it isn't.
 ghost use Rattle.std.specs.Prelude.{◌≡◌, IfErr, IfOk};
 ghost use Rattle.history_store.specs.ObjectsFace.{files_of_objects, ids_of_objects, kind_of_objects};
-ghost use Rattle.history_store.specs.KnownObjects.{HoldsKnown};
+ghost use Rattle.history_store.specs.KnownObjects.{HoldsKnown, KnownFoldersExist};
 ghost use Rattle.history_store.specs.Opened.{IsOpened, IsOpenedWith};
 ghost use Rattle.history_check_objects.specs.Flaws.{IsObjectsFlaw};
+ghost use Rattle.history_check_objects.specs.Folders.{HasFolders};
 ghost use Rattle.history_check_objects.specs.Stored.{facts_in};
 ghost use Rattle.history_check_objects.specs.Surveyed.{IsWholePart};
 
 use crate::objects::Objects;
 use gix_hash::Kind;
 use gix_ref_file::Files;
-use history_check_objects::{Stored, whole_objects};
+use history_check_objects::{Stored, WholeObjects, whole_objects};
 use history_texts::OpenError;
 use std::alloc::Global;
+use std::collections::BTreeSet;
 
 /// Objects that were opened, and what is known of them.
 #[derive(Drop)]
@@ -41,6 +43,8 @@ impl<F: Files> Objects<F> {
         ensures whole { F.is_honest files → IfOk result (λ objects.
             IsOpened kind (F.history files).tree (ids_of_objects objects)) }
         ensures holds { F.is_honest files → IfOk result (HoldsKnown F.is_honest F.history) }
+        ensures folders { F.is_honest files
+            → IfOk result (KnownFoldersExist F.is_honest F.history) }
         ensures flaw { F.is_honest files → IfErr result (λ refusal.
             IsObjectsFlaw F.reading_may_fail kind (F.history files).tree refusal.error) }
         ensures handed_back { IfErr result (λ refusal. refusal.files ≡ files) }
@@ -64,35 +68,41 @@ pub fn open_objects<F: Files>(
         (F.history files).tree (ids_of_objects opened.objects) (facts_in opened.stored)) }
     ensures holds { F.is_honest files → IfOk result (λ opened.
         HoldsKnown F.is_honest F.history opened.objects) }
+    ensures folders { F.is_honest files → IfOk result (λ opened.
+        KnownFoldersExist F.is_honest F.history opened.objects) }
     ensures flaw { F.is_honest files → IfErr result (λ refusal.
         IsObjectsFlaw F.reading_may_fail kind (F.history files).tree refusal.error) }
     ensures handed_back { IfErr result (λ refusal. refusal.files ≡ files) }
 {
     match whole_objects(alloc, &files, kind) {
-        Ok(stored) => open_stored(alloc, files, kind, stored),
+        Ok(WholeObjects { stored, folders }) => open_stored(alloc, files, kind, stored, folders),
         Err(error) => Err(ObjectsRefusal { error, files }),
     }
 }
 
-// Opens a part that holds these objects.
+// Opens a part that holds these objects and has these folders.
 fn open_stored<F: Files>(
     alloc: Global,
     files: F,
     kind: Kind,
     stored: Stored,
+    folders: BTreeSet<Vec<u8>>,
 ) -> Result<OpenedObjects<F>, ObjectsRefusal<F>>
-    requires { F.is_honest files → IsWholePart kind (F.history files).tree stored }
+    requires whole { F.is_honest files → IsWholePart kind (F.history files).tree stored }
+    requires folders { F.is_honest files → HasFolders (F.history files).tree folders }
     ensures files { IfOk result (λ opened. (files_of_objects opened.objects ≡ files)
         × (kind_of_objects opened.objects ≡ kind)) }
     ensures whole { F.is_honest files → IfOk result (λ opened. IsOpenedWith kind
         (F.history files).tree (ids_of_objects opened.objects) (facts_in opened.stored)) }
     ensures holds { F.is_honest files → IfOk result (λ opened.
         HoldsKnown F.is_honest F.history opened.objects) }
+    ensures folders { F.is_honest files → IfOk result (λ opened.
+        KnownFoldersExist F.is_honest F.history opened.objects) }
     ensures flaw { F.is_honest files → IfErr result (λ refusal.
         IsObjectsFlaw F.reading_may_fail kind (F.history files).tree refusal.error) }
     ensures handed_back { IfErr result (λ refusal. refusal.files ≡ files) }
 {
-    let mut objects = Objects::new(alloc, files, kind);
+    let mut objects = Objects::with_folders(alloc, files, kind, folders);
     match objects.know(alloc, &stored) {
         Ok(()) => Ok(OpenedObjects { objects, stored }),
         Err(_) => Err(ObjectsRefusal {

@@ -12,6 +12,7 @@ ids-init g c = record {
   finite = tt;
   files = refl;
   kind = refl;
+  folders = refl;
   known = λ id. ap (λ (ids : List ObjectId). contains_key (kept c.args.self.now.ids) id || is_one_of ids id) (c.into_iter-id-iterator.ensures.into_iter_gives ∙ c.ids-id-items.ensures);
 }
 
@@ -21,6 +22,7 @@ ids-preserved g c = record {
   finite = tt;
   files = c.ids.invariant.files;
   kind = c.ids.invariant.kind;
+  folders = c.ids.invariant.folders;
   known = λ id. one_known _ _ _ c.in-Some.id.now c.ids.id-iterator c.next.new.self c.in-Some.ensures.steps c.in_ok-make_room.ensures.ids c.insert.ensures id ∙ c.ids.invariant.known id;
 }
 

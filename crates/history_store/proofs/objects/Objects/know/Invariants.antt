@@ -13,5 +13,6 @@ invariant-ids g l = record {
   finite : (goal.iterator-ids g).is_finite l.id-iterator;
   files : l.self.files ≡ l.fn.self.files;
   kind : l.self.kind ≡ l.fn.self.kind;
+  folders : l.self.folders ≡ l.fn.self.folders;
   known : (id : Id) → (contains_key (kept l.self.ids) id || is_one_of l.id-iterator id) ≡ (contains_key (kept l.fn.self.ids) id || is_one_of (ids_in l.fn.stored) id);
 }

@@ -2,7 +2,6 @@ use Rattle.std.proofs.Common.{◌≡◌, ◌↔◌, IsTrue, ◌∙◌, ◌++◌,
 use denote.Enum.Bare.{sameb}
 use Rattle.std.proofs.lemmas.Bool.{false_from_ne_true}
 use Rattle.std.proofs.lemmas.Result.{err_from_is_err_and}
-use Rattle.std.specs.FinMap.{contains_key}
 use Rattle.gix_hash.specs.Id.{id_of}
 use Rattle.gix_object_lines.specs.Header.{header_text}
 use Rattle.gix_ref_file.specs.Changes.{is_file_at}
@@ -14,8 +13,7 @@ use Rattle.history_model.specs.Objects.{object_text}
 use Rattle.history_model.proofs.IdLemmas.{digest_is_id}
 use Rattle.history_model.proofs.RecoveredLemmas.{place_differs}
 use Rattle.history_store.specs.Calls.{KeepsHonesty, WritesObject}
-use Rattle.history_store.specs.Ids.{IdSet}
-use Rattle.history_store.specs.KnownObjects.{KnownExist}
+use Rattle.history_store.specs.KnownObjects.{KnownFoldersExist}
 use Rattle.history_store.specs.Stores.{IsObjectPlace, place_of, put_fault, text_of}
 use Rattle.history_store.specs.Seen.{seen_at}
 use Rattle.history_store.specs.declared.folders.Seen.{Seen}
@@ -168,18 +166,18 @@ returns-in_err-write-clause-refuses g c =
     (none_other tree c.deref.result.now _ _ (c.deref.ensures.value ∙ c.in_ok-place.ensures) (found_none c.in_ok-seen.seen c.eq.result c.eq.ensures c.if-eq.false _ _ (c.in_ok-seen.ensures.file honest))) taken))
 
 pub returns-in_err-write-clause-failed : goal.returns-in_err-write-clause-failed
-returns-in_err-write-clause-failed g c = λ exist part failed.
+returns-in_err-write-clause-failed g c = λ known part failed.
     let error = err_from_is_err_and c.from_residual-in_err-write.result c.from_residual-in_err-write.ensures.1 in
     let same = c.in_err-write.was ∙ ap Err (fault_of_file c.in_err-write.field-0.0 (cc (error.1, error.2, failed))) in
     let id = id_of c.args.object.now.id in
     let is : IsTrue (is_id id.kind id) = ap (is_id id.kind) c.args.object.now.named ∙ digest_is_id id.kind _ in
     let placed : IsObjectPlace c.deref-else-eq.result.now = (id.kind, id, is, c.deref-else-eq.ensures.value ∙ c.in_ok-place.ensures) in
-    let before : KnownExist g.F.Files.is_honest g.F.Files.history (record c.args.self.now { ids = c.make_room.new.self }) = record {
-      honest = exist.honest;
-      exist = λ known is. exist.exist known (ap (λ (ids : IdSet). contains_key ids known) (sym c.make_room.ensures.ids) ∙ is);
-    } in
-    let seen_here = c.in_ok-seen.ensures.seen before (c.deref.ensures.value ∙ c.in_ok-place.ensures) is ∙ ap (seen_at (g.F.Files.history c.args.self.now.files).tree) (c.deref.ensures.value ∙ sym c.deref-else-eq.ensures.value) in
-    c.write.ensures.failed exist.honest part placed seen_here same
+    let seen_here = c.in_ok-seen.ensures.seen known ∙ ap (seen_at (g.F.Files.history c.args.self.now.files).tree) (c.deref.ensures.value ∙ sym c.deref-else-eq.ensures.value) in
+    c.write.ensures.failed known.0 part placed seen_here same
+
+pub returns-in_err-write-clause-folders : goal.returns-in_err-write-clause-folders
+returns-in_err-write-clause-folders g c = λ known.
+    c.write.ensures.folders known (c.in_ok-seen.ensures.seen known ∙ ap (seen_at (g.F.Files.history c.args.self.now.files).tree) (c.deref.ensures.value ∙ sym c.deref-else-eq.ensures.value))
 
 -- ---- the object is stored
 
@@ -219,6 +217,14 @@ returns-clause-writes g c =
           (place_differs (id_of object.id))
           (λ honest here. none_here _ c.deref.result.now _ _ (c.deref.ensures.value ∙ c.in_ok-place.ensures) (found_none c.in_ok-seen.seen c.eq.result c.eq.ensures w.if-eq.false _ _ (c.in_ok-seen.ensures.file honest)) here)
           w.write.ensures.writes))
+    ]
+
+pub returns-clause-folders : goal.returns-clause-folders
+returns-clause-folders g c = λ known.
+    elim c.if-eq.branch [
+      | then-eq+in_ok-holds+else-not-branch w ↦ subst (λ s. KnownFoldersExist g.F.Files.is_honest g.F.Files.history s) (sym w.self-is) known
+      | else-eq+in_ok-write w ↦ subst (λ s. KnownFoldersExist g.F.Files.is_honest g.F.Files.history s) (sym w.self-is)
+          (w.write.ensures.folders known (c.in_ok-seen.ensures.seen known ∙ ap (seen_at (g.F.Files.history c.args.self.now.files).tree) (c.deref.ensures.value ∙ sym w.deref-else-eq.ensures.value)))
     ]
 
 -- an object is stored if no file is at its place, or its own is

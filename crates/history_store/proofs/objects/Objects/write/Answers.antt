@@ -2,6 +2,7 @@ use Rattle.std.proofs.Common.{◌≡◌, Err, arith, inl, refl, subst, sym, ◌+
 use Rattle.std.proofs.lemmas.Result.{err_from_is_err_and, on_ok_weaker}
 use Rattle.gix_ref_file.specs.declared.files.FileError.TheVariants.{Failed}
 use Rattle.gix_ref_file.specs.History.{History}
+use Rattle.gix_ref_file.proofs.Histories.{adds_weaker}
 use Rattle.gix_ref_way.proofs.Above.{renamed_brings, then_above}
 use Rattle.gix_ref_way.proofs.FoldersKept.{while_renamed, then_stay}
 use Rattle.gix_ref_way.proofs.FoldersMade.{caused}
@@ -10,6 +11,7 @@ use Rattle.gix_ref_way.proofs.Stored.{now_same, on_ok_both}
 use Rattle.history_model.specs.Places.{unfinished_place}
 use Rattle.history_store.specs.Stores.{KeepsFiles}
 use Rattle.history_store.proofs.Honesty.{honesty_of, more_honesty, then_honesty}
+use Rattle.history_store.proofs.KnownFolders.{folders_now, own_is_folder}
 use Rattle.history_store.proofs.ObjectFiles.{may_rename, unfinished_fits}
 use Rattle.history_store.proofs.ObjectParts.{no_file_above}
 use Rattle.history_store.proofs.Stored.{gone, kept_when_written, may_from_same, may_from_write, may_from_rename, may_hold, on_err_weaker, same_keeps, stored}
@@ -143,3 +145,31 @@ returns-clause-failed g c = λ honest part placed told failed.
     let may = may_rename place old made part placed above folders (c.args.header.now ++ c.args.content.now) written.tree (c.in_ok-write_unfinished.ensures.written honest_1) in
     caused _ _ _ _ c.rename.result (c.rename.ensures.cause (c.write_unfinished.ensures.honest honest_1)) may failed
     (omega (arith, c.make_missing.ensures.later, c.write_unfinished.ensures.later))
+
+-- ---- the folders that are known exist still
+
+pub returns-in_err-make_missing-clause-folders : goal.returns-in_err-make_missing-clause-folders
+returns-in_err-make_missing-clause-folders g c = λ known told. (c.make_missing.ensures.honest known.0, folders_now _ _ c.args.self.now.folders (c.make_missing.ensures.stay known.0) known.1)
+
+pub returns-in_err-write_unfinished-clause-folders : goal.returns-in_err-write_unfinished-clause-folders
+returns-in_err-write_unfinished-clause-folders g c = λ known told.
+    let made = g.F.Files.history c.make_missing.new.files in
+    let written = g.F.Files.history c.write_unfinished.new.files in
+    let honest = c.make_missing.ensures.honest known.0 in
+    let stood = folders_now _ made c.args.self.now.folders (c.make_missing.ensures.stay known.0) known.1 in
+    let own = own_is_folder made.tree c.args.place.now (c.in_ok-make_missing.ensures.made known.0 told) in
+    let noted = c.note_folders-noted.ensures made.tree (g.met.F.Files.rooted c.make_missing.new.files honest) own stood in
+    (c.write_unfinished.ensures.honest honest, folders_now made written _ (adds_weaker made written (c.write_unfinished.ensures.moments honest) (one_stay unfinished_place made.tree)) noted)
+
+pub returns-clause-folders : goal.returns-clause-folders
+returns-clause-folders g c = λ known told.
+    let made = g.F.Files.history c.make_missing.new.files in
+    let written = g.F.Files.history c.write_unfinished.new.files in
+    let new = g.F.Files.history c.rename.new.self in
+    let honest = c.make_missing.ensures.honest known.0 in
+    let honest_1 = c.write_unfinished.ensures.honest honest in
+    let stood = folders_now _ made c.args.self.now.folders (c.make_missing.ensures.stay known.0) known.1 in
+    let own = own_is_folder made.tree c.args.place.now (c.in_ok-make_missing.ensures.made known.0 told) in
+    let noted = c.note_folders-noted.ensures made.tree (g.met.F.Files.rooted c.make_missing.new.files honest) own stood in
+    let there = folders_now made written _ (adds_weaker made written (c.write_unfinished.ensures.moments honest) (one_stay unfinished_place made.tree)) noted in
+    (c.rename.ensures.honest honest_1, folders_now written new _ (adds_weaker written new (c.rename.ensures.change honest_1).moments (while_renamed unfinished_place c.args.place.now written.tree)) there)
