@@ -235,7 +235,8 @@ class Names:
                 found.add((b"Stray", path))
         for name, (digits, peeled) in self.records.items():
             found |= self.of_record(name, digits, peeled)
-        return found | {(b"Collides", one, other) for one in self.standing for other in self.standing if other.startswith(one + b"/")}
+        fronts = ((other[:it.start()], other) for other in self.standing for it in re.finditer(b"/", other))
+        return found | {(b"Collides", one, other) for one, other in fronts if one in self.standing}
 
     def of_head(self):
         text = self.files.get(b"HEAD")

@@ -24,7 +24,7 @@ class Moved(Git):
         if plain.records is not None:
             (self.folder / "packed-refs").write_bytes(plain.packed_text())
         for name, digits in plain.names.items():
-            for front, text in ((b"", digits + b"\n"), (b"logs/", plain.logs[name])):
+            for front, text in ((b"", digits + b"\n"), (b"logs/", plain.logs.get(name, b""))):
                 if front or name not in plain.packed_alone:
                     path = self.folder / (front + name).decode()
                     path.parent.mkdir(parents=True, exist_ok=True)
