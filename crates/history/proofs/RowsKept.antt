@@ -208,6 +208,7 @@ rows_serve IsHonest history old r rows h agree = record {
   names_kind = h.names_kind;
   branch = h.branch;
   known = h.known;
+  folders = h.folders;
   records = h.records;
   rows = agree;
 }

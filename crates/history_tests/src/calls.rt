@@ -18,7 +18,7 @@ const ELSEWHERE: &[u8] = b"world";
 // The folder of the first two.
 const FOLDER: &[u8] = b"objects/b6";
 
-// While no object is known: whether `objects` exists, it, its folder, its text, its place. Or, of
+// While no folder is known: whether `objects` exists, it, its folder, its text, its place. Or, of
 // what exists already: whether `objects` does, whether its folder does, and its folder or whether a
 // file is at its place.
 const THE_FIRST: u64 = 5;
@@ -26,7 +26,7 @@ const THE_FIRST: u64 = 5;
 // Whether its folder exists, its folder, its text, its place.
 const IN_A_NEW_FOLDER: u64 = 4;
 
-// Whether a file is at its place, its text, its place: the folder of a known object exists.
+// Whether a file is at its place, its text, its place: its folder was seen.
 const IN_A_FOLDER: u64 = 3;
 
 // Whether a file is at its place, what it holds.
@@ -49,13 +49,18 @@ fn calls_of_putting(
     Ok(objects.files().calls().saturating_sub(before))
 }
 
-// Puts blobs into a part that has these folders and no file.
-fn check_puts<R: Abort>(rt: &R, alloc: Global, folders: &[&[u8]]) -> Result<(), PutError> {
+// A part that has these folders and no file, of which this call fails.
+fn part_with<R: Abort>(rt: &R, alloc: Global, folders: &[&[u8]], fails: u64) -> Fuse<MemoryFiles> {
     let mut files = MemoryFiles::new(alloc);
     for folder in folders {
         assert!(rt; files.make_folder(alloc, folder).is_ok());
     }
-    let files = Fuse::failing_at(files, 0, None);
+    Fuse::failing_at(files, fails, None)
+}
+
+// Puts blobs into a part that has these folders and no file.
+fn check_puts<R: Abort>(rt: &R, alloc: Global, folders: &[&[u8]]) -> Result<(), PutError> {
+    let files = part_with(rt, alloc, folders, 0);
     let mut objects = Objects::new(alloc, files, Kind::Sha1);
     for (text, most) in [
         (HELLO, THE_FIRST),
@@ -76,6 +81,33 @@ fn an_object_takes_few_calls(rt: HostRuntime) -> Result<(), PutError> {
     check_puts(&rt, alloc, &[])?;
     check_puts(&rt, alloc, &[root])?;
     check_puts(&rt, alloc, &[root, FOLDER])
+}
+
+#[test]
+fn a_folder_that_opening_saw_is_not_looked_up(rt: HostRuntime) -> Result<(), PutError> {
+    let alloc = rt.alloc();
+    let files = part_with(&rt, alloc, &[b"objects".as_slice(), FOLDER], 0);
+    let Ok(mut objects) = Objects::open(alloc, files, Kind::Sha1) else {
+        panic!(rt; "not opened")
+    };
+    let met = calls_of_putting(&mut objects, alloc, HELLO)?;
+    assert!(rt; met == IN_A_FOLDER, "{met}");
+    let met = calls_of_putting(&mut objects, alloc, ELSEWHERE)?;
+    assert!(rt; met == IN_A_NEW_FOLDER, "{met}");
+    Ok(())
+}
+
+// The first put fails as it writes the text: its folder was made.
+#[test]
+fn a_folder_that_a_failed_put_made_is_not_looked_up(rt: HostRuntime) -> Result<(), PutError> {
+    let alloc = rt.alloc();
+    let files = part_with(&rt, alloc, &[], THE_FIRST - 1);
+    let mut objects = Objects::new(alloc, files, Kind::Sha1);
+    let failed = calls_of_putting(&mut objects, alloc, HELLO);
+    assert!(rt; matches!(failed, Err(PutError::File)));
+    let met = calls_of_putting(&mut objects, alloc, HELLO)?;
+    assert!(rt; met == IN_A_FOLDER, "{met}");
+    Ok(())
 }
 
 // Returns how many calls on the objects part a run makes over a new repository.

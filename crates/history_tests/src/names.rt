@@ -27,12 +27,12 @@ fn names_are_surveyed_over_objects(rt: HostRuntime) -> Result<(), Fail> {
     let alloc = rt.alloc();
     for kind in KINDS {
         let (objects, files) = parts_after(&rt, alloc, kind, &[INPUT]);
-        let stored = whole_objects(alloc, &objects, kind)?;
+        let whole = whole_objects(alloc, &objects, kind)?;
         let mut names = Names::new(alloc, files, kind);
-        let branch = survey_names(alloc, &mut names, &stored)?;
+        let branch = survey_names(alloc, &mut names, &whole.stored)?;
         assert!(rt; branch.as_slice() == b"refs/heads/main".as_slice());
         let none = whole_objects(alloc, &MemoryFiles::new(alloc), kind)?;
-        let refused = survey_names(alloc, &mut names, &none);
+        let refused = survey_names(alloc, &mut names, &none.stored);
         assert!(rt; matches!(refused, Err(OpenError::Missing(..))));
     }
     Ok(())

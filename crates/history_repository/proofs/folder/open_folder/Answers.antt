@@ -8,13 +8,17 @@ use Rattle.history_repository.proofs.Joined.{fault_of_objects}
 use Rattle.history_repository.proofs.folder.open_folder.Goals as goal
 
 pub open_names-requires : goal.open_names-requires
-open_names-requires g c = λ honest.
+open_names-requires g c =
     let files = c.in-Ok.ensures.files.0 in
     let ids = ids_of_objects c.in-Ok.opened.objects in
     let facts = facts_in c.in-Ok.opened.stored in
-    subst (λ own. IsOpenedWith (kind_of_objects c.in-Ok.opened.objects) (g.F.Files.history own).tree ids facts) (sym files)
-    (subst (λ (kind : Kind). IsOpenedWith kind (g.F.Files.history c.args.objects).tree ids facts) (sym c.in-Ok.ensures.files.1)
-    (c.in-Ok.ensures.whole (subst g.F.Files.is_honest files honest)))
+    record {
+      folders = λ honest. (c.in-Ok.ensures.folders (subst g.F.Files.is_honest files honest)).1;
+      whole = λ honest.
+          subst (λ own. IsOpenedWith (kind_of_objects c.in-Ok.opened.objects) (g.F.Files.history own).tree ids facts) (sym files)
+          (subst (λ (kind : Kind). IsOpenedWith kind (g.F.Files.history c.args.objects).tree ids facts) (sym c.in-Ok.ensures.files.1)
+          (c.in-Ok.ensures.whole (subst g.F.Files.is_honest files honest)));
+    }
 
 pub returns-in-Ok-clause-opens : goal.returns-in-Ok-clause-opens
 returns-in-Ok-clause-opens g c =

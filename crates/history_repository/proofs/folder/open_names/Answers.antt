@@ -20,12 +20,12 @@ returns-in-Ok-clause-opens g c =
           let honest = subst g.F.Files.is_honest (sym c.new-names.ensures.files) names in
           let part = part_of history facts c.in-Ok.branch.items c.new-names.result.store.files c.args.names c.new-names.result.kind kind c.new-names.ensures.files named (c.in-Ok.ensures.stands honest) in
           let keeps = subst (λ files. KeepsRecords c.survey_names.new.names (history files).tree) c.new-names.ensures.files (c.in-Ok.ensures.keeps honest) in
-          opened_as_one kind pair ids facts (c.requires objects) (record { objects = c.args.objects; names = c.survey_names.new.names; branch = c.in-Ok.branch }) (λ i. ids) part keeps;
+          opened_as_one kind pair ids facts (c.requires.whole objects) (record { objects = c.args.objects; names = c.survey_names.new.names; branch = c.in-Ok.branch }) (λ i. ids) part keeps (c.requires.folders objects);
       same = λ r objects names stands.
           let honest = subst g.F.Files.is_honest (sym c.new-names.ensures.files) names in
           let part = part_of history facts c.in-Ok.branch.items c.new-names.result.store.files c.args.names c.new-names.result.kind kind c.new-names.ensures.files named (c.in-Ok.ensures.stands honest) in
           let keeps = subst (λ files. KeepsRecords c.survey_names.new.names (history files).tree) c.new-names.ensures.files (c.in-Ok.ensures.keeps honest) in
-          opened_as kind pair ids facts (c.requires objects) (record { objects = c.args.objects; names = c.survey_names.new.names; branch = c.in-Ok.branch }) (λ i. ids) part keeps r stands;
+          opened_as kind pair ids facts (c.requires.whole objects) (record { objects = c.args.objects; names = c.survey_names.new.names; branch = c.in-Ok.branch }) (λ i. ids) part keeps (c.requires.folders objects) r stands;
     }
 
 pub returns-in-Ok-clause-refuses : goal.returns-in-Ok-clause-refuses
@@ -47,11 +47,11 @@ returns-in-Err-clause-refuses g c =
       refused = λ objects names.
           let honest = subst g.F.Files.is_honest (sym c.new-names.ensures.files) names in
           let held = cause_of history fail facts c.in-Err.error c.new-names.result.store.files c.args.names c.new-names.result.kind kind c.new-names.ensures.files named (c.in-Err.ensures.wrong honest) in
-          names_cause kind pair ids facts (c.requires objects) fail c.in-Err.error held;
+          names_cause kind pair ids facts (c.requires.whole objects) fail c.in-Err.error held;
       accepted = λ r objects names stands.
           let honest = subst g.F.Files.is_honest (sym c.new-names.ensures.files) names in
           let own = of_kind kind pair r stands ∙ sym named in
-          let are = facts_as kind pair ids facts (c.requires objects) r stands in
+          let are = facts_as kind pair ids facts (c.requires.whole objects) r stands in
           let part = subst (λ files. StandsNames (history files).tree r) (sym c.new-names.ensures.files) (stands_names kind pair r stands) in
           c.in-Err.ensures.accepted r own are honest part;
       handed_back = search rules;
