@@ -45,9 +45,9 @@ fn text_with(alloc: Global, front: &[u8], number: u32, put: &[u8]) -> Result<Vec
 fn refused_line(rt: &impl Abort, alloc: Global, packed: &[u8]) -> Result<Option<usize>, Fail> {
     let (objects, mut files) = parts_after(rt, alloc, Kind::Sha1, &[INPUT]);
     files.write(alloc, PACKED, packed)?;
-    let stored = whole_objects(alloc, &objects, Kind::Sha1)?;
+    let whole = whole_objects(alloc, &objects, Kind::Sha1)?;
     let mut names = Names::new(alloc, files, Kind::Sha1);
-    match survey_names(alloc, &mut names, &stored) {
+    match survey_names(alloc, &mut names, &whole.stored) {
         Ok(_) => Ok(None),
         Err(OpenError::BadPacked(number)) => Ok(Some(number)),
         Err(_) => panic!(rt; "refused otherwise"),
