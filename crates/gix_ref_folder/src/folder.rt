@@ -213,8 +213,8 @@ impl<S: System> Folder<S> {
 
     // What the reading of a file came to, if it didn't fail. An object is read only if it was there,
     // so that somebody took it away.
-    fn outcome_of(&self, read: &io::Result<Option<Vec<u8>>>) -> Outcome {
-        match (self.part, has_found(read)) {
+    fn outcome_of(&self, is_there: bool) -> Outcome {
+        match (self.part, is_there) {
             (Part::Objects, true) => Outcome::Object,
             (Part::Objects, false) => Outcome::Failed(nothing_there()),
             (Part::Names, is_there) => Outcome::Read(is_there),
@@ -442,7 +442,7 @@ impl<S: System> Files for Folder<S> {
 
     fn read(&self, path: &[u8], out: &mut Vec<u8>) -> Result<Option<usize>, FileError> {
         let read = self.bytes(path);
-        let outcome = self.outcome_of(&read);
+        let outcome = self.outcome_of(has_found(&read));
         let Some(bytes) = self.failures.read(path, read, outcome)? else {
             return Ok(None);
         };
@@ -452,8 +452,8 @@ impl<S: System> Files for Folder<S> {
 
     fn read_at(&self, path: &[u8], at: u64, buffer: &mut [u8]) -> Result<Option<usize>, FileError> {
         let read = self.bytes_from(path, at, buffer);
-        let is_there = has_found(&read);
-        self.failures.read(path, read, Outcome::Read(is_there))
+        let outcome = self.outcome_of(has_found(&read));
+        self.failures.read(path, read, outcome)
     }
 
     fn list(&self, alloc: Global, folder: &[u8]) -> Result<Vec<Vec<u8>>, FileError> {

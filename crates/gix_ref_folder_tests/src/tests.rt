@@ -325,7 +325,7 @@ fn objects_that_were_read_are_kept(rt: HostRuntime) -> Result<(), Fail> {
     let _ = play_on(
         alloc,
         &mut folder,
-        "read:objects/ab kind:objects read:objects/ab",
+        "read:objects/ab kind:objects read-at:objects/ab:0",
     )?;
     let kept = last.take_objects();
     assert!(rt; kept.as_slice() == b"objects/ab\nobjects/ab\n".as_slice());

@@ -139,8 +139,8 @@ def by_hand_alone():
     # A look at a lock explains nothing, unless it fails.
     fixed("n:read:none n:kind:a.lock n:read:kept.lock last n:read:kept n:create:a.lock n:kind:a.lock last",
           f"none:so%20 absent none:so%20 none{none} 1:so%201 done file:0 kept{there}")
-    fixed("n:folder:refs n:last n:remove-folder:none n:last o:last o:read:objects/a last",
-          f"failed {met} failed none{none} none none:so%20 {met}")
+    fixed("n:folder:refs n:last n:remove-folder:none n:last o:last o:read:objects/a last forget o:read-at:objects/b:0 last",
+          f"failed {met} failed none{none} none none:so%20 {met} none:...... objects/b{none}")
     fixed("o:write:objects/a:1 o:last n:write:objects/a:1 n:last",
           "failed objects/a%3a%20No%20such%20file%20or%20directory failed objects/a%3a%20no%20path%20of%20this%20part")
     fixed(f"n:write:{'w' * 251}:1 n:last", f"failed {'w' * 251}%3a%20no%20name%20for%20its%20lock%20file")
