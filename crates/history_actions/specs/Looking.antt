@@ -5,7 +5,7 @@ use Rattle.std.specs.FinMap.{get}
 use Rattle.gix_hash.specs.Kind.{hex_len}
 use Rattle.gix_hash.specs.declared.kind.Kind.{Kind}
 use Rattle.gix_ref_file.specs.Changes.{is_file_at}
-use Rattle.gix_ref_file.specs.Tree.{Tree, Node, file, folder}
+use Rattle.gix_ref_file.specs.Tree.{Tree, Node, bytes_at, file, folder}
 use Rattle.gix_ref_way.specs.Ways.{above}
 use Rattle.history_texts.specs.declared.parts.Part.{Part}
 use Rattle.history_texts.specs.declared.parts.Part.TheVariants.{Objects, Names}
@@ -14,9 +14,11 @@ use Rattle.history_model.specs.Forms.{is_branch, is_name}
 use Rattle.history_model.specs.Places.{Pair, file_at, head_place, packed_place, unfinished_place, is_lock_file, is_log_place, is_lower_hex, is_object_folder, log_name}
 use Rattle.history_model.specs.StandsFor.{head_text}
 use Rattle.history_check_names.specs.Causes.{HasBadHead}
+use Rattle.history_check_names.specs.Packed.{HasBadRecord}
+use Rattle.history_check_names.specs.PackedRead.{MayBePacked}
 use Rattle.history_check_names.specs.Parts.{NamesBranch}
 use Rattle.history_texts.specs.declared.open_error.OpenError.{OpenError}
-use Rattle.history_texts.specs.declared.open_error.OpenError.TheVariants.{NoHead, BadHead, Stray, File, Memory}
+use Rattle.history_texts.specs.declared.open_error.OpenError.TheVariants.{NoHead, BadHead, BadPacked, Stray, File, Memory}
 
 -- ---- places
 
@@ -54,12 +56,14 @@ IsOwnAt part kind path (Some folder) = ⊤
 abbrev pub AreOwn : Part → Kind → Tree → Type 0
 AreOwn part kind tree = (path : Bytes) → IsOwnAt part kind path (get tree path)
 
--- HEAD names a branch, and each file is a repository's of this kind.
+-- HEAD names a branch, each file is a repository's of this kind, and `packed-refs` may be one by the
+-- lengths of its lines and by its beginning, if it is long.
 pub record IsRecoverable (kind : Kind) (pair : Pair) : Type 0 where
   pub branch : Bytes
   pub head : NamesBranch pair.names branch
   pub objects : AreOwn Objects kind pair.objects
   pub names : AreOwn Names kind pair.names
+  pub packed : MayBePacked kind (bytes_at pair.names packed_place)
 
 -- ---- why a folder is none
 
@@ -74,6 +78,8 @@ IsForeign MayFail kind pair NoHead = file_at pair.names head_place ≡ None
 IsForeign MayFail kind pair BadHead = HasBadHead pair.names
 IsForeign MayFail kind pair (Stray path) =
     IsStrayFile Objects kind pair.objects path.items ⊎ IsStrayFile Names kind pair.names path.items
+IsForeign MayFail kind pair (BadPacked number) =
+    HasBadRecord kind (bytes_at pair.names packed_place) number
 IsForeign MayFail kind pair File = MayFail
 IsForeign MayFail kind pair Memory = ⊤
 IsForeign MayFail kind pair _ = ⊥

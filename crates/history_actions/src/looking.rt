@@ -13,18 +13,19 @@ use gix_hash::Kind;
 use gix_object_lines::cut::{strip_prefix, strip_suffix};
 use gix_ref_file::paths::{is_deeper, joined};
 use gix_ref_file::{Files, Place};
-use history_check_names::MAX_LOOSE;
+use history_check_names::{MAX_LOOSE, test_long_packed};
 use history_model::names::{HEAD, HEADS};
 use history_texts::{OpenError, Part, is_name};
 use std::alloc::Global;
 
 /// Tests that a folder's two parts are a repository's of this kind, as a stopped run leaves it:
 /// HEAD names a branch, and each file is at a place of a repository, or is one that was to be
-/// renamed to such a place. Of the files' contents only HEAD's is read, if it isn't too long.
+/// renamed to such a place. Of the files' contents HEAD's is read, if it isn't too long, and that
+/// of a long `packed-refs` in pieces: recovery reads it whole.
 ///
 /// Otherwise returns why not: `NoHead` if there is no file HEAD, `BadHead` if it names no branch,
-/// `Stray` with the path of another file; or `File` if a call of the files failed, and `Memory` if
-/// memory ran out.
+/// `Stray` with the path of another file, `BadPacked` with a line of a long `packed-refs` that is
+/// none; or `File` if a call of the files failed, and `Memory` if memory ran out.
 pub(crate) fn look<F: Files>(
     alloc: Global,
     objects: &F,
@@ -39,6 +40,7 @@ pub(crate) fn look<F: Files>(
     look_at_head(alloc, names)?;
     look_below(alloc, objects, Part::Objects, kind, b"")?;
     look_below(alloc, names, Part::Names, kind, b"")?;
+    test_long_packed(alloc, names, kind)?;
     Ok(())
 }
 

@@ -1,6 +1,6 @@
 -- Files of packed names in which some line has no end, or none within a piece.
 use Rattle.std.proofs.Common.{◌≡◌, ◌≢◌, ◌⊎◌, inl, inr, ℕ, zero, suc, ◌+◌, ◌-◌, ◌≤◌, ◌<◌, Bool, true, false, not, ◌&&◌, ◌||◌, [], ◌∷◌, ◌++◌, take, drop, length, nat_eq, refl, sym, ◌∙◌, ap, subst, arith, append_assoc, append-nil, length-append, length-take, length-drop, take-append-drop}
-use Rattle.std.specs.Prelude.{◌==◌, min}
+use Rattle.std.specs.Prelude.{◌==◌, min, Option, None, option_map, unwrap_or}
 use Rattle.std.specs.List.{ends_with}
 use lib.Seq.{take-add, take_all}
 use Rattle.std.proofs.lemmas.Bool.{and_from, cases_lt, eqb-true, or_from}
@@ -15,13 +15,14 @@ use Rattle.history_model.proofs.FormatLemmas.{ends_so}
 use Rattle.history_model.proofs.PartLemmas.{one_is_in}
 use Rattle.history_check_names.specs.Logs.{max_piece}
 use Rattle.history_check_names.specs.Packed.{HasBadRecord, first_lines, is_packed_text}
-use Rattle.history_check_names.specs.PackedRead.{AreLinesOf, HasGoodFront, IsEndlessAt, IsLinesEnd, IsPackedCause, IsPackedFault, is_in_header}
+use Rattle.history_check_names.specs.PackedRead.{AreLinesOf, HasGoodFront, IsEndlessAt, IsLinesEnd, IsPackedCause, IsPackedFault, MayBePacked, is_in_header}
 use Rattle.history_texts.specs.declared.open_error.OpenError.{OpenError}
 use Rattle.history_texts.specs.declared.open_error.OpenError.TheVariants.{BadPacked, Memory}
 use Rattle.history_check_names.proofs.LogTexts.{left_lacks}
 use Rattle.history_check_names.proofs.PackedTexts.{headed_first}
 use Rattle.history_check_names.proofs.Returns.{bad_after, fault_bad, into_line}
 use Rattle.history_check_names.proofs.ShortLines.{Fits, bad_last, one_line}
+use Rattle.history_check_names.proofs.Sizes.{no_size}
 
 clash : {A : Type 0} {b : Bool} → b ≡ true → b ≡ false → A
 clash t f = absurd (cc (sym t ∙ f))
@@ -106,6 +107,17 @@ front_bad kind text len at number size told inside good = by_stop told.stops
     by_stop : (at ≡ length text) ⊎ IsEndlessAt text at → HasBadRecord kind text number
     by_stop (inl all) = absurd (inside (all ∙ sym size))
     by_stop (inr e) = endless_bad kind text good.whole at good.count good.are e number good.number_is good.good
+
+-- ---- what isn't refused
+
+pub none_long : (kind : Kind) (o : Option Bytes) → None ≡ option_map length o → MayBePacked kind (unwrap_or o [])
+none_long kind o none = subst (λ o. MayBePacked kind (unwrap_or o [])) (sym (no_size o none)) (inl (omega (arith)))
+
+pub no_longer : (kind : Kind) (text : Bytes) (len : ℕ) → len ≡ length text → len ≤ max_piece → MayBePacked kind text
+no_longer kind text len size few = inl (omega (arith, size, few))
+
+pub long_lines : (kind : Kind) (text : Bytes) (len at number : ℕ) → len ≡ length text → at ≡ len → HasGoodFront kind text max_piece number → IsLinesEnd text at → MayBePacked kind text
+long_lines kind text len at number size same good ends = inr (record { number = number; front = good; ends = subst (IsLinesEnd text) (same ∙ size) ends })
 
 -- ---- the first lines
 

@@ -76,6 +76,17 @@ pub record HasGoodFront (kind : Kind) (text : Bytes) (most number : ℕ) : Type 
   pub good : IsTrue (is_packed_text kind whole)
   pub number_is : number ≡ count + 1
 
+-- It is longer than a piece, begins as a file of packed names, and each of its lines but a header
+-- ends within a piece.
+pub record IsLongPacked (kind : Kind) (text : Bytes) : Type 0 where
+  pub number : ℕ
+  pub front : HasGoodFront kind text max_piece number
+  pub ends : IsLinesEnd text (length text)
+
+-- what a text is that isn't refused before it is read whole
+abbrev pub MayBePacked : Kind → Bytes → Type 0
+MayBePacked kind text = (length text ≤ max_piece) ⊎ IsLongPacked kind text
+
 -- why it is refused before it is read whole
 abbrev pub IsPackedCause : Type 0 → Kind → Bytes → OpenError → Type 0
 IsPackedCause MayFail kind text (BadPacked number) = HasBadRecord kind text number

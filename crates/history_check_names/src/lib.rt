@@ -12,4 +12,5 @@ mod records;
 mod survey;
 
 pub use loose::MAX_LOOSE;
+pub use packed_pieces::test_long_packed;
 pub use survey::survey_names;

@@ -1,11 +1,11 @@
 //! Tests the lines of a long `packed-refs` in pieces, so that what is none isn't read whole.
 
-ghost use Rattle.std.specs.Prelude.{◌≡◌, length, IfErr, IfOk, IsErrOf};
+ghost use Rattle.std.specs.Prelude.{◌≡◌, length, IfErr, IfOk, IsErrOf, OnOk};
 ghost use Rattle.gix_ref_file.specs.Calls.{Finds};
 ghost use Rattle.gix_ref_file.specs.Tree.{bytes_at};
 ghost use Rattle.gix_ref_file.specs.declared.files.FileError.TheVariants.{Failed};
 ghost use Rattle.history_model.specs.Places.{packed_place};
-ghost use Rattle.history_check_names.specs.PackedRead.{HasGoodFront, IsLinesEnd, IsPackedCause};
+ghost use Rattle.history_check_names.specs.PackedRead.{HasGoodFront, IsLinesEnd, IsPackedCause, MayBePacked};
 
 use crate::file::file_len;
 use crate::packed::{Packed, whole_lines};
@@ -16,12 +16,16 @@ use history_store::PACKED;
 use history_texts::OpenError;
 use std::alloc::Global;
 
-/// Tests `packed-refs`, if it is longer than a piece: the lines that end in its first piece, and
-/// that after its header each line ends within a piece. Otherwise returns a cause that holds.
+/// Tests `packed-refs`, if it is longer than a piece, 65,536 bytes: the lines that end in its first
+/// piece are a file of packed names, and after its header each line ends within a piece. Otherwise
+/// returns a cause that holds: `BadPacked` with the number of a line, `File` if a call of the files
+/// failed, or `Memory` if no memory is left.
 ///
 /// No more is read at once than a piece, or the lines before the one that has no such end.
-pub(crate) fn test_long<F: Files>(alloc: Global, files: &F, kind: Kind) -> Result<(), OpenError>
-    ensures { Finds F.is_honest F.history files.now
+pub fn test_long_packed<F: Files>(alloc: Global, files: &F, kind: Kind) -> Result<(), OpenError>
+    ensures tested { Finds F.is_honest F.history files.now
+        (λ tree. OnOk result (MayBePacked kind (bytes_at tree packed_place))) }
+    ensures wrong { Finds F.is_honest F.history files.now
         (λ tree. IfErr result (IsPackedCause F.reading_may_fail kind (bytes_at tree packed_place))) }
 {
     let Some(len) = file_len(files, PACKED)? else {

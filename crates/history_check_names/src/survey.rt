@@ -17,7 +17,7 @@ ghost use Rattle.history_check_objects.specs.Stored.{AreFactsOf, Facts, facts_in
 use crate::file::{file_len, test_file};
 use crate::loose::MAX_LOOSE;
 use crate::packed::Packed;
-use crate::packed_pieces::test_long;
+use crate::packed_pieces::test_long_packed;
 use crate::records::test_records;
 use gix_hash::Kind;
 use gix_ref_file::paths::{is_deeper, joined};
@@ -100,7 +100,7 @@ fn packed_text<F: Files>(alloc: Global, names: &Names<F>) -> Result<Option<Vec<u
         (λ tree. IfErr result
         (HasCause F.reading_may_fail (kind_of_names names.now) facts tree)) }
 {
-    test_long(alloc, names.files(), names.kind())?;
+    test_long_packed(alloc, names.files(), names.kind())?;
     Ok(names.read_packed(alloc)?)
 }
 
