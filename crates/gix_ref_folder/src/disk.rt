@@ -5,6 +5,7 @@ use crate::part::Part;
 use crate::system::{Found, System};
 use crate::system_errors::is_missing;
 use std::alloc::Global;
+use std::cell::Cell;
 use std::fs::{self, Metadata, OpenFile, OpenOptions};
 use std::io::{self, ErrorKind, Read, Seek, SeekFrom, Write};
 use std::os::unix::fs::MetadataExt;
@@ -21,6 +22,8 @@ pub struct Disk<R: fs::Files + AllocGlobal + Clone + Drop> {
     rt: R,
     // The file that was made last, until another is changed.
     made: Option<Made<R::File>>,
+    // The folder that the last look saw, until it is listed or a file is opened to be read.
+    seen: Cell<Option<String>>,
 }
 
 // A file that was made and is still open: so a link or a file that is put into its place meanwhile
@@ -53,12 +56,19 @@ impl<F: OpenFile + Write + Drop> Made<F> {
 impl<R: fs::Files + AllocGlobal + Clone + Drop> Disk<R> {
     /// Returns the system of a runtime.
     pub fn new(rt: R) -> Self {
-        Disk { rt, made: None }
+        Disk {
+            rt,
+            made: None,
+            seen: Cell::new(None),
+        }
     }
 
     fn look(&self, place: &str) -> io::Result<Found> {
+        self.seen.set(None);
         let found = fs::symlink_metadata(&self.rt, place)?;
         if found.is_dir() {
+            self.seen
+                .set(Some(String::from_str(self.rt.alloc(), place)?));
             return Ok(Found::Folder);
         }
         if found.is_file() {
@@ -70,6 +80,7 @@ impl<R: fs::Files + AllocGlobal + Clone + Drop> Disk<R> {
     // Opens a file to read it, and returns the length that it has as it is open; `None` if nothing
     // is there, or a folder.
     fn opened(&self, place: &str) -> io::Result<Option<(R::File, u64)>> {
+        self.seen.set(None);
         let file = match fs::open(&self.rt, place) {
             Err(error) if is_missing(&error) => return Ok(None),
             file => file?,
@@ -84,10 +95,13 @@ impl<R: fs::Files + AllocGlobal + Clone + Drop> Disk<R> {
         Ok(Some((file, found.len())))
     }
 
-    fn bytes(&self, alloc: Global, place: &str) -> io::Result<Option<Vec<u8>>> {
+    fn bytes(&self, alloc: Global, place: &str, most: u64) -> io::Result<Option<Vec<u8>>> {
         let Some((mut file, len)) = self.opened(place)? else {
             return Ok(None);
         };
+        if len > most {
+            return Err(io::Error::new(ErrorKind::FileTooLarge, "File too large"));
+        }
         let mut bytes = vec![in alloc; 0; len as usize]?;
         file.read_exact(&mut bytes)?;
         Ok(Some(bytes))
@@ -108,14 +122,24 @@ impl<R: fs::Files + AllocGlobal + Clone + Drop> Disk<R> {
         Ok(Some(count))
     }
 
-    // The system follows a link that it opens, so what was listed is refused if a link is there.
     fn is_link(&self, place: &str) -> bool {
         fs::symlink_metadata(&self.rt, place).is_ok_and(|found| found.is_symlink())
     }
 
+    // Returns whether the last look saw this folder. It is forgotten.
+    fn was_seen(&self, place: &str) -> bool {
+        match self.seen.replace(None) {
+            Some(seen) => seen.as_bytes() == place.as_bytes(),
+            None => false,
+        }
+    }
+
+    // The system follows a link that it opens, so what was listed is refused if a link is there. A
+    // folder that was just seen isn't looked at again.
     fn names_in(&self, alloc: Global, place: &str) -> io::Result<Vec<Vec<u8>>> {
+        let was_seen = self.was_seen(place);
         let names = self.names(alloc, place)?;
-        if self.is_link(place) {
+        if !was_seen && self.is_link(place) {
             return Err(io::Error::other("neither a file nor a folder"));
         }
         Ok(names)
@@ -232,8 +256,8 @@ impl<R: fs::Files + AllocGlobal + Clone + Drop> System for Disk<R> {
         self.look(place)
     }
 
-    fn read(&self, alloc: Global, place: &str) -> io::Result<Option<Vec<u8>>> {
-        self.bytes(alloc, place)
+    fn read(&self, alloc: Global, place: &str, most: u64) -> io::Result<Option<Vec<u8>>> {
+        self.bytes(alloc, place, most)
     }
 
     fn read_at(&self, place: &str, at: u64, buffer: &mut [u8]) -> io::Result<Option<usize>> {

@@ -27,6 +27,9 @@ const LONGEST_NAME: usize = 250;
 // The most bytes that most systems take in a path.
 const LONGEST_PATH: usize = 4095;
 
+// The most bytes of HEAD, or of a name's file: `ref: `, a path and a line feed.
+const LONGEST_NAME_FILE: u64 = 4_102;
+
 /// The most bytes of a root. Below it the system takes the paths of all objects, and of all that a name of at most 250 bytes has, as its
 /// log's lock.
 pub const LONGEST_ROOT: usize = 3800;
@@ -34,8 +37,8 @@ pub const LONGEST_ROOT: usize = 3800;
 /// A part of a real folder. What exists at a path is looked up by each call anew, but for the file
 /// that the last change made or wrote: it is renamed without a look.
 ///
-/// A call returns `Failed` also for a path that isn't UTF-8, and if what is there is neither a file nor a folder, as a link. The root always
-/// counts as a folder. Nothing exists at a path that is too long for the system, so that only changes fail there, and a look at a lock
+/// A call returns `Failed` also for a path that isn't UTF-8, and if what is there is neither a file nor a folder, as a link, and to read
+/// HEAD or a name's file of over 4,102 bytes, which can hold no name and no id. The root always counts as a folder. Nothing exists at a path that is too long for the system, so that only changes fail there, and a look at a lock
 /// file, which is for whoever is to make it.
 ///
 /// It does what [`Files`] says where the system does what [`System`] says of this part of what is below the root.
@@ -206,7 +209,10 @@ impl<S: System> Folder<S> {
             ≡ bytes_of (node_at tree path.now))) }
     {
         match self.place(path)? {
-            Some(place) => self.system.read(self.alloc, place.as_str()),
+            Some(place) => {
+                let most = longest(path);
+                self.system.read(self.alloc, place.as_str(), most)
+            }
             None => Ok(None),
         }
     }
@@ -381,6 +387,16 @@ impl<S: System> Folder<S> {
         let place = self.target(path)?;
         self.written = None;
         self.system.remove_folder(place.as_str())
+    }
+}
+
+// The most bytes that are read of what is at a path. What HEAD or a name holds is short; a log,
+// `packed-refs` and an object have no greatest size here.
+fn longest(path: &[u8]) -> u64 {
+    if path == b"HEAD".as_slice() || path.starts_with(b"refs/") {
+        LONGEST_NAME_FILE
+    } else {
+        u64::MAX
     }
 }
 

@@ -47,8 +47,9 @@ pub trait System {
             (λ tree path. IfErr result (λ error. IsTrue (means_absent (error_kind error))
             → node_at tree path ≡ None)) };
 
-    /// Returns a file's bytes, or `None` if no file is there: nothing, or a folder.
-    fn read(&self, alloc: Global, place: &str) -> io::Result<Option<Vec<u8>>>
+    /// Returns a file's bytes, or `None` if no file is there: nothing, or a folder. A file of more
+    /// than `most` bytes is an error (`FileTooLarge`), found by its length.
+    fn read(&self, alloc: Global, place: &str, most: u64) -> io::Result<Option<Vec<u8>>>
         ensures { Reads is_honest history self.now place.now
             (λ tree path. IfOk result (λ found. option_map (λ bytes. bytes.items) found
             ≡ bytes_of (node_at tree path))) };

@@ -104,10 +104,13 @@ impl<F: Files> System for OverFiles<F> {
         }
     }
 
-    fn read(&self, alloc: Global, place: &str) -> io::Result<Option<Vec<u8>>> {
+    fn read(&self, alloc: Global, place: &str, most: u64) -> io::Result<Option<Vec<u8>>> {
         let (part, path) = self.spot(place)?;
         let mut bytes = Vec::new(alloc);
         match reported(self.files(part).read(path, &mut bytes))? {
+            Some(count) if count as u64 > most => {
+                Err(io::Error::new(ErrorKind::FileTooLarge, "File too large"))
+            }
             Some(_) => Ok(Some(bytes)),
             None => Ok(None),
         }

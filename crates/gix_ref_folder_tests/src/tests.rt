@@ -111,8 +111,10 @@ fn a_system_says_why_it_fails(rt: HostRuntime) -> Result<(), Fail> {
     assert!(rt; kind_of(system.kind("elsewhere/HEAD")) == Some(ErrorKind::NotFound));
     assert_eq!(rt; system.read_at("repository/HEAD", 1, &mut buffer)?, Some(2));
     assert_eq!(rt; buffer.as_slice(), b"ef\0\0".as_slice());
-    assert!(rt; system.read(alloc, "repository/objects")?.is_none());
-    assert!(rt; kind_of(system.read(alloc, "elsewhere/HEAD")) == Some(ErrorKind::NotFound));
+    assert!(rt; system.read(alloc, "repository/objects", 0)?.is_none());
+    assert!(rt; system.read(alloc, "repository/HEAD", 3)?.is_some());
+    assert!(rt; kind_of(system.read(alloc, "repository/HEAD", 2)) == Some(ErrorKind::FileTooLarge));
+    assert!(rt; kind_of(system.read(alloc, "elsewhere/HEAD", 3)) == Some(ErrorKind::NotFound));
     assert!(rt; kind_of(system.list_root(alloc, "elsewhere")) == Some(ErrorKind::NotFound));
     assert!(rt;
         kind_of(system.create_new("repository/HEAD", b"")) == Some(ErrorKind::AlreadyExists)
@@ -335,5 +337,31 @@ fn objects_that_were_read_are_kept(rt: HostRuntime) -> Result<(), Fail> {
     assert!(rt; last.take_objects().is_empty());
     let told = last.cause().text(alloc)?;
     assert!(rt; told.as_slice() == b"objects/none: No such file or directory".as_slice());
+    Ok(())
+}
+
+#[test]
+fn a_file_that_is_too_long_for_a_name_is_not_read(rt: HostRuntime) -> Result<(), Fail> {
+    let alloc = rt.alloc();
+    let mut names = folder_in_memory(alloc, ROOT, Part::Names)?;
+    let last = Rc::new(alloc, LastCall::new(alloc))?;
+    names.share(last.clone()?);
+    names.make_folder(alloc, b"refs")?;
+    for path in [b"HEAD".as_slice(), b"refs/a".as_slice()] {
+        let mut text = Vec::new(alloc);
+        let mut out = Vec::new(alloc);
+        text.resize(4103, b'a')?;
+        names.write(alloc, path, &text)?;
+        assert!(rt; names.read(path, &mut out).is_err());
+        assert!(rt; out.is_empty());
+        assert!(rt; last.cause().text(alloc)?.ends_with(b": File too large"));
+        last.forget();
+        text.truncate(4102);
+        names.write(alloc, path, &text)?;
+        assert_eq!(rt; names.read(path, &mut out)?, Some(4102));
+        text.push(b'a')?;
+        names.write(alloc, b"packed-refs", &text)?;
+        assert_eq!(rt; names.read(b"packed-refs", &mut out)?, Some(4103));
+    }
     Ok(())
 }
