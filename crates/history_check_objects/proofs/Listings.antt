@@ -22,11 +22,12 @@ use Rattle.gix_ref_way.proofs.Surveys.{one_more}
 use Rattle.gix_ref_way.proofs.Walked.{all_below, none_below_file, found_all}
 use Rattle.gix_hash.specs.Kind.{hex_len}
 use Rattle.gix_hash.specs.declared.kind.Kind.TheVariants as digests
-use Rattle.history_check_objects.specs.Flaws.{IsObjectsFlaw, IsStray, stray_file, stray_folder}
-use Rattle.history_check_objects.specs.Listing.{Gathers, HasObjectFile, IsListedAt, IsNoPlace, IsPlaceIn}
+use Rattle.history_check_objects.specs.Flaws.{HasText, IsObjectsFlaw, IsStray, IsTooLong, stray_file, stray_folder}
+use Rattle.history_check_objects.specs.Listing.{Gathers, HasObjectFile, IsListedAt, IsNoObject, IsPlaceIn}
 use Rattle.history_texts.specs.declared.open_error.OpenError.{OpenError}
-use Rattle.history_texts.specs.declared.open_error.OpenError.TheVariants.{Stray, Unfinished, Memory}
+use Rattle.history_texts.specs.declared.open_error.OpenError.TheVariants.{Stray, TooLarge, Unfinished, Memory}
 use Rattle.history_check_objects.specs.Surveying.{AreListed}
+use Rattle.history_check_objects.proofs.Texts.{too_long_file}
 
 -- ---- lists that grow
 
@@ -170,19 +171,22 @@ pub other_place : (kind : Kind) (id other : Id) (path digits : Bytes) → is_id 
 other_place kind id other path digits formed other_formed is cut spelled =
     is ∙ ap object_place (hex_tells kind id other formed other_formed (sym (digits_placed kind id path formed is).0 ∙ sym cut ∙ spelled))
 
--- ---- what is no place of an object
+-- ---- what is no object's file
 
-pub no_place : (MayFail : Type 0) (kind : Kind) (tree : Tree) (path : Bytes) (size : ℕ) → place_of (node_at tree path) ≡ places.File size → (flaw : OpenError) → IsNoPlace kind path flaw → IsObjectsFlaw MayFail kind tree flaw
-no_place MayFail kind tree path size there flaw is = go (text_there (node_at tree path) there) flaw is
+pub no_object : (MayFail : Type 0) (kind : Kind) (tree : Tree) (path : Bytes) (size : ℕ) → place_of (node_at tree path) ≡ places.File size → (flaw : OpenError) → IsNoObject kind path size flaw → IsObjectsFlaw MayFail kind tree flaw
+no_object MayFail kind tree path size there flaw is = go (text_there (node_at tree path) there) flaw is
   where
     text_there : (o : Option Node) → place_of o ≡ places.File size → (text : Bytes) × (bytes_of o ≡ Some text)
     text_there None h = cc
     text_there (Some (file bytes)) h = (bytes, refl)
     text_there (Some folder) h = cc
 
-    go : (text : Bytes) × (file_at tree path ≡ Some text) → (flaw : OpenError) → IsNoPlace kind path flaw → IsObjectsFlaw MayFail kind tree flaw
+    go : (text : Bytes) × (file_at tree path ≡ Some text) → (flaw : OpenError) → IsNoObject kind path size flaw → IsObjectsFlaw MayFail kind tree flaw
     go (text, at) (Stray other) (same, apart, none) = subst (IsStray kind tree) (sym same) (stray_file text at apart none)
     go (text, at) (Unfinished other) (same, here) = (same ∙ here, (text, ap (file_at tree) (sym here) ∙ at))
+    go (text, at) (TooLarge other) (same, long, (id, formed, place)) =
+        subst (λ p. HasText kind tree p (λ id text. IsTooLong text)) (sym same)
+        (too_long_file kind tree id path size (formed, (text, ap (file_at tree) (sym place) ∙ at)) place there long)
     go (text, at) Memory is = tt
     go (text, at) _ is = absurd is
 

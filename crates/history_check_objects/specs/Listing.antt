@@ -1,16 +1,16 @@
 -- The objects that are stored below a folder, by the places of their files.
-use Rattle.std.specs.Prelude.{◌≡◌, ◌≢◌, ⊤, ℕ, suc, List, ◌++◌, Contains, Option, Some, None, IsTrue}
+use Rattle.std.specs.Prelude.{◌≡◌, ◌≢◌, ⊤, ◌<◌, ◌+◌, ℕ, suc, List, ◌++◌, Contains, Option, Some, None, IsTrue}
 use Rattle.std.specs.FinMap.{get}
 use Rattle.gix_hash.specs.Id.{Id, id_of}
 use Rattle.gix_hash.specs.declared.kind.Kind.{Kind}
 use Rattle.gix_hash.specs.declared.object_id.ObjectId.{ObjectId}
 use Rattle.gix_ref_file.specs.Tree.{Tree, Node, file, folder}
 use Rattle.history_model.specs.Bytes.{Bytes}
-use Rattle.history_model.specs.Forms.{is_id}
+use Rattle.history_model.specs.Forms.{is_id, max_content}
 use Rattle.history_model.specs.Places.{file_at, is_object_folder, object_place, unfinished_place}
 use Rattle.gix_ref_way.specs.Ways.{above}
 use Rattle.history_texts.specs.declared.open_error.OpenError.{OpenError}
-use Rattle.history_texts.specs.declared.open_error.OpenError.TheVariants.{Stray, Unfinished, Memory}
+use Rattle.history_texts.specs.declared.open_error.OpenError.TheVariants.{Stray, TooLarge, Unfinished, Memory}
 
 -- the place of one of these ids
 abbrev pub IsPlaceIn : List ObjectId → Bytes → Type 0
@@ -38,10 +38,13 @@ pub record Gathers (kind : Kind) (tree : Tree) (place : Bytes) (old new : List O
   pub all : (n : ℕ) (path : Bytes) → above (suc n) path ≡ place
       → IsListedAt new path (get tree path)
 
--- the path is the place of no object: it is the unfinished file's, or a stray
-abbrev pub IsNoPlace : Kind → Bytes → OpenError → Type 0
-IsNoPlace kind path (Stray other) = (other.items ≡ path) × (path ≢ unfinished_place)
+-- a file of so many bytes at the path is no object's: it is the unfinished file, a stray, or longer
+-- than any object's text, whose header has 16 bytes at most
+abbrev pub IsNoObject : Kind → Bytes → ℕ → OpenError → Type 0
+IsNoObject kind path len (Stray other) = (other.items ≡ path) × (path ≢ unfinished_place)
     × ((id : Id) → IsTrue (is_id kind id) → path ≢ object_place id)
-IsNoPlace kind path (Unfinished other) = (other.items ≡ path) × (path ≡ unfinished_place)
-IsNoPlace kind path Memory = ⊤
-IsNoPlace kind path _ = ⊥
+IsNoObject kind path len (Unfinished other) = (other.items ≡ path) × (path ≡ unfinished_place)
+IsNoObject kind path len (TooLarge other) = (other.items ≡ path) × (max_content + 16 < len)
+    × ((id : Id) × IsTrue (is_id kind id) × (path ≡ object_place id))
+IsNoObject kind path len Memory = ⊤
+IsNoObject kind path len _ = ⊥

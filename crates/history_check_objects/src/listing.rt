@@ -5,15 +5,20 @@ ghost use Rattle.history_model.specs.Forms.{is_id};
 ghost use Rattle.history_model.specs.Places.{object_place};
 ghost use Rattle.history_check_objects.specs.Flaws.{IsObjectsFlaw};
 ghost use Rattle.history_check_objects.specs.Folders.{HasFolders};
-ghost use Rattle.history_check_objects.specs.Listing.{Gathers, IsNoPlace};
+ghost use Rattle.history_check_objects.specs.Listing.{Gathers, IsNoObject};
 ghost use Rattle.history_check_objects.specs.Surveying.{AreListed};
 
 use gix_hash::{Kind, ObjectId};
 use gix_ref_file::paths::{is_deeper, joined};
 use gix_ref_file::{Files, Place};
+use history_model::limits::MAX_CONTENT;
 use history_texts::{OpenError, Part, UNFINISHED, object_place, parse_lower_hex};
 use std::alloc::{AllocError, Global};
 use std::collections::BTreeSet;
+
+/// The most bytes that an object's text has: a content within the limit after a kind, a space, eight
+/// digits and a zero byte.
+const MAX_TEXT: u64 = MAX_CONTENT as u64 + 16;
 
 /// What a part has: the ids whose places have files, and the folders that they are in.
 #[derive(Drop)]
@@ -23,8 +28,9 @@ pub(crate) struct Listed {
 }
 
 /// Returns the ids whose places have files, and the folders of the part. Otherwise the error is `Stray` for another file or a
-/// folder that isn't one of objects, `Unfinished` for the unfinished file, `File` if a call of the
-/// files failed, or `Memory` if no memory is left.
+/// folder that isn't one of objects, `Unfinished` for the unfinished file, `TooLarge` for a file
+/// that is longer than any object's, `File` if a call of the files failed, or `Memory` if no memory
+/// is left.
 pub(crate) fn list_objects<F: Files>(
     alloc: Global,
     files: &F,
@@ -71,8 +77,8 @@ fn gather<F: Files>(
             Place::Folder => return Err(OpenError::Stray(path)),
             // A name that is gone: the folder changed while it was read.
             Place::Absent => return Err(OpenError::Stray(path)),
-            Place::File(_) => {
-                let id = id_of_file(alloc, kind, path)?;
+            Place::File(len) => {
+                let id = id_of_file(alloc, kind, path, len)?;
                 ids.push(id)?;
             }
         }
@@ -80,14 +86,17 @@ fn gather<F: Files>(
     Ok(())
 }
 
-// Returns the id whose place the path is. Otherwise the error is `Unfinished` or `Stray`, with the
-// path, or no memory is left.
-fn id_of_file(alloc: Global, kind: Kind, path: Vec<u8>) -> Result<ObjectId, OpenError>
+// Returns the id whose place the path of a file of so many bytes is. Otherwise the error is
+// `TooLarge`, `Unfinished` or `Stray`, with the path, or no memory is left.
+fn id_of_file(alloc: Global, kind: Kind, path: Vec<u8>, len: u64) -> Result<ObjectId, OpenError>
     ensures placed { IfOk result (λ id. IsTrue (is_id kind (id_of id))
         × (path.items ≡ object_place (id_of id))) }
-    ensures flaw { IfErr result (IsNoPlace kind path.items) }
+    ensures flaw { IfErr result (IsNoObject kind path.items len) }
 {
     if let Some(id) = placed_id(alloc, kind, &path)? {
+        if len > MAX_TEXT {
+            return Err(OpenError::TooLarge(path));
+        }
         return Ok(id);
     }
     if path.as_slice() == UNFINISHED {

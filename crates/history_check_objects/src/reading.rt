@@ -18,17 +18,13 @@ use gix_hash::{Kind, ObjectId};
 use gix_object::decode::Error;
 use gix_object::tree::EntryRef;
 use gix_object::{Kind as ObjectKind, TreeRef};
-use gix_ref_file::{Files, Place};
+use gix_ref_file::Files;
 use history_model::limits::MAX_CONTENT;
 use history_texts::{
     Named, OpenError, is_before_1970, is_tag_of_other, is_written_tree, named_by, object_place,
     parse_header,
 };
 use std::alloc::{AllocError, Global};
-
-/// The most bytes that the header of a content within the limit has: a kind, a space, eight digits
-/// and a zero byte.
-const MAX_HEADER: u64 = 16;
 
 /// An object that another one names: its id, the kind that it must be of, and the length of the
 /// name that a tree gives it.
@@ -62,11 +58,6 @@ pub(crate) fn read_object<F: Files>(
         → IfErr result (IsObjectsFlaw F.reading_may_fail kind (F.history files.now).tree) }
 {
     let place = object_place(alloc, id)?;
-    if let Place::File(size) = files.kind_of(&place)? {
-        if size > MAX_CONTENT as u64 + MAX_HEADER {
-            return Err(OpenError::TooLarge(place));
-        }
-    }
     let mut text = Vec::new(alloc);
     files.read(&place, &mut text)?;
     found_in(alloc, kind, id, place, &text)

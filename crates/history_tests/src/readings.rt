@@ -535,7 +535,7 @@ fn an_index_reads_a_long_commit_once(rt: HostRuntime) -> Result<(), AllocError> 
 
 /// Returns the number of calls of a pass over a part that reads each object once: the part and
 /// `objects` are listed, and `objects` is looked up; so is each folder, and it is listed; each
-/// object is looked up, its size is too, and it is read.
+/// object is looked up, with its length, and read.
 fn calls_of_a_pass(alloc: Global, files: &MemoryFiles) -> Option<u64> {
     let mut calls = 3u64;
     for folder in &files.list(alloc, b"objects").ok()? {
@@ -543,7 +543,7 @@ fn calls_of_a_pass(alloc: Global, files: &MemoryFiles) -> Option<u64> {
         let objects = files.list(alloc, &path).ok()?.len() as u64;
         calls = calls
             .saturating_add(2)
-            .saturating_add(objects.saturating_mul(3));
+            .saturating_add(objects.saturating_mul(2));
     }
     Some(calls)
 }

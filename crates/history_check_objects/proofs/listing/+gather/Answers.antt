@@ -9,7 +9,7 @@ use Rattle.gix_ref_way.proofs.Surveys.{is_listed, not_absent, is_deep}
 use Rattle.history_check_objects.specs.Flaws.{IsObjectsFlaw}
 use Rattle.history_check_objects.specs.Folders.{HasFolders}
 use Rattle.history_check_objects.specs.Listing.{Gathers}
-use Rattle.history_check_objects.proofs.Listings.{GathersSome, all_gathered, file_more, folder_is_stray, folder_more, no_place, none_yet, told}
+use Rattle.history_check_objects.proofs.Listings.{GathersSome, all_gathered, file_more, folder_is_stray, folder_more, no_object, none_yet, told}
 use Rattle.history_check_objects.proofs.SeenFolders.{one_seen}
 use Rattle.history_check_objects.proofs.listing.+gather.Goals as goal
 use Rattle.history_check_objects.proofs.listing.+gather.Goals.{then-may_hold_folder+else-is_deeper, else-may_hold_folder, in-Folder+in_ok-gather-in-Folder+in_ok-insert-in-Folder, in-File+in_ok-id-in-File+in_ok-push-in-File}
@@ -25,7 +25,7 @@ returns-in_err-id-in-File-clause-flaw g t c = λ honest.
     let tree = (g.F.Files.history c.args.files.now).tree in
     let place = ap (λ p. place_of (node_at tree p)) (sym c.deref-in-loop-name.ensures.value) ∙ sym (c.in_ok-kind_of.ensures.place honest) ∙ c.in-File.is in
     told (IsObjectsFlaw g.F.Files.reading_may_fail c.args.kind tree) c.from_residual-in_err-id-in-File.result c.in_err-id-in-File.field-0.0 (search rules)
-    (no_place g.F.Files.reading_may_fail c.args.kind tree c.in_ok-path.path.items _ place c.in_err-id-in-File.field-0.0 c.in_err-id-in-File.ensures.flaw)
+    (no_object g.F.Files.reading_may_fail c.args.kind tree c.in_ok-path.path.items _ place c.in_err-id-in-File.field-0.0 c.in_err-id-in-File.ensures.flaw)
 
 pub returns-in-Folder-2-clause-flaw : goal.returns-in-Folder-2-clause-flaw
 returns-in-Folder-2-clause-flaw g t c = λ honest.
