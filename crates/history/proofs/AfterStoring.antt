@@ -10,7 +10,7 @@ use Rattle.history_model.specs.laws.Wholeness.{IsSound}
 use Rattle.history_model.proofs.WholeStores.{all_keep}
 use Rattle.history_layout.specs.TreeHalves.{HoldsValues}
 use Rattle.history_layout.proofs.TreePuts.{halves_stand}
-use Rattle.history_store.specs.KnownObjects.{HasKnownFolders}
+use Rattle.history_store.specs.KnownObjects.{HasKnown}
 use Rattle.history_store.specs.ObjectsFace.{ids_of_objects}
 use Rattle.history_repository.specs.Face.{KeepsAllButNames, rows_in}
 use Rattle.history_repository.specs.KeptRows.{AgreeRows}
@@ -33,7 +33,7 @@ module _ {F : Type 0} (IsHonest : F → Type 0) (history : F → History) (now :
     kind = h.objects_kind;
     holds = subst (λ (values : plain.Values). HoldsValues r.kind (objects_tree history now) values) (sym same) ((halves_stand r.kind (pair_of history now) r).0 h.whole.stands).1;
     known = λ id. h.known id ∙ ap (λ (values : plain.Values). contains_key values id) (sym same);
-    folders = h.folders;
+    exist = h.exist;
   }
 
   module _ (r : plain.Repository) (sent : Command) (s : HasStored IsHonest history now r sent) where
@@ -59,7 +59,7 @@ module _ {F : Type 0} (IsHonest : F → Type 0) (history : F → History) (now :
       names_kind = stand_still.kind;
       branch = ap (λ branch. branch.items) s.kept.branch ∙ s.stood.branch;
       known = λ id. s.known id ∙ ap (λ (values : plain.Values). contains_key values id) same;
-      folders = s.folders;
+      exist = s.exist;
       records = stand_still.records;
       rows = subst (λ (rows : Option (List Row)). AgreeRows r.kind r.objects (rows_of rows)) (sym s.kept.rows) s.stood.rows;
     }
@@ -86,7 +86,7 @@ module _ {F : Type 0} (IsHonest : F → Type 0) (history : F → History) (now :
         names_kind = stand.kind;
         branch = ap (λ branch. branch.items) (kept.branch ∙ s.kept.branch) ∙ s.stood.branch ∙ sym branch;
         known = λ id. ap (λ objects. contains_key (ids_of_objects objects) id) kept.objects ∙ s.known id;
-        folders = subst (λ objects. HasKnownFolders (history objects.files).tree objects) (sym kept.objects) s.folders;
+        exist = subst (λ objects. HasKnown (history objects.files).tree objects) (sym kept.objects) s.exist;
         records = stand.records;
         rows = subst (λ (rows : Option (List Row)). AgreeRows r.kind (after r sent).objects (rows_of rows)) (sym (kept.rows ∙ s.kept.rows))
             (agree_grown r.kind r.objects (after r sent).objects (rows_of (rows_in s.before)) (λ id value at. all_keep r.kind r.objects (stored_by r sent) id value at) s.stood.rows);

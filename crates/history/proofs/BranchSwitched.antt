@@ -19,7 +19,7 @@ use Rattle.history_layout.specs.SwitchSteps.{HeadOnTheWay, NamesBranch}
 use Rattle.history_layout.specs.TreeHalves.{HoldsNames, HoldsValues}
 use Rattle.history_layout.proofs.HeadSwitched.{switches_pass, switches_stand}
 use Rattle.history_layout.proofs.TreePuts.{halves_stand}
-use Rattle.history_store.specs.KnownObjects.{HasKnownFolders}
+use Rattle.history_store.specs.KnownObjects.{HasKnown}
 use Rattle.history_store.specs.ObjectsFace.{ids_of_objects}
 use Rattle.history_store.specs.Changing.{MaySwitch}
 use Rattle.history_store.specs.Packing.{KeepsRecords}
@@ -100,7 +100,7 @@ module _ {F : Type 0} (IsHonest : F → Type 0) (history : F → History) (old :
       names_kind = kind ∙ h.names_kind;
       branch = branch;
       known = λ id. ap (λ o. contains_key (ids_of_objects o) id) objects ∙ h.known id;
-      folders = subst (λ o. HasKnownFolders (history o.files).tree o) (sym objects) h.folders;
+      exist = subst (λ o. HasKnown (history o.files).tree o) (sym objects) h.exist;
       records = records;
       rows = subst (λ (rows : Option (List Row)). AgreeRows r.kind r.objects (rows_of rows)) (sym same_rows) h.rows;
     }

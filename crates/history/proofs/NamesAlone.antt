@@ -11,7 +11,7 @@ use Rattle.history_model.specs.Stops.{is_changing}
 use Rattle.history_model.specs.StandsFor.{StandsFor}
 use Rattle.history_model.specs.laws.Wholeness.{IsSound}
 use Rattle.history_model.proofs.WholeSteps.{steps_keep_sound}
-use Rattle.history_store.specs.KnownObjects.{HasKnownFolders}
+use Rattle.history_store.specs.KnownObjects.{HasKnown}
 use Rattle.history_store.specs.ObjectsFace.{ids_of_objects}
 use Rattle.history_store.specs.Packing.{KeepsRecords}
 use Rattle.gix_traverse_commit_known.specs.Told.{rows_of}
@@ -52,6 +52,6 @@ module _ {F : Type 0} (IsHonest : F → Type 0) (history : F → History) (old n
     branch = ap (λ branch. branch.items) kept.branch ∙ h.branch ∙ sym c.branch;
     rows = subst (λ (kept_rows : Option (List Row)). AgreeRows r.kind (after r sent).objects (rows_of kept_rows)) (sym kept.rows) (subst (λ (values : plain.Values). AgreeRows r.kind values (rows_of (rows_in old))) (sym c.values) h.rows);
     records = records;
-    folders = subst (λ objects. HasKnownFolders (history objects.files).tree objects) (sym kept.objects) h.folders;
+    exist = subst (λ objects. HasKnown (history objects.files).tree objects) (sym kept.objects) h.exist;
     known = λ id. ap (λ objects. contains_key (ids_of_objects objects) id) kept.objects ∙ h.known id ∙ ap (λ (values : plain.Values). contains_key values id) (sym c.values);
   }

@@ -208,7 +208,7 @@ rows_serve IsHonest history old r rows h agree = record {
   names_kind = h.names_kind;
   branch = h.branch;
   known = h.known;
-  folders = h.folders;
+  exist = h.exist;
   records = h.records;
   rows = agree;
 }

@@ -21,7 +21,7 @@ use Rattle.history_layout.specs.EditSteps.{EditsMade}
 use Rattle.history_layout.specs.PackSteps.{PacksNames, PacksOnTheWay}
 use Rattle.history_layout.specs.Passing.{HoldsBetween, HoldsFirst}
 pub use Rattle.history_store.specs.Calls.{KeepsHonesty}
-use Rattle.history_store.specs.KnownObjects.{KnownFoldersExist}
+use Rattle.history_store.specs.KnownObjects.{KnownExist}
 use Rattle.history_store.specs.NamesFace.{kind_of_names}
 use Rattle.history_store.specs.ObjectsFace.{kind_of_objects}
 use Rattle.history_repository.specs.Face.{KeepsAllButObjects, has_failed, names_part, objects_part, rows_in}
@@ -49,14 +49,14 @@ pub record KeepsBoth {F : Type 0} (files : Ghosts F) (Reports : Type 0) (old new
   pub objects : KeepsHonesty files Reports (objects_part old) (objects_part new)
   pub names : KeepsHonesty files Reports (names_part old) (names_part new)
 
--- The objects part stays so, the kind of its ids and the known folders stay, and all but the objects
--- is as it was.
+-- The objects part stays so, the kind of its ids stays and what is known of it stays so, and all but
+-- the objects is as it was.
 pub record StoresAlone {F : Type 0} (files : Ghosts F) (Reports : Type 0) (old new : Repository F) : Type 0 where
   pub kept : KeepsAllButObjects old new
   pub kind : kind_of_objects new.objects ≡ kind_of_objects old.objects
   pub objects : KeepsHonesty files Reports (objects_part old) (objects_part new)
-  pub folders : KnownFoldersExist files.is_honest files.history old.objects
-      → KnownFoldersExist files.is_honest files.history new.objects
+  pub exist : KnownExist files.is_honest files.history old.objects
+      → KnownExist files.is_honest files.history new.objects
 
 -- The names part stays so, the kind of its ids stays, and names alone move.
 pub record MovesAlone {F : Type 0} (files : Ghosts F) (Reports : Type 0) (old new : Repository F) : Type 0 where

@@ -13,7 +13,7 @@ use Rattle.history_layout.specs.CommandEdits.{moved_by, moved_on}
 use Rattle.history_layout.specs.EditSteps.{renamed}
 use Rattle.history_layout.specs.OneNameSteps.{commit_move, tag_move}
 use Rattle.history_layout.specs.TreeHalves.{HoldsValues}
-use Rattle.history_store.specs.KnownObjects.{HasKnownFolders}
+use Rattle.history_store.specs.KnownObjects.{HasKnown}
 use Rattle.history_store.specs.ObjectsFace.{kind_of_objects}
 use Rattle.history_word.specs.Commands.{IsCommandOf}
 use Rattle.history_word.specs.declared.command.Command.{Command}
@@ -108,7 +108,7 @@ pub record HasStored {F : Type 0} (IsHonest : F → Type 0) (history : F → His
   pub kind : kind_of_objects repository.objects ≡ r.kind
   pub holds : HoldsValues r.kind (objects_tree history repository) (after r sent).objects
   pub known : KnowsIds repository (after r sent).objects
-  pub folders : HasKnownFolders (objects_tree history repository) repository.objects
+  pub exist : HasKnown (objects_tree history repository) repository.objects
 
 -- The objects are stored, and these are the moves; else the first cause is returned, or a fault.
 abbrev pub StoresObjects : Type 0 → Type 0 → plain.Repository → commands.Command

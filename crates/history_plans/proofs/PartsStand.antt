@@ -27,7 +27,7 @@ module _ {F : Type 0} (IsHonest : F → Type 0) (history : F → History) where
         honest = h.honest_objects;
         holds = subst (λ kind. HoldsValues kind (objects_tree history repository) r.objects) same ((halves_stand r.kind (pair_of history repository) r).0 h.whole.stands).1;
         own_ids = subst (λ kind. HaveOwnIds kind r.objects) same (h.whole.whole.store).own_ids;
-        folders = h.folders;
+        exist = h.exist;
       }
 
   pub names_stand : (old mid : Repository F) (r : plain.Repository) → Stands IsHonest history old r → KeepsAllButObjects old mid → NamesStand IsHonest history mid r

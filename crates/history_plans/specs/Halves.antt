@@ -14,7 +14,7 @@ use Rattle.history_repository.specs.Face.{objects_part, names_part, known_ids}
 use Rattle.history_repository.specs.declared.repository.Repository.{Repository}
 use Rattle.history_repository.specs.declared.stopped.Stopped.{Stopped}
 use Rattle.history_repository.specs.declared.stopped.Stopped.TheVariants.{Refused, Fault}
-use Rattle.history_store.specs.KnownObjects.{HasKnownFolders}
+use Rattle.history_store.specs.KnownObjects.{HasKnown}
 use Rattle.history_store.specs.ObjectsFace.{kind_of_objects}
 use Rattle.history_store.specs.Changing.{HoldNamesOf}
 use Rattle.history_model.specs.Repository as plain
@@ -26,15 +26,15 @@ objects_tree history repository = (history (objects_part repository)).tree
 abbrev pub names_tree : {F : Type 0} → (F → History) → Repository F → Tree
 names_tree history repository = (history (names_part repository)).tree
 
--- The objects part is honest and holds these values, each under its own id, and the folders that
--- are known.
+-- The objects part is honest and holds these values, each under its own id, and what is known of
+-- it is so.
 pub record ObjectsStand {F : Type 0} (IsHonest : F → Type 0) (history : F → History)
     (repository : Repository F) (values : Values) : Type 0 where
   pub honest : IsHonest (objects_part repository)
   pub holds : HoldsValues (kind_of_objects repository.objects)
       (objects_tree history repository) values
   pub own_ids : HaveOwnIds (kind_of_objects repository.objects) values
-  pub folders : HasKnownFolders (objects_tree history repository) repository.objects
+  pub exist : HasKnown (objects_tree history repository) repository.objects
 
 -- The ids that are known are those of these values.
 abbrev pub KnowsIds : {F : Type 0} → Repository F → Values → Type 0

@@ -52,15 +52,6 @@ row_stored r row told is same tree_is parents_are time_is = record {
   time = time_is ∙ is.time;
 }
 
--- what has a row is a commit
-pub row_commit : {F : Type 0} (IsHonest : F → Type 0) (history : F → History) (repository : own.Repository F) (r : Repository) → Stands IsHonest history repository r → (id : ObjectId) (value : Value) (found : Option (Bor Row)) → get r.objects (id_of id) ≡ Some value
-    → IfSome found (λ row. Contains (graph_rows (rows_in repository)) row.now × (row.now.id ≡ id)) → is_some found ≡ true → is_some (as_commit value) ≡ true
-row_commit IsHonest history repository r stands id value None at row some = cc
-row_commit IsHonest history repository r stands id value (Some row) at found some =
-    let told = stands.rows.told row.now found.0 in
-    let same : Some value ≡ Some (StoredCommit told.commit) = sym at ∙ ap (λ x. get r.objects (id_of x)) (sym found.1) ∙ told.stored in
-    ap (λ v. is_some (option_and_then as_commit v)) same
-
 -- no tips reach none
 none_reached : (g : Commits Id) {y : Id} → Reached (λ z. (g z).parents) (λ _. ⊤) [] y → ⊥
 none_reached g (tip c p) = omega (arith, c.1)
@@ -194,27 +185,17 @@ tells_stored r id told commit value at says same tree_is parents_are time_is = r
 
 -- ---- the ids of commits
 
-some_value : (found : Option Value) → is_some found ≡ true → (value : Value) × (found ≡ Some value)
-some_value (Some value) is = (value, refl)
-some_value None is = cc
-
-pub commit_holds : (r : Repository) (id : Id) (value : Value) → get r.objects id ≡ Some value → is_some (as_commit value) ≡ true → HoldsCommit r id
-commit_holds r id value at is = ap (λ found. is_some (option_and_then as_commit found)) at ∙ is
-
-pub none_held : (r : Repository) (id : Id) (value : Value) → get r.objects id ≡ Some value → is_some (as_commit value) ≡ false → HoldsCommit r id → ⊥
-none_held r id value at is holds = let none : is_some (commit_at r id) ≡ false = ap (λ found. is_some (option_and_then as_commit found)) at ∙ is in clash holds none
-
--- of the ids so far those of commits are kept, and the rest is to be looked at
+-- some of the commits were listed, and the rest is to come
 pub record AreSoFar (r : Repository) (commits rest : List ObjectId) : Type 0 where
   pub hold : AllHold r commits
   pub every : (id : Id) → HoldsCommit r id → ((x : ObjectId) × Contains commits x × (id_of x ≡ id)) ⊎ (is_one_of rest id ≡ true)
-  pub stand : (id : Id) → is_one_of rest id ≡ true → (value : Value) × (get r.objects id ≡ Some value)
+  pub rest_hold : (id : Id) → is_one_of rest id ≡ true → HoldsCommit r id
 
-pub none_so_far : (r : Repository) (rest : List ObjectId) → ((id : Id) → contains_key r.objects id ≡ is_one_of rest id) → AreSoFar r [] rest
+pub none_so_far : (r : Repository) (rest : List ObjectId) → ((id : Id) → is_some (commit_at r id) ≡ is_one_of rest id) → AreSoFar r [] rest
 none_so_far r rest known = record {
   hold = λ x c. absurd (omega (arith, c.1));
-  every = λ id holds. let (commit, at) = holds_value r id holds in inr (sym (known id) ∙ ap is_some at);
-  stand = λ id is. some_value (get r.objects id) (known id ∙ is);
+  every = λ id holds. inr (sym (known id) ∙ holds);
+  rest_hold = λ id is. known id ∙ is;
 }
 
 first_is : (x : ObjectId) (more : List ObjectId) → is_one_of (x ∷ more) (id_of x) ≡ true
@@ -235,11 +216,11 @@ first_or_later x more id is = go (id_eq id (id_of x)) refl is
     go false other is = inr is
 
 module _ (r : Repository) (commits rest : List ObjectId) (so_far : AreSoFar r commits rest) (x : ObjectId) (more : List ObjectId) (first : rest ≡ x ∷ more) where
-  pub next_stands : (value : Value) × (get r.objects (id_of x) ≡ Some value)
-  next_stands = so_far.stand (id_of x) (subst (λ ids. is_one_of ids (id_of x) ≡ true) (sym first) (first_is x more))
+  next_holds : HoldsCommit r (id_of x)
+  next_holds = so_far.rest_hold (id_of x) (subst (λ ids. is_one_of ids (id_of x) ≡ true) (sym first) (first_is x more))
 
-  stand_then : (id : Id) → is_one_of more id ≡ true → (value : Value) × (get r.objects id ≡ Some value)
-  stand_then id is = so_far.stand id (subst (λ ids. is_one_of ids id ≡ true) (sym first) (later_is x more id is))
+  hold_later : (id : Id) → is_one_of more id ≡ true → HoldsCommit r id
+  hold_later id is = so_far.rest_hold id (subst (λ ids. is_one_of ids id ≡ true) (sym first) (later_is x more id is))
 
   split_then : (id : Id) → HoldsCommit r id → ((y : ObjectId) × Contains commits y × (id_of y ≡ id)) ⊎ ((id ≡ id_of x) ⊎ (is_one_of more id ≡ true))
   split_then id holds = elim (so_far.every id holds) [
@@ -247,29 +228,19 @@ module _ (r : Repository) (commits rest : List ObjectId) (so_far : AreSoFar r co
     | inr is ↦ inr (first_or_later x more id (subst (λ ids. is_one_of ids id ≡ true) first is))
   ]
 
-  pub one_kept : (longer : List ObjectId) → longer ≡ commits ++ x ∷ [] → HoldsCommit r (id_of x) → AreSoFar r longer more
-  one_kept longer grown holds = subst (λ ids. AreSoFar r ids more) (sym grown) (record { hold = hold_then; every = every_then; stand = stand_then })
+  pub one_listed : (longer : List ObjectId) → longer ≡ commits ++ x ∷ [] → AreSoFar r longer more
+  one_listed longer grown = subst (λ ids. AreSoFar r ids more) (sym grown) (record { hold = hold_then; every = every_then; rest_hold = hold_later })
     where
       hold_then : AllHold r (commits ++ x ∷ [])
       hold_then y c = elim (Contains-push_cases commits x y c) [
         | inl earlier ↦ so_far.hold y earlier
-        | inr same ↦ subst (λ z. HoldsCommit r (id_of z)) same holds
+        | inr same ↦ subst (λ z. HoldsCommit r (id_of z)) same next_holds
       ]
 
       every_then : (id : Id) → HoldsCommit r id → ((y : ObjectId) × Contains (commits ++ x ∷ []) y × (id_of y ≡ id)) ⊎ (is_one_of more id ≡ true)
       every_then id there = elim (split_then id there) [
         | inl (y, c, same) ↦ inl (y, Contains-append_left commits (x ∷ []) y c, same)
         | inr (inl same) ↦ inl (x, Contains-push commits x, sym same)
-        | inr (inr is) ↦ inr is
-      ]
-
-  pub one_passed : (HoldsCommit r (id_of x) → ⊥) → AreSoFar r commits more
-  one_passed other = record { hold = so_far.hold; every = every_then; stand = stand_then }
-    where
-      every_then : (id : Id) → HoldsCommit r id → ((y : ObjectId) × Contains commits y × (id_of y ≡ id)) ⊎ (is_one_of more id ≡ true)
-      every_then id there = elim (split_then id there) [
-        | inl found ↦ inl found
-        | inr (inl same) ↦ absurd (other (subst (HoldsCommit r) same there))
         | inr (inr is) ↦ inr is
       ]
 

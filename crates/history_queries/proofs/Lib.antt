@@ -3,7 +3,6 @@ pub mod Answered
 pub mod CommitsWalked
 pub mod DifferingLemmas
 pub mod FoundLemmas
-pub mod Fronts
 pub mod LogItems
 pub mod LogLemmas
 pub mod OrderLemmas

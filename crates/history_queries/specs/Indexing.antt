@@ -1,10 +1,7 @@
 -- What `index` reads of a repository.
-use Rattle.std.specs.Prelude.{◌≡◌, List, map, Contains, take}
+use Rattle.std.specs.Prelude.{◌≡◌, List, map, Contains}
 use Rattle.gix_hash.specs.Id.{Id, id_of}
-use Rattle.gix_hash.specs.declared.kind.Kind.{Kind}
 use Rattle.gix_hash.specs.declared.object_id.ObjectId.{ObjectId}
-use Rattle.history_model.specs.Bytes.{Bytes}
-use Rattle.history_model.specs.Objects.{Value, value_text}
 use Rattle.history_model.specs.Repository.{Repository, HoldsCommit}
 use Rattle.history_walks.specs.Telling.{TellsStored}
 use Rattle.history_walks.specs.declared.told.Told.{Told}
@@ -19,7 +16,3 @@ pub record AreTheCommits (r : Repository) (ids : List ObjectId) : Type 0 where
 pub record AreToldOf (r : Repository) (ids : List ObjectId) (told : List Told) : Type 0 where
   pub same : map (λ (t : Told). t.id) told ≡ ids
   pub stored : (t : Told) → Contains told t → TellsStored r t
-
--- the first bytes of a value's text
-abbrev pub front_of : Kind → Value → Bytes
-front_of kind value = take 16384 (value_text kind value)

@@ -23,7 +23,7 @@ use Rattle.history_model.proofs.WholeTexts.{object_same}
 use Rattle.history_model.proofs.IdLemmas.{id_from_hex-hex, length-hex}
 use Rattle.history_layout.specs.TreeHalves.{HoldsValues}
 use Rattle.history_layout.proofs.TreePuts.{halves_stand}
-use Rattle.history_store.specs.KnownObjects.{HasKnownFolders}
+use Rattle.history_store.specs.KnownObjects.{HasKnown}
 use Rattle.history_store.specs.ObjectsFace.{ids_of_objects}
 use Rattle.history_store.specs.Ids.{IdSet}
 use Rattle.history_store.specs.Packing.{KeepsRecords}
@@ -190,7 +190,7 @@ module _ (kind : Kind) (pair : Pair) (ids : IdSet) (facts : Facts) (with_facts :
       ∙ same_facts kind pair.objects whole.values r.objects whole.holds (holds_values kind pair r stands) whole.sound (is_sound kind pair r stands) id
 
   module _ {F : Type 0} (opened : OpenedFolder F) (own : ids_of_objects opened.objects ≡ ids) (part : IsNamesPart kind facts pair.names opened.branch.items) (keeps : KeepsRecords opened.names pair.names)
-      (has : HasKnownFolders pair.objects opened.objects) where
+      (has : HasKnown pair.objects opened.objects) where
     abbrev one : Repository
     one = record { kind = kind; names = part.names; branch = opened.branch.items; objects = whole.values }
 
@@ -211,7 +211,7 @@ module _ (kind : Kind) (pair : Pair) (ids : IdSet) (facts : Facts) (with_facts :
       records = keeps;
       branch = same_branch opened.branch.items r.branch (same_Some (head_text opened.branch.items) (head_text r.branch) (sym (names_stand.holds).head ∙ (stands.stands).head));
       known = λ id. ap (λ (set : IdSet). contains_key set id) own ∙ known_as r stands id;
-      folders = has;
+      exist = has;
     }
 
     -- and it represents one

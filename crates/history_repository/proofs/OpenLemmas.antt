@@ -9,7 +9,7 @@ use Rattle.history_model.specs.Places.{Pair}
 use Rattle.history_model.specs.StandsFor.{StandsWhole}
 use Rattle.history_repository.specs.Opened.{IsOpenedAs, trees_of}
 use Rattle.history_repository.specs.declared.folder.OpenedFolder.{OpenedFolder}
-use Rattle.history_store.specs.KnownObjects.{HasKnownFolders}
+use Rattle.history_store.specs.KnownObjects.{HasKnown}
 use Rattle.history_store.specs.NamesFace.{files_of_names, kind_of_names}
 use Rattle.history_store.specs.ObjectsFace.{files_of_objects, ids_of_objects, kind_of_objects}
 use Rattle.history_store.specs.Packing.{KeepsRecords}
@@ -48,7 +48,7 @@ module _ {F : Type 0} (IsHonest : F → Type 0) (history : F → History) (opene
     records = subst (λ (own : Names F). KeepsRecords own (history (names_part repository)).tree) (sym names_are)
         (subst (λ (files : F). KeepsRecords opened.names (history files).tree) (sym own_names) is.records);
     known = λ id. ap (λ (own : Objects F). contains_key (ids_of_objects own) id) objects_are ∙ is.known id;
-    folders = subst (λ (pair : Pair). HasKnownFolders pair.objects repository.objects) same_pair (subst (λ (own : Objects F). HasKnownFolders (history objects).tree own) (sym objects_are) is.folders);
+    exist = subst (λ (pair : Pair). HasKnown pair.objects repository.objects) same_pair (subst (λ (own : Objects F). HasKnown (history objects).tree own) (sym objects_are) is.exist);
     rows = subst (λ (rows : Option (List Row)). AgreeRows r.kind r.objects (rows_of rows)) (sym unrowed) (none_agree r.kind r.objects);
   }
     where

@@ -6,15 +6,15 @@ use Rattle.gix_hash.specs.Id.{Id}
 use Rattle.gix_ref_file.specs.History.{History}
 use Rattle.gix_object_lookup.specs.Table.{Object, Table}
 use Rattle.history_model.specs.FileMap.{FileMap}
-use Rattle.history_model.specs.Objects.{Value, StoredFolder, object_kind, content_of}
+use Rattle.history_model.specs.Objects.{Value, StoredBytes, StoredCommit, StoredFolder, StoredTag, object_kind, content_of}
 use Rattle.history_model.specs.Forms.{max_content}
 use Rattle.history_files.specs.Reading.{IsRootOf}
 use Rattle.history_files.specs.Unfolding.{HasTrees}
 use Rattle.history_files.proofs.Stores.{has_trees}
-use Rattle.history_store.specs.KnownObjects.{object_at, table_of, HoldsKnown}
+use Rattle.history_store.specs.KnownObjects.{is_commit, object_at, table_of, HoldsKnown}
 use Rattle.history_texts.specs.ObjectTexts.{object_in}
 use Rattle.history_texts.proofs.TextObjects.{object_in-text}
-use Rattle.history_repository.specs.Face.{objects_part, known_ids}
+use Rattle.history_repository.specs.Face.{objects_part, known_commits, known_ids}
 use Rattle.history_repository.specs.Stands.{Stands}
 use Rattle.history_repository.specs.declared.repository.Repository.{Repository}
 use Rattle.history_repository.proofs.ShortIds.{kinds_known}
@@ -55,6 +55,17 @@ module _ {F : Type 0} (IsHonest : F → Type 0) (history : F → History) (repos
 
   pub tables_same : table_of history repository.objects ≡ laws.table_of r
   tables_same = λ i. λ id. at_id id i
+
+  -- the ids of commits that are known are those of what is stored
+  pub commit_known : (id : Id) → contains_key (known_commits repository) id ≡ is_some (plain.commit_at r id)
+  commit_known id = stands.exist.commits id ∙ ap (λ found. is_commit (option_map (λ object. object.kind) found)) (at_id id) ∙ by_value (get r.objects id)
+    where
+      by_value : (found : Option Value) → is_commit (option_map (λ object. object.kind) (option_map object_of found)) ≡ is_some (option_and_then plain.as_commit found)
+      by_value None = refl
+      by_value (Some (StoredCommit commit)) = refl
+      by_value (Some (StoredTag tag)) = refl
+      by_value (Some (StoredBytes bytes)) = refl
+      by_value (Some (StoredFolder files)) = refl
 
   pub holds_known : HoldsKnown IsHonest history repository.objects
   holds_known = record { honest = stands.honest_objects; known = known_there; kinds = kinds_known IsHonest history repository r stands }

@@ -2,7 +2,7 @@
 use Rattle.std.specs.Prelude.{◌≡◌, Bool, List, Option}
 use Rattle.gix_traverse_graph.specs.declared.rows.Row.{Row}
 use Rattle.history_store.specs.Ids.{IdSet}
-use Rattle.history_store.specs.ObjectsFace.{files_of_objects, ids_of_objects}
+use Rattle.history_store.specs.ObjectsFace.{commits_of_objects, files_of_objects, ids_of_objects}
 use Rattle.history_store.specs.NamesFace.{files_of_names}
 use Rattle.history_repository.specs.declared.repository.Repository.{Repository}
 
@@ -17,6 +17,10 @@ names_part repository = files_of_names repository.names
 -- the ids that are known to be stored
 abbrev pub known_ids : {F : Type 0} → Repository F → IdSet
 known_ids repository = ids_of_objects repository.objects
+
+-- those of them that are known to be commits'
+abbrev pub known_commits : {F : Type 0} → Repository F → IdSet
+known_commits repository = commits_of_objects repository.objects
 
 -- the rows that it keeps of its commits, if it has any
 abbrev pub rows_in : {F : Type 0} → Repository F → Option (List Row)

@@ -8,7 +8,7 @@ use Rattle.gix_ref_file.specs.declared.files.Files.{Ghosts}
 use Rattle.history_model.specs.Places.{Pair}
 use Rattle.history_model.specs.Repository.{Repository}
 use Rattle.history_model.specs.StandsFor.{StandsWhole}
-use Rattle.history_store.specs.KnownObjects.{HasKnownFolders}
+use Rattle.history_store.specs.KnownObjects.{HasKnown}
 use Rattle.history_store.specs.ObjectsFace.{ids_of_objects}
 use Rattle.history_store.specs.Packing.{KeepsRecords}
 use Rattle.history_repository.specs.Causes.{IsOpenCause, IsOpenFault}
@@ -21,14 +21,14 @@ trees_of history objects names =
     record { objects = (history objects).tree; names = (history names).tree }
 
 -- The pair represents this whole repository; the branch and the ids that are kept are its own, the
--- records those of `packed-refs`, and the folders that are known are there.
+-- records those of `packed-refs`, and what is known of the objects is so.
 pub record IsOpenedAs {F : Type 0} (kind : Kind) (pair : Pair) (opened : OpenedFolder F)
     (r : Repository) : Type 0 where
   pub stands : StandsWhole kind pair r
   pub branch : opened.branch.items ≡ r.branch
   pub records : KeepsRecords opened.names pair.names
   pub known : (id : Id) → contains_key (ids_of_objects opened.objects) id ≡ contains_key r.objects id
-  pub folders : HasKnownFolders pair.objects opened.objects
+  pub exist : HasKnown pair.objects opened.objects
 
 -- Two honest parts are opened only if they represent a whole repository; whichever they represent,
 -- what is opened is that one.

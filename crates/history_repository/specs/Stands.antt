@@ -10,7 +10,7 @@ use Rattle.gix_traverse_commit_known.specs.Told.{rows_of}
 use Rattle.gix_hash.specs.Id.{Id}
 use Rattle.history_repository.specs.Face.{objects_part, names_part, known_ids, rows_in}
 use Rattle.history_repository.specs.KeptRows.{AgreeRows}
-use Rattle.history_store.specs.KnownObjects.{HasKnownFolders}
+use Rattle.history_store.specs.KnownObjects.{HasKnown}
 use Rattle.history_store.specs.NamesFace.{kind_of_names}
 use Rattle.history_store.specs.ObjectsFace.{kind_of_objects}
 use Rattle.history_store.specs.Packing.{KeepsRecords}
@@ -37,8 +37,8 @@ pub record Stands {F : Type 0} (IsHonest : F → Type 0) (history : F → Histor
   pub branch : repository.branch.items ≡ r.branch
   -- the ids that are known are those of what is stored
   pub known : (id : Id) → contains_key (known_ids repository) id ≡ contains_key r.objects id
-  -- the folders that are known to exist are there
-  pub folders : HasKnownFolders (pair_of history repository).objects repository.objects
+  -- what else is known of the objects is so: folders, and which are commits
+  pub exist : HasKnown (pair_of history repository).objects repository.objects
   -- the records that are kept are those of `packed-refs`
   pub records : KeepsRecords repository.names (pair_of history repository).names
   -- the rows that are kept say what is stored of their commits

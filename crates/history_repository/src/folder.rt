@@ -2,7 +2,7 @@
 
 ghost use Rattle.std.specs.Prelude.{◌≡◌, IfOk};
 ghost use Rattle.history_store.specs.NamesFace.{files_of_names, kind_of_names};
-ghost use Rattle.history_store.specs.KnownObjects.{HasKnownFolders};
+ghost use Rattle.history_store.specs.KnownObjects.{HasKnown};
 ghost use Rattle.history_store.specs.ObjectsFace.{files_of_objects, ids_of_objects, kind_of_objects};
 ghost use Rattle.history_check_objects.specs.Stored.{facts_in};
 ghost use Rattle.history_store.specs.Opened.{IsOpenedWith};
@@ -60,8 +60,8 @@ fn open_names<F: Files>(
     stored: &Stored,
     names: F,
 ) -> Result<OpenedFolder<F>, OpenRefusal<F>>
-    requires folders { F.is_honest (files_of_objects objects)
-        → HasKnownFolders (F.history (files_of_objects objects)).tree objects }
+    requires exist { F.is_honest (files_of_objects objects)
+        → HasKnown (F.history (files_of_objects objects)).tree objects }
     requires whole { F.is_honest (files_of_objects objects)
         → IsOpenedWith (kind_of_objects objects) (F.history (files_of_objects objects)).tree
         (ids_of_objects objects) (facts_in stored.now) }

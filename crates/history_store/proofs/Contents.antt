@@ -1,6 +1,7 @@
 -- A put of the object of a content, in the words of the content.
-use Rattle.std.proofs.Common.{◌≡◌, ◌⊎◌, inl, inr, sym, ap, subst, length, ◌<◌, ◌^◌}
-use Rattle.std.specs.Prelude.{Some}
+use Rattle.std.proofs.Common.{◌≡◌, ◌∙◌, ◌⊎◌, inl, inr, sym, ap, subst, length, ◌<◌, ◌^◌}
+use Rattle.std.specs.Prelude.{IsTrue, Some}
+use Rattle.std.specs.FinMap.{contains_key}
 use Rattle.gix_hash.specs.Id.{Id, id_of}
 use Rattle.gix_hash.specs.declared.kind.Kind.{Kind}
 use Rattle.gix_ref_file.specs.Tree.{Tree}
@@ -12,10 +13,11 @@ use Rattle.history_model.specs.Bytes.{Bytes}
 use Rattle.history_model.specs.Objects.{object_text}
 use Rattle.history_model.specs.Places.{file_at, object_place}
 use Rattle.history_store.specs.Ids.{IdSet, with_id}
+use Rattle.history_store.specs.KnownObjects.{object_at}
 use Rattle.history_texts.specs.ObjectTexts.{object_id}
 use Rattle.history_store.specs.Stores.{HoldsFile, IsIdTaken, IsTaken, MayHold, MayStand, place_of, text_of}
 use Rattle.history_texts.specs.declared.object.NewObject.{NewObject}
-use Rattle.history_store.proofs.Maps.{Knows, StaysAt, comes, knows_more, stays_when_put, stays_when_stood, still_knows, table_in, table_stays}
+use Rattle.history_store.proofs.Maps.{Knows, StaysAt, comes, knows_more, object_stays, stands_there, stays_when_put, stays_when_stood, still_knows, table_in, table_stays}
 
 -- the object is that of the content
 pub record IsObject (digests : Kind) (kind : ObjectKind) (content : Bytes) (object : NewObject) : Type 0 where
@@ -69,6 +71,11 @@ module _ (digests : Kind) (kind : ObjectKind) (content : Bytes) (object : NewObj
 
     pub gains : length content < 2 ^ 64 → Puts (table_in ids old) (table_in (with_id ids own_id) new) own_id (record { kind = kind; content = content })
     gains fits = comes place text old new (inr holds) stays ids knows own_id kind content holds.here fits
+
+    -- an object that was known under the id was this one
+    pub had : length content < 2 ^ 64 → IsTrue (contains_key ids own_id) → object_at old own_id ≡ Some (record { kind = kind; content = content })
+    had fits known =
+        sym (object_stays place text old new (inr holds) stays ids knows own_id known) ∙ stands_there place text old new (inr holds) stays ids knows own_id kind content holds.here fits
 
     pub gains_known : length content < 2 ^ 64 → Knows (with_id ids own_id) new
     gains_known fits = knows_more place text old new (inr holds) stays ids knows own_id kind content holds.here fits

@@ -79,7 +79,7 @@ module _ (place text : Bytes) (old new : Tree) (may : MayStand place text old ne
       abbrev object : Object
       object = record { kind = kind; content = content }
 
-      stands_there : object_at new id ≡ Some object
+      pub stands_there : object_at new id ≡ Some object
       stands_there = ap (option_and_then object_in) here ∙ object_in-text kind content fits
 
       known_other : (other : Id) → other ≢ id → contains_key (with_id ids id) other ≡ contains_key ids other

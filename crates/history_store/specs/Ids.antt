@@ -1,5 +1,5 @@
 -- Sets of ids, kept as ascending lists, one for each first byte.
-use Rattle.std.specs.Prelude.{◌≡◌, ⊤, ℕ, suc, Bool, true, ◌&&◌, List, [], ◌∷◌, Vec, IsTrue, length, map, take, bytes_eq, ◌==◌}
+use Rattle.std.specs.Prelude.{◌≡◌, ⊤, ℕ, suc, Bool, true, if◌then◌else◌, ◌&&◌, List, [], ◌∷◌, Vec, IsTrue, length, map, take, bytes_eq, ◌==◌}
 use Rattle.std.specs.List.{AllByRecursion, flat_map, list_all}
 use Rattle.std.specs.declared.alloc.Global.{Global}
 use Rattle.std.specs.declared.cmp.Ordering.TheVariants.{Less}
@@ -20,6 +20,10 @@ IdSet = FinSet by_id
 -- the set with one id more
 abbrev pub with_id : IdSet → Id → IdSet
 with_id ids id = insert ids id tt
+
+-- the set with one id more, if it is to be
+abbrev pub with_id_if : Bool → IdSet → Id → IdSet
+with_id_if is ids id = if is then with_id ids id else ids
 
 -- the set of some ids
 abbrev pub set_of : List ObjectId → IdSet

@@ -19,6 +19,10 @@ kind_of_objects objects = objects.kind
 abbrev pub ids_of_objects : {F : Type 0} → Objects F → IdSet
 ids_of_objects objects = kept objects.ids
 
+-- those of them that are commits'
+abbrev pub commits_of_objects : {F : Type 0} → Objects F → IdSet
+commits_of_objects objects = kept objects.commits
+
 -- the paths of the folders that are known to exist
 abbrev pub folders_of_objects : {F : Type 0} → Objects F → BTreeSet (Vec ℕ Global)
 folders_of_objects objects = objects.folders

@@ -23,7 +23,7 @@ impl Ids {
     ghost use Rattle.std.specs.Prelude.{◌≡◌, ◌≤◌, length, OnOk};
     ghost use Rattle.std.specs.FinMap.{contains_key, empty, len};
     ghost use Rattle.gix_hash.specs.Id.{Id, id_of};
-    ghost use Rattle.history_store.specs.Ids.{AreOfKind, IsAscending, with_id};
+    ghost use Rattle.history_store.specs.Ids.{AreOfKind, IsAscending, with_id, with_id_if};
     ghost use Rattle.history_texts.specs.IdLists.{is_one_of};
     ghost use Rattle.history_store.specs.KeptIds.{HasRoom, kept, left};
     ghost use Rattle.history_store.specs.Prefixes.{CanName, IsHit};
@@ -71,6 +71,16 @@ impl Ids {
         if let Err(place) = list.binary_search(&id) {
             // There is room, so that it is never refused.
             let _inserted = list.insert(place, id);
+        }
+    }
+
+    /// Puts an id in the set, for which room was made, if it is to be.
+    pub fn insert_if(&mut self, is: bool, id: ObjectId)
+        requires { HasRoom self.old (id_of id) }
+        ensures { kept self.new ≡ with_id_if is (kept self.old) (id_of id) }
+    {
+        if is {
+            self.insert(id);
         }
     }
 

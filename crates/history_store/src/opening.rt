@@ -1,7 +1,7 @@
 //! Opens a part that is whole as a store of objects, with what is known of them, or returns why it isn't.
 ghost use Rattle.std.specs.Prelude.{◌≡◌, IfErr, IfOk};
 ghost use Rattle.history_store.specs.ObjectsFace.{files_of_objects, ids_of_objects, kind_of_objects};
-ghost use Rattle.history_store.specs.KnownObjects.{HoldsKnown, KnownFoldersExist};
+ghost use Rattle.history_store.specs.KnownObjects.{HoldsKnown, KnownExist};
 ghost use Rattle.history_store.specs.Opened.{IsOpened, IsOpenedWith};
 ghost use Rattle.history_check_objects.specs.Flaws.{IsObjectsFlaw};
 ghost use Rattle.history_check_objects.specs.Folders.{HasFolders};
@@ -43,8 +43,7 @@ impl<F: Files> Objects<F> {
         ensures whole { F.is_honest files → IfOk result (λ objects.
             IsOpened kind (F.history files).tree (ids_of_objects objects)) }
         ensures holds { F.is_honest files → IfOk result (HoldsKnown F.is_honest F.history) }
-        ensures folders { F.is_honest files
-            → IfOk result (KnownFoldersExist F.is_honest F.history) }
+        ensures exist { F.is_honest files → IfOk result (KnownExist F.is_honest F.history) }
         ensures flaw { F.is_honest files → IfErr result (λ refusal.
             IsObjectsFlaw F.reading_may_fail kind (F.history files).tree refusal.error) }
         ensures handed_back { IfErr result (λ refusal. refusal.files ≡ files) }
@@ -68,8 +67,8 @@ pub fn open_objects<F: Files>(
         (F.history files).tree (ids_of_objects opened.objects) (facts_in opened.stored)) }
     ensures holds { F.is_honest files → IfOk result (λ opened.
         HoldsKnown F.is_honest F.history opened.objects) }
-    ensures folders { F.is_honest files → IfOk result (λ opened.
-        KnownFoldersExist F.is_honest F.history opened.objects) }
+    ensures exist { F.is_honest files → IfOk result (λ opened.
+        KnownExist F.is_honest F.history opened.objects) }
     ensures flaw { F.is_honest files → IfErr result (λ refusal.
         IsObjectsFlaw F.reading_may_fail kind (F.history files).tree refusal.error) }
     ensures handed_back { IfErr result (λ refusal. refusal.files ≡ files) }
@@ -96,8 +95,8 @@ fn open_stored<F: Files>(
         (F.history files).tree (ids_of_objects opened.objects) (facts_in opened.stored)) }
     ensures holds { F.is_honest files → IfOk result (λ opened.
         HoldsKnown F.is_honest F.history opened.objects) }
-    ensures folders { F.is_honest files → IfOk result (λ opened.
-        KnownFoldersExist F.is_honest F.history opened.objects) }
+    ensures exist { F.is_honest files → IfOk result (λ opened.
+        KnownExist F.is_honest F.history opened.objects) }
     ensures flaw { F.is_honest files → IfErr result (λ refusal.
         IsObjectsFlaw F.reading_may_fail kind (F.history files).tree refusal.error) }
     ensures handed_back { IfErr result (λ refusal. refusal.files ≡ files) }

@@ -7,7 +7,7 @@ ghost use Rattle.history_model.specs.Forms.{max_content};
 ghost use Rattle.history_model.specs.Objects.{object_text};
 ghost use Rattle.history_model.specs.Places.{object_place};
 ghost use Rattle.history_store.specs.ObjectsFace.{files_of_objects, kind_of_objects};
-ghost use Rattle.history_store.specs.KnownObjects.{HoldsKnown, KnownFoldersExist, table_of};
+ghost use Rattle.history_store.specs.KnownObjects.{HoldsKnown, KnownExist, KnownFoldersExist, table_of};
 ghost use Rattle.history_texts.specs.ObjectTexts.{object_id};
 ghost use Rattle.history_store.specs.Puts.{Fits, IsGap, IsRefusal, IsStoredAs, of_find, of_made};
 ghost use Rattle.history_store.specs.Calls.{KeepsObjects, PutsContent, RefusesContent, WritesObject};
@@ -109,9 +109,9 @@ impl<F: Files> Objects<F> {
             (object_text kind content.items)
             (files_of_objects self.old) (files_of_objects self.new) result }
 
-        // Each folder that is known exists, whatever is returned.
-        ensures folders { KnownFoldersExist F.is_honest F.history self.old
-            → KnownFoldersExist F.is_honest F.history self.new }
+        // What is known exists, and which are commits, whatever is returned.
+        ensures exist { KnownExist F.is_honest F.history self.old
+            → KnownExist F.is_honest F.history self.new }
 
         // In a part of objects that has the known folders, `File` is returned only if a call of the
         // files failed by itself.

@@ -168,9 +168,8 @@ const LOGGED_BY_FIRST: (&[u8], u64) = (b"log breadth first +main path 5\na/b/c\n
 /// The same, and the tag.
 const LOGGED_BY_FIRST_DATE: (&[u8], u64) = (b"log date first +v1 path 5\na/b/c\n", 9);
 
-/// All: three commits, the tag, three roots, the folders `a`, `a/b` (two of each) and `d`, and
-/// three contents.
-const INDEXED: (&[u8], u64) = (b"index\n", 15);
+/// The three commits, and no other object.
+const INDEXED: (&[u8], u64) = (b"index\n", 3);
 
 /// A branch whose folders `a` and `b` have the same files, and a commit on it of another file.
 const ALIKE: &[u8] =
@@ -520,15 +519,11 @@ fn with_message_of(alloc: Global, size: usize) -> Result<Vec<u8>, AllocError> {
 #[test]
 fn an_index_reads_a_long_commit_once(rt: HostRuntime) -> Result<(), AllocError> {
     let alloc = rt.alloc();
-    // Three commits, two roots, the folders `a`, `a/b` and `d`, and two contents; of a commit with
-    // more bytes than are read at first its length is looked up, and the rest is read.
-    for (size, wanted) in [(8000, 10), (20000, 12)] {
-        let long = with_message_of(alloc, size)?;
-        for kind in KINDS {
-            let repository = counted(&rt, alloc, kind, &[BEFORE, long.as_slice()]);
-            let met = readings(&rt, &repository, alloc, b"index\n");
-            assert!(rt; met == wanted, "{met} for {wanted}");
-        }
+    let long = with_message_of(alloc, 20_000)?;
+    for kind in KINDS {
+        let repository = counted(&rt, alloc, kind, &[BEFORE, long.as_slice()]);
+        let met = readings(&rt, &repository, alloc, b"index\n");
+        assert!(rt; met == 3, "{met}");
     }
     Ok(())
 }
@@ -578,14 +573,14 @@ fn commits_that_have_rows_are_not_read(rt: HostRuntime) {
             panic!(rt; "no graph")
         };
         repository.rows = Some(graph);
-        // Less the commits: the trees, the tag, and of the index all else.
+        // Less the commits: the trees and the tag.
         for (command, wanted) in [
             (AT_ITS_TIP, 3),
             (LOGGED_BY_TIME, 0),
             (LOGGED_AT_PATH, 6),
             (LOGGED_BY_FIRST_DATE, 7),
             (NAMED, 1),
-            (INDEXED, 12),
+            (INDEXED, 0),
         ] {
             let met = readings(&rt, &repository, alloc, command.0);
             assert!(rt; met == wanted, "{met} for {wanted}");

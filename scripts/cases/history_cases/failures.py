@@ -8,7 +8,7 @@ from streams import (
 
 def index_faults():
     """Each call of either part fails in turn, of a commit, two `index` and a log after each: the command that makes it says so, the run
-    goes on, and what follows is right. `index` reads objects alone; a log over rows reads its word's name alone."""
+    goes on, and what follows is right. The first `index` reads the commit, the second nothing; a log over rows reads its word's name alone."""
     fault, index, line = b"fault File\n", b"index\n", b"log topological all +main\n"
     for kind in KINDS:
         stream = PUT_HELLO + index + line + index + line
@@ -18,7 +18,7 @@ def index_faults():
         def ended(after):
             return f"created opened Input:{word(one + b''.join(after))} sound"
 
-        for part, places in (("objects", [0, 2]), ("names", [1, 3])):
+        for part, places in (("objects", [0]), ("names", [1, 3])):
             answers = ["created File closed closed", f"created opened Fault:{word(fault)} failed"]
             for at in places:
                 answers.append(ended(rest[:at] + [fault] + rest[at + 1:]))

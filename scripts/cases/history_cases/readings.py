@@ -42,8 +42,8 @@ def readings():
                              ((b"a/x", b"q/r"), 3 + 3), ((), 3)]:
             reading(kind, three, log_at(b"breadth all +m", *paths), count)
             reading(kind, three + b"index\n", log_at(b"breadth all +m", *paths), count - 3)
-        # Three commits, four trees and three contents.
-        for again, count in [(b"", 10), (b"index\n", 10 - 3)]:
+        # The three commits alone, and none that has a row.
+        for again, count in [(b"", 3), (b"index\n", 0)]:
             reading(kind, three + again, b"index\n", count)
 
 

@@ -4,7 +4,7 @@ against this.
 A command looks up once each object that its words mean, that is the object that a name holds, or whose id a word begins, since that may
 be a commit, a tag or neither; and each commit, tree and content that its answer is made of. Of these a log, a `commit` and `index` look
 up no commit that has a row. A log with paths looks up besides, each once, the trees that it compares: of a commit, and of its first
-parent, unless that is the commit that comes next. `files` looks up each different tree once. `index` reads the first bytes of each object, which are all of a commit that is short. A commit's grafts look
+parent, unless that is the commit that comes next. `files` looks up each different tree once. `index` looks up the commits alone. A commit's grafts look
 up, each once, the trees on the way to their sources, and the trees below these."""
 
 from plain import Plain, Reader
@@ -68,7 +68,7 @@ def objects(plain, rows, command):
     """The objects that a command looks up, as often as it does."""
     name, *parts = command
     if name == "index":
-        return once(rows, plain.objects)
+        return once(rows, plain.commits)
     # One with grafts alone, on a new name, without parents, and refused before it stores anything.
     words = [edit[2] for edit in parts[3]] if name == "commit" else [target for _, target in parts[3]] if name == "log" else [parts[0]]
     held = [it for word in words for it in of_word(plain, word)]

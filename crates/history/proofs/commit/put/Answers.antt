@@ -25,7 +25,7 @@ returns-in_err-put_made-clause-alone g c =
       kind = c.put_made.ensures.keeps.kind;
       objects = more_honesty g.F.Files _ _ _ _ c.put_made.ensures.keeps.part
           (λ told. let is : c.in_err-put_made.field-0.0 ≡ puts.File = cc (told, c.in_err-put_made.was) in stopped.1 ∙ ap Err (stopped.2 ∙ ap (λ error. stops.Fault (fault_of_put error)) is));
-      folders = c.put_made.ensures.folders;
+      exist = c.put_made.ensures.exist;
     }
 
 pub returns-clause-alone : goal.returns-clause-alone
@@ -33,7 +33,7 @@ returns-clause-alone g c = record {
   kept = record { names = refl; branch = refl; rows = refl; failed = refl };
   kind = c.put_made.ensures.keeps.kind;
   objects = more_honesty g.F.Files _ _ _ _ c.put_made.ensures.keeps.part (λ told. absurd (cc (told, c.in_ok-put_made.was)));
-  folders = c.put_made.ensures.folders;
+  exist = c.put_made.ensures.exist;
 }
 
 pub returns-in_err-put_made-clause-puts : goal.returns-in_err-put_made-clause-puts
@@ -46,7 +46,7 @@ returns-in_err-put_made-clause-puts g c = λ value is.
     record {
       stores = λ values stand known.
           put_stopped _ kind values (value ∷ []) new.tree error c.from_residual.result (stopped.1 ∙ ap Err stopped.2)
-          (λ failed. counted (c.put_made.ensures.failed (stand.honest, stand.folders) (values_are_objects kind old.tree values stand.holds stand.own_ids) (c.in_err-put_made.was ∙ ap Err failed)))
+          (λ failed. counted (c.put_made.ensures.failed (stand.honest, stand.exist.folders) (values_are_objects kind old.tree values stand.holds stand.own_ids) (c.in_err-put_made.was ∙ ap Err failed)))
           (λ id taken. value_taken kind old.tree new.tree values value c.args.object.now is stand.holds stand.own_ids (c.put_made.ensures.refuses.taken id (c.in_err-put_made.was ∙ ap Err taken) stand.honest));
       passes = λ values stand known.
           value_passes kind old new values value c.args.object.now is stand.holds stand.own_ids

@@ -13,7 +13,7 @@ open_names-requires g c =
     let ids = ids_of_objects c.in-Ok.opened.objects in
     let facts = facts_in c.in-Ok.opened.stored in
     record {
-      folders = λ honest. (c.in-Ok.ensures.folders (subst g.F.Files.is_honest files honest)).1;
+      exist = λ honest. (c.in-Ok.ensures.exist (subst g.F.Files.is_honest files honest)).1;
       whole = λ honest.
           subst (λ own. IsOpenedWith (kind_of_objects c.in-Ok.opened.objects) (g.F.Files.history own).tree ids facts) (sym files)
           (subst (λ (kind : Kind). IsOpenedWith kind (g.F.Files.history c.args.objects).tree ids facts) (sym c.in-Ok.ensures.files.1)

@@ -20,12 +20,12 @@ returns-in-Ok-clause-opens g c =
           let honest = subst g.F.Files.is_honest (sym c.new-names.ensures.files) names in
           let part = part_of history facts c.in-Ok.branch.items c.new-names.result.store.files c.args.names c.new-names.result.kind kind c.new-names.ensures.files named (c.in-Ok.ensures.stands honest) in
           let keeps = subst (λ files. KeepsRecords c.survey_names.new.names (history files).tree) c.new-names.ensures.files (c.in-Ok.ensures.keeps honest) in
-          opened_as_one kind pair ids facts (c.requires.whole objects) (record { objects = c.args.objects; names = c.survey_names.new.names; branch = c.in-Ok.branch }) (λ i. ids) part keeps (c.requires.folders objects);
+          opened_as_one kind pair ids facts (c.requires.whole objects) (record { objects = c.args.objects; names = c.survey_names.new.names; branch = c.in-Ok.branch }) (λ i. ids) part keeps (c.requires.exist objects);
       same = λ r objects names stands.
           let honest = subst g.F.Files.is_honest (sym c.new-names.ensures.files) names in
           let part = part_of history facts c.in-Ok.branch.items c.new-names.result.store.files c.args.names c.new-names.result.kind kind c.new-names.ensures.files named (c.in-Ok.ensures.stands honest) in
           let keeps = subst (λ files. KeepsRecords c.survey_names.new.names (history files).tree) c.new-names.ensures.files (c.in-Ok.ensures.keeps honest) in
-          opened_as kind pair ids facts (c.requires.whole objects) (record { objects = c.args.objects; names = c.survey_names.new.names; branch = c.in-Ok.branch }) (λ i. ids) part keeps (c.requires.folders objects) r stands;
+          opened_as kind pair ids facts (c.requires.whole objects) (record { objects = c.args.objects; names = c.survey_names.new.names; branch = c.in-Ok.branch }) (λ i. ids) part keeps (c.requires.exist objects) r stands;
     }
 
 pub returns-in-Ok-clause-refuses : goal.returns-in-Ok-clause-refuses

@@ -5,8 +5,8 @@ use Rattle.history_check_objects.specs.Stored.{ids_in}
 use Rattle.history_store.specs.ObjectsFace.{ids_of_objects}
 use Rattle.history_store.specs.Ids.{AreOfKind}
 use Rattle.history_store.specs.KnownIds.{AreStanding}
-use Rattle.history_store.specs.KnownObjects.{object_at}
-use Rattle.history_store.proofs.Opens.{kinds_are, objects_stand, opened_with, stand}
+use Rattle.history_store.specs.KnownObjects.{HasKnown, object_at}
+use Rattle.history_store.proofs.Opens.{commits_told, kinds_are, objects_stand, opened_with, stand}
 use Rattle.history_store.proofs.opening.open_stored.Goals as goal
 
 pub know-requires : goal.know-requires
@@ -33,10 +33,15 @@ returns-in-Ok-clause-holds g c = λ honest.
           (kinds_are c.args.kind tree c.args.stored (c.requires.whole honest) _ _ c.with_folders-objects.ensures.ids c.in-Ok.ensures.known);
     }
 
-pub returns-in-Ok-clause-folders : goal.returns-in-Ok-clause-folders
-returns-in-Ok-clause-folders g c = λ honest.
+pub returns-in-Ok-clause-exist : goal.returns-in-Ok-clause-exist
+returns-in-Ok-clause-exist g c = λ honest.
+    let tree = (g.F.Files.history c.args.files).tree in
     let files : c.know.new.self.files ≡ c.args.files = c.in-Ok.ensures.files ∙ c.with_folders-objects.ensures.files in
     let folders : c.know.new.self.folders ≡ c.args.folders = c.in-Ok.ensures.folders ∙ c.with_folders-objects.ensures.folders in (
       subst g.F.Files.is_honest (sym files) honest,
-      subst (λ own. HasFolders (g.F.Files.history own).tree c.know.new.self.folders) (sym files) (subst (HasFolders (g.F.Files.history c.args.files).tree) (sym folders) (c.requires.folders honest)),
+      subst (λ own. HasKnown (g.F.Files.history own).tree c.know.new.self) (sym files) (record {
+        folders = subst (HasFolders tree) (sym folders) (c.requires.folders honest);
+        stored = objects_stand c.args.kind tree c.args.stored (c.requires.whole honest) _ _ c.with_folders-objects.ensures.ids c.in-Ok.ensures.known;
+        commits = commits_told c.args.kind tree c.args.stored (c.requires.whole honest) _ _ c.with_folders-objects.ensures.ids c.in-Ok.ensures.known _ _ c.with_folders-objects.ensures.commits c.in-Ok.ensures.commits;
+      }),
     )

@@ -13,7 +13,9 @@ use Rattle.history_model.specs.Objects.{object_text}
 use Rattle.history_model.proofs.IdLemmas.{digest_is_id}
 use Rattle.history_model.proofs.RecoveredLemmas.{place_differs}
 use Rattle.history_store.specs.Calls.{KeepsHonesty, WritesObject}
-use Rattle.history_store.specs.KnownObjects.{KnownFoldersExist}
+use Rattle.history_check_objects.specs.Folders.{HasFolders}
+use Rattle.history_store.specs.Ids.{IdSet, with_id, with_id_if}
+use Rattle.history_store.specs.KeptIds.{kept}
 use Rattle.history_store.specs.Stores.{IsObjectPlace, place_of, put_fault, text_of}
 use Rattle.history_store.specs.Seen.{seen_at}
 use Rattle.history_store.specs.declared.folders.Seen.{Seen}
@@ -23,6 +25,7 @@ use Rattle.history_store.specs.declared.objects.PutMadeError.{PutMadeError}
 use Rattle.history_store.specs.declared.objects.PutMadeError.TheVariants as errors
 use Rattle.history_texts.specs.declared.object.NewObject.{NewObject}
 use Rattle.history_store.proofs.Honesty.{more_honesty, same_honesty}
+use Rattle.history_store.proofs.KnownCommits.{put_known, same_known, still_known}
 use Rattle.history_store.proofs.Stored.{none_other, same_other, taken_by_other, untaken}
 use Rattle.history_store.proofs.Unwritten.{also_written, both_written, fault_apart, fault_of_file, found_written, newly_written, none_here, none_written, other_error, taken_error, text_here, untaken_ok}
 use Rattle.history_store.proofs.objects.Objects.put_made.Goals as goal
@@ -175,9 +178,16 @@ returns-in_err-write-clause-failed g c = λ known part failed.
     let seen_here = c.in_ok-seen.ensures.seen known ∙ ap (seen_at (g.F.Files.history c.args.self.now.files).tree) (c.deref.ensures.value ∙ sym c.deref-else-eq.ensures.value) in
     c.write.ensures.failed known.0 part placed seen_here same
 
-pub returns-in_err-write-clause-folders : goal.returns-in_err-write-clause-folders
-returns-in_err-write-clause-folders g c = λ known.
-    c.write.ensures.folders known (c.in_ok-seen.ensures.seen known ∙ ap (seen_at (g.F.Files.history c.args.self.now.files).tree) (c.deref.ensures.value ∙ sym c.deref-else-eq.ensures.value))
+pub returns-in_err-write-clause-exist : goal.returns-in_err-write-clause-exist
+returns-in_err-write-clause-exist g c = λ known.
+    let writes = returns-in_err-write-clause-writes g c in
+    let refuses = returns-in_err-write-clause-refuses g c in
+    let folders = c.write.ensures.folders (known.0, known.1.folders) (c.in_ok-seen.ensures.seen (known.0, known.1.folders) ∙ ap (seen_at (g.F.Files.history c.args.self.now.files).tree) (c.deref.ensures.value ∙ sym c.deref-else-eq.ensures.value)) in (
+      folders.0,
+      still_known c.args.self.now c.write.new.self c.args.object.now c.args.object.now.named (g.F.Files.history c.args.self.now.files) (g.F.Files.history c.write.new.self.files) known.1 (writes.moments known.0)
+          (λ at. ap (λ files. (g.F.Files.history files).tree) (writes.once known.0 at)) (λ taken. ap (λ files. (g.F.Files.history files).tree) (refuses.untouched known.0 taken))
+          (ap kept c.write.ensures.ids ∙ c.in_ok-make_room.ensures.ids) (ap kept c.write.ensures.commits ∙ c.in_ok-make_room-2.ensures.ids) folders.1,
+    )
 
 -- ---- the object is stored
 
@@ -219,14 +229,6 @@ returns-clause-writes g c =
           w.write.ensures.writes))
     ]
 
-pub returns-clause-folders : goal.returns-clause-folders
-returns-clause-folders g c = λ known.
-    elim c.if-eq.branch [
-      | then-eq+in_ok-holds+else-not-branch w ↦ subst (λ s. KnownFoldersExist g.F.Files.is_honest g.F.Files.history s) (sym w.self-is) known
-      | else-eq+in_ok-write w ↦ subst (λ s. KnownFoldersExist g.F.Files.is_honest g.F.Files.history s) (sym w.self-is)
-          (w.write.ensures.folders known (c.in_ok-seen.ensures.seen known ∙ ap (seen_at (g.F.Files.history c.args.self.now.files).tree) (c.deref.ensures.value ∙ sym w.deref-else-eq.ensures.value)))
-    ]
-
 -- an object is stored if no file is at its place, or its own is
 pub returns-clause-refuses : goal.returns-clause-refuses
 returns-clause-refuses g c = untaken_ok g.F.Files _ _ _ _ _ refl (λ honest.
@@ -242,3 +244,47 @@ returns-clause-refuses g c = untaken_ok g.F.Files _ _ _ _ _ refl (λ honest.
       | else-eq+in_ok-write w ↦
           free (none_other tree c.deref.result.now _ _ (c.deref.ensures.value ∙ c.in_ok-place.ensures) (found_none c.in_ok-seen.seen c.eq.result c.eq.ensures w.if-eq.false _ _ (c.in_ok-seen.ensures.file honest)))
     ])
+
+-- ---- what is known is so
+
+pub returns-in_err-make_room-clause-exist : goal.returns-in_err-make_room-clause-exist
+returns-in_err-make_room-clause-exist g c = λ known. (known.0, same_known _ _ _ refl c.make_room.ensures.ids refl known.1)
+
+pub returns-in_err-make_room-2-clause-exist : goal.returns-in_err-make_room-2-clause-exist
+returns-in_err-make_room-2-clause-exist g c = λ known. (known.0, same_known _ _ _ refl c.in_ok-make_room.ensures.ids c.make_room-2.ensures.ids known.1)
+
+pub returns-in_err-place-clause-exist : goal.returns-in_err-place-clause-exist
+returns-in_err-place-clause-exist g c = λ known. (known.0, same_known _ _ _ refl c.in_ok-make_room.ensures.ids c.in_ok-make_room-2.ensures.ids known.1)
+
+pub returns-in_err-seen-clause-exist : goal.returns-in_err-seen-clause-exist
+returns-in_err-seen-clause-exist g c = λ known. (known.0, same_known _ _ _ refl c.in_ok-make_room.ensures.ids c.in_ok-make_room-2.ensures.ids known.1)
+
+pub returns-in_err-holds-clause-exist : goal.returns-in_err-holds-clause-exist
+returns-in_err-holds-clause-exist g c = λ known. (known.0, same_known _ _ _ refl c.in_ok-make_room.ensures.ids c.in_ok-make_room-2.ensures.ids known.1)
+
+pub returns-then-not-branch-clause-exist : goal.returns-then-not-branch-clause-exist
+returns-then-not-branch-clause-exist g c = λ known. (known.0, same_known _ _ _ refl c.in_ok-make_room.ensures.ids c.in_ok-make_room-2.ensures.ids known.1)
+
+pub returns-clause-exist : goal.returns-clause-exist
+returns-clause-exist g c = λ known.
+    let old = c.args.self.now in
+    let honest = (returns-clause-keeps g c).part.honest known.0 in
+    let ids : kept c.if-eq.self.ids ≡ kept old.ids = elim c.if-eq.branch [
+      | then-eq+in_ok-holds+else-not-branch w ↦ ap (λ s. kept s.ids) w.self-is ∙ c.in_ok-make_room.ensures.ids
+      | else-eq+in_ok-write w ↦ ap (λ s. kept s.ids) w.self-is ∙ ap kept w.write.ensures.ids ∙ c.in_ok-make_room.ensures.ids
+    ] in
+    let commits : kept c.if-eq.self.commits ≡ kept old.commits = elim c.if-eq.branch [
+      | then-eq+in_ok-holds+else-not-branch w ↦ ap (λ s. kept s.commits) w.self-is ∙ c.in_ok-make_room-2.ensures.ids
+      | else-eq+in_ok-write w ↦ ap (λ s. kept s.commits) w.self-is ∙ ap kept w.write.ensures.commits ∙ c.in_ok-make_room-2.ensures.ids
+    ] in
+    let folders : HasFolders (g.F.Files.history c.if-eq.self.files).tree c.if-eq.self.folders = elim c.if-eq.branch [
+      | then-eq+in_ok-holds+else-not-branch w ↦ subst (λ s. HasFolders (g.F.Files.history s.files).tree s.folders) (sym w.self-is) known.1.folders
+      | else-eq+in_ok-write w ↦ subst (λ s. HasFolders (g.F.Files.history s.files).tree s.folders) (sym w.self-is)
+          (w.write.ensures.folders (known.0, known.1.folders) (c.in_ok-seen.ensures.seen (known.0, known.1.folders) ∙ ap (seen_at (g.F.Files.history old.files).tree) (c.deref.ensures.value ∙ sym w.deref-else-eq.ensures.value))).1
+    ] in (
+      honest,
+      put_known old _ c.args.object.now c.args.object.now.named (g.F.Files.history old.files).tree (g.F.Files.history c.if-eq.self.files).tree known.1 ((returns-clause-writes g c).stored known.0) ((returns-clause-refuses g c).free known.0)
+          (c.insert.ensures ∙ ap (λ (s : IdSet). with_id s (id_of c.args.object.now.id)) ids)
+          (c.insert_if.ensures ∙ (λ i. with_id_if (c.is_commit.ensures i) (commits i) (id_of c.args.object.now.id)))
+          folders,
+    )
