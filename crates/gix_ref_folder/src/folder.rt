@@ -219,11 +219,22 @@ impl<S: System> Folder<S> {
 
     // What the reading of a file came to, if it didn't fail. An object is read only if it was there,
     // so that somebody took it away.
-    fn outcome_of(&self, is_there: bool) -> Outcome {
+    fn outcome_of(&self, path: &[u8], is_there: bool) -> Outcome {
         match (self.part, is_there) {
             (Part::Objects, true) => Outcome::Object,
-            (Part::Objects, false) => Outcome::Failed(nothing_there()),
+            (Part::Objects, false) => Outcome::Failed(self.absence(path)),
             (Part::Names, is_there) => Outcome::Read(is_there),
+        }
+    }
+
+    // The system's reason why no file is at a path.
+    fn absence(&self, path: &[u8]) -> io::Error {
+        let Ok(Some(place)) = self.place(path) else {
+            return nothing_there();
+        };
+        match self.system.kind(place.as_str()) {
+            Err(error) => error,
+            Ok(_) => nothing_there(),
         }
     }
 
@@ -458,7 +469,7 @@ impl<S: System> Files for Folder<S> {
 
     fn read(&self, path: &[u8], out: &mut Vec<u8>) -> Result<Option<usize>, FileError> {
         let read = self.bytes(path);
-        let outcome = self.outcome_of(has_found(&read));
+        let outcome = self.outcome_of(path, has_found(&read));
         let Some(bytes) = self.failures.read(path, read, outcome)? else {
             return Ok(None);
         };
@@ -468,7 +479,7 @@ impl<S: System> Files for Folder<S> {
 
     fn read_at(&self, path: &[u8], at: u64, buffer: &mut [u8]) -> Result<Option<usize>, FileError> {
         let read = self.bytes_from(path, at, buffer);
-        let outcome = self.outcome_of(has_found(&read));
+        let outcome = self.outcome_of(path, has_found(&read));
         self.failures.read(path, read, outcome)
     }
 

@@ -336,7 +336,7 @@ fn objects_that_were_read_are_kept(rt: HostRuntime) -> Result<(), Fail> {
     let _ = play_on(alloc, &mut folder, "read:objects/ab read:objects/none")?;
     assert!(rt; last.take_objects().is_empty());
     let told = last.cause().text(alloc)?;
-    assert!(rt; told.as_slice() == b"objects/none: No such file or directory".as_slice());
+    assert!(rt; told.as_slice() == b"objects/none: nothing is there".as_slice());
     Ok(())
 }
 
