@@ -24,21 +24,11 @@ use std::{fmt, io};
 pub use view::oid;
 
 /// The bytes are no id.
-#[derive(Debug, Clone, Copy, PartialEq, Eq)]
+#[derive(Debug, Clone, Copy, PartialEq, Eq, thiserror::Error)]
 pub enum Error {
     /// An id has 20 or 32 bytes, and this many were given.
+    #[error("Cannot instantiate git hash from a digest of length {0}")]
     InvalidByteSliceLength(usize),
-}
-
-impl fmt::Display for Error {
-    fn fmt<W: fmt::Write>(&self, f: &mut fmt::Formatter<W>) -> fmt::Result {
-        match self {
-            Error::InvalidByteSliceLength(len) => write!(
-                f,
-                "Cannot instantiate git hash from a digest of length {len}"
-            ),
-        }
-    }
 }
 
 impl<'a> oid<'a> {

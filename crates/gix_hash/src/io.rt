@@ -15,14 +15,16 @@ use crate::hasher::{Hasher, hasher};
 use crate::{Kind, ObjectId};
 use std::path::AsPath;
 use std::rt::Files;
-use std::{fmt, fs, io};
+use std::{fs, io};
 
 /// Why a stream was not hashed to its end.
-#[derive(Debug, Drop)]
+#[derive(Debug, Drop, thiserror::Error)]
 pub enum Error {
     /// The reader failed, or ended early.
+    #[error(transparent)]
     Io(io::Error),
     /// The interruption was requested.
+    #[error("Interrupted")]
     Interrupted,
 }
 
@@ -44,15 +46,6 @@ pub trait Interrupt {
     /// Returns whether to stop.
     fn asked(&mut self) -> bool
         ensures { answered self.old result self.new };
-}
-
-impl fmt::Display for Error {
-    fn fmt<W: fmt::Write>(&self, f: &mut fmt::Formatter<W>) -> fmt::Result {
-        match self {
-            Error::Io(error) => fmt::Display::fmt(error, f),
-            Error::Interrupted => f.write_str("Interrupted"),
-        }
-    }
 }
 
 impl From<io::Error> for Error {

@@ -27,14 +27,9 @@ pub enum Kind {
 }
 
 /// A text that names no hash function.
-#[derive(Debug, Clone, Copy, PartialEq, Eq)]
+#[derive(Debug, Clone, Copy, PartialEq, Eq, thiserror::Error)]
+#[error("the text names no hash function")]
 pub struct UnknownName;
-
-impl fmt::Display for UnknownName {
-    fn fmt<W: fmt::Write>(&self, f: &mut fmt::Formatter<W>) -> fmt::Result {
-        f.write_str("the text names no hash function")
-    }
-}
 
 impl Kind {
     /// The kind with the shortest ids.

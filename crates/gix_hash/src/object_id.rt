@@ -32,26 +32,15 @@ use std::{fmt, io};
 
 /// The errors of reading an id's hexadecimal digits.
 pub mod decode {
-    use std::fmt;
-
     /// Why a text is no id.
-    #[derive(Debug, Clone, Copy, PartialEq, Eq)]
+    #[derive(Debug, Clone, Copy, PartialEq, Eq, thiserror::Error)]
     pub enum Error {
         /// An id has 40 or 64 digits, and the text has another number of bytes: this many.
+        #[error("A hash sized {0} hexadecimal characters is invalid")]
         InvalidHexEncodingLength(usize),
         /// The text has such a length, and a character of it is no digit.
+        #[error("Invalid character encountered")]
         Invalid,
-    }
-
-    impl fmt::Display for Error {
-        fn fmt<W: fmt::Write>(&self, f: &mut fmt::Formatter<W>) -> fmt::Result {
-            match self {
-                Error::InvalidHexEncodingLength(len) => {
-                    write!(f, "A hash sized {len} hexadecimal characters is invalid")
-                }
-                Error::Invalid => f.write_str("Invalid character encountered"),
-            }
-        }
     }
 }
 

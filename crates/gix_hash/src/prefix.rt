@@ -31,62 +31,30 @@ use std::{fmt, io};
 
 /// The errors of reading a prefix.
 pub mod from_hex {
-    use std::fmt;
-
     /// Why a text is no prefix. Its length is tested before its characters.
-    #[derive(Debug, Clone, Copy, PartialEq, Eq)]
+    #[derive(Debug, Clone, Copy, PartialEq, Eq, thiserror::Error)]
     pub enum Error {
         /// The text has fewer characters than a prefix has digits: this many.
+        #[error("The minimum hex length of a short object id is 4, got {hex_len}")]
         TooShort { hex_len: usize },
         /// The text has more characters than the longest ids have digits: this many.
+        #[error("An id cannot be larger than 64 chars in hex, but {hex_len} was requested")]
         TooLong { hex_len: usize },
         /// A character is no digit.
+        #[error("Invalid hex character")]
         Invalid,
-    }
-
-    impl fmt::Display for Error {
-        fn fmt<W: fmt::Write>(&self, f: &mut fmt::Formatter<W>) -> fmt::Result {
-            match self {
-                Error::TooShort { hex_len } => write!(
-                    f,
-                    "The minimum hex length of a short object id is 4, got {hex_len}"
-                ),
-                Error::TooLong { hex_len } => write!(
-                    f,
-                    "An id cannot be larger than 64 chars in hex, but {hex_len} was requested"
-                ),
-                Error::Invalid => f.write_str("Invalid hex character"),
-            }
-        }
     }
 }
 
 /// Why there is no prefix of so many digits.
-#[derive(Debug, Clone, Copy, PartialEq, Eq)]
+#[derive(Debug, Clone, Copy, PartialEq, Eq, thiserror::Error)]
 pub enum Error {
     /// A prefix has at least four digits, and this many were requested.
+    #[error("The minimum hex length of a short object id is 4, got {hex_len}")]
     TooShort { hex_len: usize },
     /// Ids of this kind have fewer digits than were requested.
+    #[error("An object of kind {object_kind} cannot be larger than {} in hex, but {hex_len} was requested", .object_kind.len_in_hex())]
     TooLong { object_kind: Kind, hex_len: usize },
-}
-
-impl fmt::Display for Error {
-    fn fmt<W: fmt::Write>(&self, f: &mut fmt::Formatter<W>) -> fmt::Result {
-        match self {
-            Error::TooShort { hex_len } => write!(
-                f,
-                "The minimum hex length of a short object id is 4, got {hex_len}"
-            ),
-            Error::TooLong {
-                object_kind,
-                hex_len,
-            } => write!(
-                f,
-                "An object of kind {object_kind} cannot be larger than {} in hex, but {hex_len} was requested",
-                object_kind.len_in_hex()
-            ),
-        }
-    }
 }
 
 /// The first digits of object ids of one kind.

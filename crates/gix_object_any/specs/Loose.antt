@@ -1,6 +1,6 @@
 -- Loose objects: a header and the content after it, as many bytes as the header says (Git User
 -- Manual, "Object storage format"; git-fsck refuses fewer bytes than that, and more).
-use Rattle.std.specs.Prelude.{ℕ, ◌≡◌, ◌≢◌, ◌<◌, ◌^◌, List, ◌++◌, length, None, Some}
+use Rattle.std.specs.Prelude.{ℕ, ◌≡◌, ◌≢◌, ◌<◌, ◌^◌, List, ◌++◌, length}
 use Rattle.gix_hash.specs.declared.kind.Kind as hash
 use Rattle.gix_object_lines.specs.Header.{header_text, HeaderFault}
 use Rattle.gix_object_lines.specs.declared.kind.Kind.{Kind}
@@ -8,7 +8,7 @@ use Rattle.gix_object_lines.specs.declared.decode.Error.{Error}
 use Rattle.gix_object_lines.specs.declared.decode.Error.TheVariants.{Memory}
 use Rattle.gix_object_any.specs.Object.{Value, Tells, ContentFault}
 use Rattle.gix_object_any.specs.declared.object.LooseDecodeError.{LooseDecodeError}
-use Rattle.gix_object_any.specs.declared.object.LooseDecodeError.TheVariants.{InvalidHeader, InvalidContent, OutOfMemory}
+use Rattle.gix_object_any.specs.declared.object.LooseDecodeError.TheVariants.{InvalidHeader, ContentLength, InvalidContent, OutOfMemory}
 
 -- the header of an object of this kind and content, and then the content
 abbrev pub loose_text : Kind → List ℕ → List ℕ
@@ -33,8 +33,8 @@ pub record HasOtherLength (input : List ℕ) : Type 0 where
 -- why bytes aren't cut into a header and its content
 abbrev pub CutFault : List ℕ → LooseDecodeError → Type 0
 CutFault input (InvalidHeader error) = HeaderFault input error
-CutFault input (InvalidContent None) = HasOtherLength input
-CutFault input (InvalidContent (Some error)) = ⊥
+CutFault input ContentLength = HasOtherLength input
+CutFault input (InvalidContent error) = ⊥
 CutFault input OutOfMemory = ⊥
 
 -- header and content are there, and the content isn't read
@@ -45,7 +45,7 @@ HasUnreadContent ids input error =
 
 abbrev pub LooseFault : hash.Kind → List ℕ → LooseDecodeError → Type 0
 LooseFault ids input (InvalidHeader error) = HeaderFault input error
-LooseFault ids input (InvalidContent None) = HasOtherLength input
-LooseFault ids input (InvalidContent (Some error)) =
+LooseFault ids input ContentLength = HasOtherLength input
+LooseFault ids input (InvalidContent error) =
     HasUnreadContent ids input error × (error ≢ Memory)
 LooseFault ids input OutOfMemory = HasUnreadContent ids input Memory

@@ -37,10 +37,12 @@ pub enum LooseDecodeError {
     /// No header begins the bytes.
     #[error("the bytes don't begin with an object's header")]
     InvalidHeader(LooseHeaderDecodeError),
-    /// What follows the header isn't the object's content: it is shorter or longer than the header
-    /// says (`None`), or isn't read as content of the kind.
+    /// What follows the header is shorter or longer than the header says.
+    #[error("the content is shorter or longer than its header says")]
+    ContentLength,
+    /// What follows the header isn't read as content of the kind.
     #[error("what follows the header isn't the object's content")]
-    InvalidContent(Option<Error>),
+    InvalidContent(Error),
     /// No memory is left.
     #[error("out of memory")]
     OutOfMemory,

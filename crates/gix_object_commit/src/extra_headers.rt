@@ -15,13 +15,13 @@ use bstr::BStr;
 /// The further headers of a commit, in order. In a `CommitRef` each value is as in the commit, with
 /// a space after each of its line feeds, and `HeaderRef::unfolded` returns it without; in a
 /// `Commit` it is without them.
-#[derive(Debug, Clone, Copy)]
+#[derive(Debug, Clone, Copy, PartialEq, Eq)]
 pub struct ExtraHeaders<'h, 'a> {
     headers: Headers<'h, 'a>,
 }
 
 // As a `CommitRef` or a `Commit` has them.
-#[derive(Debug, Clone, Copy)]
+#[derive(Debug, Clone, Copy, PartialEq, Eq)]
 enum Headers<'h, 'a> {
     Lent(&'h [HeaderRef<'a>]),
     Own(&'a [ExtraHeader]),

@@ -7,7 +7,8 @@ ghost use Rattle.gix_hash.specs.Writes.{AppendsFewer};
 ghost use Rattle.gix_object_lines.specs.Counts.{one_more};
 
 /// A source or a sink has failed, and fails from then on.
-#[derive(Clone, Copy)]
+#[derive(Debug, Clone, Copy, PartialEq, Eq, thiserror::Error)]
+#[error("the source or the sink has failed")]
 pub struct Broken;
 
 /// Where bytes come from.

@@ -22,10 +22,10 @@ impl<'a> ObjectRef<'a> {
     /// The object that the bytes are: a header, and then as many bytes of content as it says, its
     /// ids of this hash function.
     ///
-    /// Returns `InvalidHeader` if no header begins the bytes; `InvalidContent(None)` if fewer or
-    /// more bytes follow the header than it says, neither of which git-fsck lets pass;
-    /// `InvalidContent` with an error of `from_bytes` if the content isn't read; and `OutOfMemory`
-    /// if no memory is left for a tree's entries or a commit's parts.
+    /// Returns `InvalidHeader` if no header begins the bytes; `ContentLength` if fewer or more bytes
+    /// follow the header than it says, neither of which git-fsck lets pass; `InvalidContent` with
+    /// an error of `from_bytes` if the content isn't read; and `OutOfMemory` if no memory is left
+    /// for a tree's entries or a commit's parts.
     pub fn from_loose(
         alloc: Global,
         bytes: &'a [u8],
@@ -41,7 +41,7 @@ impl<'a> ObjectRef<'a> {
         match ObjectRef::from_bytes(alloc, kind, content, hash_kind) {
             Ok(object) => Ok(object),
             Err(Error::Memory) => Err(LooseDecodeError::OutOfMemory),
-            Err(error) => Err(LooseDecodeError::InvalidContent(Some(error))),
+            Err(error) => Err(LooseDecodeError::InvalidContent(error)),
         }
     }
 
@@ -82,7 +82,7 @@ fn split_loose(bytes: &[u8]) -> Result<(Kind, &[u8]), LooseDecodeError>
     let (kind, size, header) = loose_header(bytes).map_err(LooseDecodeError::InvalidHeader)?;
     let content = &bytes[header..];
     if content.len() as u64 != size {
-        return Err(LooseDecodeError::InvalidContent(None));
+        return Err(LooseDecodeError::ContentLength);
     }
     Ok((kind, content))
 }
