@@ -186,7 +186,7 @@ pub mod transaction {
 }
 
 pub use gix_ref_file::{FileError, Files, MemoryFiles, Place};
-pub use gix_ref_folder::{Disk, Folder, LastCall, Part};
+pub use gix_ref_folder::{Disk, Failure, Folder, Found, LastCall, Part, System};
 pub use gix_ref_fuse::Fuse;
 pub use gix_ref_name::{
     Category, FullName, FullNameRef, Kind, Namespace, PartialName, PartialNameRef, Target,

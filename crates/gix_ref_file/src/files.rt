@@ -6,13 +6,16 @@ ghost use Rattle.gix_ref_file.specs.Changes.{to_create, to_write, to_append, to_
 ghost use Rattle.gix_ref_file.specs.History.{History, Makes, HasCause};
 
 use std::alloc::{AllocError, AllocFailed, Global};
+use thiserror::Error;
 
 /// Why a call failed.
-#[derive(Clone, Copy, Debug, PartialEq, Eq)]
+#[derive(Clone, Copy, Debug, PartialEq, Eq, Error)]
 pub enum FileError {
     /// The tree doesn't allow the change, or a call to the storage failed.
+    #[error("a call to the files failed")]
     Failed,
     /// Memory was refused.
+    #[error("no memory is left")]
     Memory,
 }
 

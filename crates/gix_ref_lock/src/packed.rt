@@ -179,13 +179,6 @@ impl Transaction {
         }
     }
 
-    /// The lock that it holds.
-    pub fn lock(&self) -> &Lock
-        ensures { result.now ≡ self.now.lock }
-    {
-        &self.lock
-    }
-
     /// The records of the file, as they were when the transaction began; `None` if there was no
     /// file.
     pub fn buffer(&self) -> Option<&Buffer>
