@@ -16,11 +16,10 @@ from typing import Any, Callable, List, Optional, Tuple
 
 sys.path.insert(0, os.path.dirname(os.path.abspath(__file__)))
 
-from wunthavel import Actor, Repo, protocol
+from wunthavel import Actor, Repo, connect, protocol
 from wunthavel.fast_import import EXPORT, fast_import
 from wunthavel.git_export import git_export
 from wunthavel.git_import import git_import
-from wunthavel.serve import connect
 
 ADA = Actor("Ada", "ada@example.org", 1700000000, "+0000")
 Spent = Tuple[float, float]
@@ -110,7 +109,7 @@ class Bench:
     def together(self, socket: str, clients: int, each: int) -> Spent:
         """Has so many processes ask at once, and returns the seconds from when all are connected."""
         package = os.path.dirname(os.path.abspath(__file__))
-        lines = [f"import sys; sys.path.insert(0, {package!r}); from wunthavel.serve import connect", f"with connect({socket!r}) as repo:"]
+        lines = [f"import sys; sys.path.insert(0, {package!r}); from wunthavel import connect", f"with connect({socket!r}) as repo:"]
         lines += ["  print('ready', flush=True); sys.stdin.readline()", f"  for _ in range({each}): repo.show('main', 'folder 1/page 1')"]
         pipe = subprocess.PIPE
         asking = [subprocess.Popen([sys.executable, "-c", "\n".join(lines)], stdin=pipe, stdout=pipe) for _ in range(clients)]

@@ -305,7 +305,8 @@ class Ends(WithRepo):
             ("time.sleep(600)", "didn't answer"),
         ]:
             with self.subTest(body=body):
-                repo = self.impatient(body, 1.0 if "answer" in said else PATIENCE)
+                # A reply belongs to a command that was sent.
+                repo = self.impatient(f"sys.stdin.buffer.readline(); {body}", 1.0 if "answer" in said else PATIENCE)
                 with self.assertRaises(wunthavel.EngineDied) as met:
                     repo.run(protocol.content("a", "b"))
                 self.assertIn(said, str(met.exception))
@@ -384,7 +385,7 @@ class Ends(WithRepo):
             def trace(frame: Any, event: str, _: Any) -> Any:
                 if event == "line" and next(left) == place:
                     raise KeyboardInterrupt
-                return trace if frame.f_code.co_filename.endswith("engine.py") else None
+                return trace if os.path.basename(frame.f_code.co_filename) in ("engine.py", "transport.py", "wire.py") else None
 
             sys.settrace(trace)
             try:
@@ -398,7 +399,7 @@ class Ends(WithRepo):
     def test_an_interruption_of_the_end_is_gone_on_with(self) -> None:
         ids = self.chain(3)
         for part in ("_kill", "_ended"):
-            with mock.patch.object(self.repo._engine, part, side_effect=KeyboardInterrupt), self.assertRaises(KeyboardInterrupt):
+            with mock.patch.object(self.repo._engine.transport, part, side_effect=KeyboardInterrupt), self.assertRaises(KeyboardInterrupt):
                 self.repo.kill()
             self.assertTrue(self.repo.closed)
             self.is_in_step(ids)

@@ -19,11 +19,10 @@ from typing import Any, Callable, Dict, Iterator, List, Optional, Sequence, Tupl
 
 sys.path.insert(0, os.path.dirname(os.path.dirname(os.path.abspath(__file__))))
 
-from wunthavel import protocol
-from wunthavel.engine import EngineDied, EngineError, act, find_engine
-from wunthavel.protocol import HistoryError, Refused
-from wunthavel.serve import ServeError, connect, tcp_address
-from wunthavel.serve_wire import LONGEST_LINE, BadCommand, Parts, command, reply
+from wunthavel import EngineDied, EngineError, HistoryError, Refused, connect, find_engine, protocol
+from wunthavel.engine import act
+from wunthavel.transport import tcp_address
+from wunthavel.wire import LONGEST_LINE, BadCommand, Parts, Whole, command, reply
 from tests.support import PATIENCE, running, wait_until
 
 PACKAGE = os.path.dirname(os.path.dirname(os.path.abspath(__file__)))
@@ -43,6 +42,8 @@ action, folder = sys.argv[1], sys.argv[-1]
 done = os.path.join(folder, "done")
 with open(done, "a") as it:
     it.write(action + "\n")
+while action == "recover" and os.path.exists(os.path.join(folder, "hold")):
+    time.sleep(0.01)
 if action != "run":
     sys.exit(0)
 for line in sys.stdin.buffer:
@@ -400,7 +401,7 @@ class WithTheEngine(Served):
             repo.commit("one").put("a", b"x").run()
             self.assertEqual(repo.read("a"), b"x")
         for text in ("0.0.0.0:80", "example.org:80", ":", "70000", "x"):
-            with self.assertRaises(ServeError):
+            with self.assertRaises(ValueError):
                 tcp_address(text)
 
     def test_sockets_that_are_there(self) -> None:
@@ -507,6 +508,17 @@ class WithAFakeEngine(Served):
         self.assertEqual(self.some(second, 2), b"ok switch\n" * 2)
         self.assertEqual(self.done().count("refs/heads/x"), 1)
 
+    def test_clients_are_heard_while_the_folder_is_recovered(self) -> None:
+        self.begin()
+        hold = os.path.join(self.folder, "hold")
+        open(hold, "w").close()
+        self.assertEqual(self.ask(self.switch("die")), b"")
+        waiting = self.raw()
+        waiting.sendall(b"names\n")
+        self.assertEqual(self.ask(b"hello\n"), b"refused Syntax\n")
+        os.remove(hold)
+        self.assertEqual(waiting.recv(100), b"ok names 0 refs/heads/main\n")
+
     def some(self, sock: socket.socket, lines: int) -> bytes:
         said = b""
         while said.count(b"\n") < lines:
@@ -541,19 +553,23 @@ class Wire(unittest.TestCase):
 
     def test_streams_are_cut_into_the_same_commands_in_parts_of_any_size(self) -> None:
         for text in self.streams():
-            whole = []
-            with contextlib.suppress(BadCommand):
-                whole = Parts(command, LONGEST_LINE).feed(text)
+            whole, cause = self.cut(text, len(text))
             for size in (1, 3, 1000):
-                parts, found = Parts(command, LONGEST_LINE), []
-                try:
-                    for at in range(0, len(text), size):
-                        found += parts.feed(text[at : at + size])
-                except BadCommand as bad:
-                    found += bad.whole
-                if whole:
-                    self.assertEqual(found, whole)
-                self.assertEqual(b"".join(it.data or b"" for it in found), text[: sum(len(it.data or b"") for it in found)])
+                self.assertEqual(self.cut(text, size), (whole, cause))
+            self.assertEqual(b"".join(it.data or b"" for it in whole), text[: sum(len(it.data or b"") for it in whole)])
+
+    def cut(self, text: bytes, size: int) -> Tuple[List[Whole], str]:
+        """Returns the commands of a stream that comes in parts of this size, and by which cause it ends."""
+        parts: Parts[bool] = Parts(command, LONGEST_LINE)
+        found: List[Whole] = []
+        try:
+            for at in range(0, len(text), size):
+                # One after another, since those before the end are wanted too.
+                for whole in parts.feed(text[at : at + size]):
+                    found.append(whole)
+        except BadCommand as bad:
+            return found, bad.cause
+        return found, "" if parts.is_between else "Truncated"
 
     def test_lines(self) -> None:
         good = ["log newest-since 5 all +a -b +c path 1 path 2\nx\nyz\n", "show a path 0\n\n", "delete at at at\n", "rename a b\n", "names\n", "names x\n", "move\nto a new b\nto c at d e\nactor 1 1 x y\na\nb\nmessage 0\n\nend\n"]
@@ -562,8 +578,7 @@ class Wire(unittest.TestCase):
         for text in good:
             self.assertEqual([it.data for it in Parts(command, LONGEST_LINE).feed(text.encode())], [text.encode()])
         for text in bad:
-            with self.assertRaises(BadCommand, msg=text):
-                Parts(command, LONGEST_LINE).feed(text.encode())
+            self.assertEqual(self.cut(text.encode(), 1 << 16)[1], "Syntax", text)
 
     def test_large_commands_are_read_past(self) -> None:
         long = b"commit a any\nput file 1 500\na\n" + b"x" * 500 + b"\n" + b"remove 1\nb\n" * 50 + ACTOR
@@ -572,7 +587,7 @@ class Wire(unittest.TestCase):
             text, found, most = b"names\n" + long + b"names x\n", [], 0
             for at in range(0, len(text), size):
                 found += parts.feed(text[at : at + size])
-                most = max(most, len(parts._buffer))
+                most = max(most, parts.held)
             self.assertEqual([it.data for it in found], [b"names\n", None, b"names x\n"])
             self.assertTrue(size > 1000 or most < 320, most)
             self.assertTrue(parts.is_between)
@@ -587,15 +602,10 @@ class Wire(unittest.TestCase):
             changed = text[:at] + chance.choice(words) + text[at + size :]
             done = subprocess.run([find_engine()], input=changed, stdout=subprocess.PIPE, stderr=subprocess.DEVNULL)
             said = done.stdout.splitlines()[-1] if done.stdout else b""
-            ends = said if said in (b"refused Syntax", b"refused LineTooLong", b"refused Truncated") else b""
-            parts = Parts(command, LONGEST_LINE)
-            try:
-                whole = parts.feed(changed)
-                here = b"" if parts.is_between else b"refused Truncated"
-            except BadCommand as bad:
-                whole, here = bad.whole, b"refused " + bad.cause.encode()
-            self.assertEqual(here, ends, changed[max(0, at - 60) : at + 60])
-            replies = Parts(reply).feed(done.stdout)
+            ends = said[8:].decode() if said in (b"refused Syntax", b"refused LineTooLong", b"refused Truncated") else ""
+            whole, cause = self.cut(changed, len(changed))
+            self.assertEqual(cause, ends, changed[max(0, at - 60) : at + 60])
+            replies = list(Parts(reply).feed(done.stdout))
             self.assertEqual(len(replies), len(whole) + bool(ends))
 
 

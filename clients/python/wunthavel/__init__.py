@@ -6,11 +6,9 @@
 ...     [commit.title for commit in repo.log()]
 ['Begin']
 """
-import importlib
-from typing import Any
-
 from . import protocol
-from .engine import Busy, EngineDied, EngineError, Pending, Unfinished, find_engine
+from .engine import Pending, Unfinished, find_engine
+from .errors import Busy, EngineDied, EngineError, Fault, HistoryError, ProtocolError, Refused
 from .protocol import (
     ANY,
     NEW,
@@ -19,25 +17,16 @@ from .protocol import (
     Commit,
     Content,
     Expect,
-    Fault,
     File,
-    HistoryError,
     Ids,
     LogEntry,
     Name,
     Names,
-    ProtocolError,
-    Refused,
 )
 from .repo import Change, CommitBuilder, Entry, Line, Repo, changes
+from .served import ServedRepo, connect
 
 __version__ = "0.1.0"
-
-
-def connect(address: Any, **options: Any) -> Repo:
-    """Returns a repository that `wunthavel serve` serves, by its socket's path or `HOST:PORT`; see `wunthavel.serve.connect`."""
-    repo: Repo = importlib.import_module("wunthavel.serve").connect(address, **options)
-    return repo
 
 
 __all__ = [
@@ -66,6 +55,7 @@ __all__ = [
     "ProtocolError",
     "Refused",
     "Repo",
+    "ServedRepo",
     "Unfinished",
     "changes",
     "connect",

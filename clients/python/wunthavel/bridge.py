@@ -7,7 +7,7 @@ from typing import Any, Callable, Dict, Iterable, Iterator, List, NamedTuple, Op
 
 from .bridge_forms import FOLDER, CannotHold, Hashing, Problem, collisions, read_commit, read_tag, read_tree, shown
 from .progress import Progress
-from .protocol import HistoryError
+from .errors import HistoryError
 
 T = TypeVar("T")
 # So many problems are shown to a person.

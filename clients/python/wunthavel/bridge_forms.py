@@ -4,7 +4,7 @@ import re
 from dataclasses import dataclass
 from typing import Dict, Iterable, Iterator, List, NamedTuple, Optional, Sequence, Tuple
 
-from .protocol import HistoryError
+from .errors import HistoryError
 
 MAX_CONTENT, MAX_PATH, MAX_NAME, MAX_PARENTS = 16_777_216, 4_096, 1_024, 64
 MAX_TITLE, MAX_ACTOR_PART, MAX_SECONDS = 1_024, 512, 2**63 - 1

@@ -14,8 +14,9 @@ from typing import Any, Callable, Dict, Iterable, List, Optional, Sequence, Tupl
 
 from . import protocol
 from .engine import Unfinished, act
+from .errors import HistoryError, Refused
 from .progress import Progress
-from .protocol import NEW, Commit, File, HistoryError, Names, Refused, raw, text
+from .protocol import NEW, Commit, File, Names, raw, text
 from .repo import Change, Repo, changes
 from .worktree import IGNORED, LARGEST, Here, WorkError, WorkTree, refuse_path
 

@@ -19,8 +19,9 @@ from typing import IO, Any, Callable, Deque, Dict, Iterator, List, Optional, Seq
 from . import protocol
 from .bridge_folder import WAIT
 from .engine import Pending, act
+from .errors import HistoryError, Refused
 from .progress import Progress
-from .protocol import ANY, NEW, Actor, Expected, HistoryError, Refused
+from .protocol import ANY, NEW, Actor, Expected
 from .repo import Repo
 
 EXPORT = ["fast-export", "--all", "--show-original-ids", "--signed-tags=verbatim", "--reencode=no", "--mark-tags"]

@@ -14,7 +14,8 @@ from typing import Any, Dict, FrozenSet, Iterator, List, Optional, Sequence, Tup
 
 from . import protocol
 from .progress import Progress
-from .protocol import Commit, Refused, text
+from .errors import Refused
+from .protocol import Commit, text
 from .repo import Repo
 from .worktree import OWN
 

@@ -1,7 +1,6 @@
 """The command stream of docs/PROTOCOL.md: commands are written here, and replies are read. No file is touched.
 
-A `Command` has its bytes, and knows how its reply is read. A reply is read by a generator that yields what it needs next, `None` for a line,
-a number for a field of so many bytes, or `Rows`, is sent that, and returns a typed value. So the same code serves pipes, sockets and tests:
+A `Command` has its bytes, and knows which value its reply is:
 
 >>> command = files("main")
 >>> command.data
@@ -17,20 +16,16 @@ import re
 import time
 from dataclasses import dataclass, field
 from datetime import datetime, timedelta, timezone
-from typing import Any, Callable, Dict, Generator, Generic, Iterable, List, Optional, Sequence, Tuple, TypeVar, Union, overload
+from typing import Callable, Generic, Iterable, List, Optional, Sequence, Tuple, TypeVar, Union, overload
+
+from . import wire
+from .errors import Fault, ProtocolError, Refused
+from .wire import LONGEST_LINE, Parts, Reply
 
 Text = Union[str, bytes]
 T = TypeVar("T")
-
-class Rows(int):
-    """A need of some rows, one at least and so many at most: each is a line whose last word is a length, and a field of that length."""
-
-
-Need = Union[None, int, Rows]
-Reading = Generator[Need, Any, T]
 KINDS = ("file", "exec", "link")
 ORDERS = ("breadth", "newest", "oldest", "date", "topological")
-LONGEST_LINE = 4096
 
 
 def text(data: bytes) -> str:
@@ -41,87 +36,6 @@ def text(data: bytes) -> str:
 def raw(value: Text) -> bytes:
     """Returns the bytes of a text."""
     return value.encode("utf-8", "surrogateescape") if isinstance(value, str) else bytes(value)
-
-
-# What each cause of a refusal says, in a few words for a person.
-CAUSES: Dict[str, str] = {
-    "Syntax": "a line isn't one that is allowed there",
-    "Truncated": "the input ended inside a command",
-    "LineTooLong": "a line has over 4,096 bytes",
-    "BadName": "this isn't a name that is allowed here",
-    "PrivateName": "the name is private to one working tree",
-    "NameTwice": "one name is given twice",
-    "UnknownWord": "no name and no object's id is meant by this word",
-    "AmbiguousWord": "several objects' ids begin with this word",
-    "UnbornHead": "HEAD's branch has no commit yet",
-    "NotACommit": "the word is the id of an object that is neither a commit nor a tag",
-    "NoSuchName": "the name doesn't exist",
-    "Taken": "the name exists already",
-    "NotExpected": "the name isn't at the commit that was expected",
-    "Collides": "one name would be a folder of another",
-    "HoldsTag": "the name holds a tag",
-    "TooManyParents": "a commit has 64 parents at most",
-    "DuplicateParent": "one commit would be a parent twice",
-    "BadPath": "the path, or one of its names, is empty or too long, or holds a zero byte",
-    "IsFolder": "the path is a folder",
-    "NoSuchPath": "nothing exists at this path",
-    "BadActor": "the name or email is empty, too long, or holds a character that it may not",
-    "BadTime": "the seconds or the offset from UTC aren't in their form",
-    "BadMessage": "the title is empty, too long, or holds a character that it may not",
-    "TooLarge": "an object has over 16,777,216 bytes",
-    "NothingMoves": "the name is there already",
-    "OrderWithParents": "this order doesn't go with first parents alone",
-    "NotEmpty": "something is in the way",
-    "NoHead": "the folder holds no repository: it has no file HEAD",
-    "BadHead": "the file HEAD isn't in its form",
-    "Stray": "this is no file of a repository",
-    "Unfinished": "a stopped run left this file; recover removes it",
-    "LogWithoutName": "a stopped run left this log; recover removes it",
-    "BadLog": "a line of this log isn't whole",
-    "BadObject": "the file isn't an object",
-    "BadTag": "the tag isn't of a commit",
-    "WrongId": "the object has another id than its place says",
-    "Missing": "an object isn't stored",
-    "WrongKind": "an object is of another kind than its user says",
-    "IdTaken": "an object's id names other bytes",
-    "Memory": "the engine had no memory left",
-    "File": "a call of the engine's files failed",
-}
-
-
-class HistoryError(Exception):
-    """What all errors of this package are."""
-
-
-class _Answer(HistoryError):
-    verb = ""
-
-    def __init__(self, cause: str, command: Optional["Command[Any]"] = None, values: Sequence[str] = ()) -> None:
-        self.cause = cause
-        self.values = tuple(values)
-        self.command = command
-        said = CAUSES.get(cause, "")
-        parts = [f"{self.verb} {cause}", *([said] if said else []), *([" ".join(values)] if values else [])]
-        about = f" ({command.title})" if command is not None else ""
-        super().__init__(": ".join(parts) + about)
-
-
-class Refused(_Answer):
-    """The engine refused a command, which changed nothing, or a folder. `cause` is its word, such as `"Taken"`; `values` is what a folder's
-    cause names."""
-
-    verb = "refused"
-
-
-class Fault(_Answer):
-    """The engine met a fault: `cause` is `"Memory"`, `"File"` or `"IdTaken"`. After one in a command that changes the repository the engine ends,
-    and `Repo.reopen` starts it again."""
-
-    verb = "fault"
-
-
-class ProtocolError(HistoryError):
-    """What came isn't a reply to the command that was sent."""
 
 
 class Expect(enum.Enum):
@@ -303,7 +217,7 @@ class Command(Generic[T]):
 
     word: str
     data: bytes = field(repr=False)
-    rest: Callable[[List[bytes]], Reading[T]] = field(repr=False)
+    rest: Callable[[Reply], T] = field(repr=False)
     changes: bool = False
     about: str = ""
 
@@ -312,58 +226,23 @@ class Command(Generic[T]):
         """The command's first line, for a person, with what it is about."""
         return text(self.data[:300].split(b"\n", 1)[0][:200]) + (f": {self.about}" if self.about else "")
 
-    def reading(self) -> Reading[T]:
-        """Returns the generator that reads the reply: it raises `Refused` or `Fault`, or returns the value."""
-        line = yield None
-        words = line.split(b" ")
-        if words[0] == b"ok" and words[1:2] == [self.word.encode()]:
-            return (yield from self.rest(words[2:]))
-        if len(words) == 2 and words[0] == b"refused":
-            raise Refused(text(words[1]), self)
-        if len(words) == 2 and words[0] == b"fault":
-            raise Fault(text(words[1]), self)
-        raise ProtocolError(f"{line[:200]!r} is no reply to {self.title!r}")
-
-
-def rows(data: bytes, at: int, most: int) -> Tuple[List[Tuple[bytes, bytes]], int]:
-    """Returns the rows that are whole from a place on, each its line and its field, and the place after them."""
-    found: List[Tuple[bytes, bytes]] = []
-    while len(found) < most:
-        end = data.find(b"\n", at)
-        if end < 0:
-            break
-        line = data[at:end]
-        last = end + 1 + int(line[line.rfind(b" ") + 1 :])
-        if last >= len(data):
-            break
-        if data[last] != 10:
-            raise ProtocolError("a field isn't followed by a line feed")
-        found.append((line, data[end + 1 : last]))
-        at = last + 1
-    return found, at
+    def value(self, reply: Reply) -> T:
+        """Returns what a reply says; raises `Refused` or `Fault` if it says that, or `ProtocolError` if it is to something else."""
+        verb, word = reply.words[:2]
+        if verb == b"ok" and word == self.word.encode():
+            return self.rest(reply)
+        if verb == b"ok":
+            raise ProtocolError(f"{b' '.join(reply.words)[:200]!r} is no reply to {self.title!r}")
+        raise (Fault if reply.is_fault else Refused)(text(word), self)
 
 
 def read_reply(command: Command[T], data: bytes) -> T:
     """Reads a reply that is whole in these bytes, and nothing else is."""
-    reading, at = command.reading(), 0
-    need = next(reading)
-    while True:
-        part: Any
-        if isinstance(need, Rows):
-            part, at = rows(data, at, need)
-            whole = bool(part)
-        else:
-            end = data.find(b"\n", at) if need is None else at + need
-            whole = end >= 0 and data[end : end + 1] == b"\n"
-            part, at = data[at:end], end + 1
-        if not whole:
-            raise ProtocolError(f"the reply to {command.title!r} isn't whole")
-        try:
-            need = reading.send(part)
-        except StopIteration as ended:
-            if at != len(data):
-                raise ProtocolError(f"more than a reply to {command.title!r}") from None
-            return ended.value  # type: ignore[no-any-return]
+    parts = Parts(wire.reply, keeps=False, note=lambda: b"")
+    found = list(parts.feed(data))
+    if len(found) != 1 or not parts.is_between:
+        raise ProtocolError(f"this isn't one whole reply to {command.title!r}")
+    return command.value(found[0].value)
 
 
 # Parts of commands. What would break the stream's lines is refused here, by the cause that the engine has for it.
@@ -432,55 +311,45 @@ def graft(path: Text, word: Text, source: Text = b"") -> bytes:
 # Replies.
 
 
-def _nothing(words: List[bytes]) -> Reading[None]:
-    if words:
-        raise ProtocolError(f"{words!r} after a reply's end")
-    return None
-    yield None
+def _nothing(reply: Reply) -> None:
+    if reply.words[2:]:
+        raise ProtocolError(f"{reply.words[2:]!r} after a reply's end")
 
 
-def _id(words: List[bytes]) -> Reading[str]:
-    return words[0].decode()
-    yield None
+def _id(reply: Reply) -> str:
+    return reply.words[2].decode()
 
 
-def _rows(words: List[bytes]) -> Reading[int]:
-    return int(words[0])
-    yield None
+def _count(reply: Reply) -> int:
+    return int(reply.words[2])
 
 
-def _ids(words: List[bytes]) -> Reading[Ids]:
-    count = int(words[0])
-    if not count:
+def _ids(reply: Reply) -> Ids:
+    if not reply.parts:
         return Ids()
-    first = (yield None).decode()
-    # The other lines are of one length, so all of them are read as one field.
-    rest = (yield (count - 1) * (len(first) + 1) - 1).decode() if count > 1 else ""
-    return Ids(bytes.fromhex(first + rest), len(first) // 2)
+    return Ids(bytes.fromhex(b"".join(reply.parts).decode()), len(reply.parts[0]) // 2)
 
 
-def _files(words: List[bytes]) -> Reading[List[File]]:
-    count = int(words[0])
-    found: List[File] = []
-    while len(found) < count:
-        for line, path in (yield Rows(count - len(found))):
-            kind, id, _ = line.decode().split(" ")
-            found.append(File(kind, id, path.decode("utf-8", "surrogateescape")))
+def _files(reply: Reply) -> List[File]:
+    found = []
+    for line, path in reply.parts:
+        kind, id, _ = line.decode().split(" ")
+        found.append(File(kind, id, text(path)))
     return found
 
 
-def _names(words: List[bytes]) -> Reading[Names]:
+def _names(reply: Reply) -> Names:
     found = []
-    for _ in range(int(words[0])):
-        id, commit, name = (yield None).split(b" ")
+    for line in reply.parts:
+        id, commit, name = line.split(b" ")
         found.append(Name(id.decode(), commit.decode(), text(name)))
-    return Names(text(words[1]), tuple(found))
+    return Names(text(reply.words[3]), tuple(found))
 
 
-def _past(words: List[bytes]) -> Reading[List[LogEntry]]:
+def _past(reply: Reply) -> List[LogEntry]:
     found = []
-    for _ in range(int(words[0])):
-        moved, _, title = (yield None).partition(b"\t")
+    for line in reply.parts:
+        moved, _, title = line.partition(b"\t")
         before, after, who = moved.split(b" ", 2)
         name, _, rest = who.rpartition(b" <")
         email, seconds, offset = rest.rsplit(b" ", 2)
@@ -489,26 +358,28 @@ def _past(words: List[bytes]) -> Reading[List[LogEntry]]:
     return found
 
 
-def _read_actor(role: bytes) -> Reading[Actor]:
-    said, name, email, seconds, offset = (yield None).split(b" ")
+def _read_actor(role: bytes, line: bytes, name: bytes, email: bytes) -> Actor:
+    said, _, _, seconds, offset = line.split(b" ")
     if said != role:
         raise ProtocolError(f"{said!r} in the place of {role!r}")
-    return Actor(text((yield int(name))), text((yield int(email))), int(seconds), text(offset))
+    return Actor(text(name), text(email), int(seconds), text(offset))
 
 
-def _commit(words: List[bytes]) -> Reading[Commit]:
-    tree = (yield None)[5:].decode()
-    parents = []
-    for _ in range(int((yield None)[8:])):
-        parents.append((yield None)[7:].decode())
-    author = yield from _read_actor(b"author")
-    committer = yield from _read_actor(b"committer")
-    message = yield int((yield None)[8:])
-    return Commit(words[1].decode(), tree, tuple(parents), author, committer, text(message))
+def _commit(reply: Reply) -> Commit:
+    tree, _, *parents = reply.parts[:-7]
+    author, committer, message = reply.parts[-7:-4], reply.parts[-4:-1], reply.parts[-1]
+    return Commit(
+        reply.words[3].decode(),
+        tree[5:].decode(),
+        tuple(it[7:].decode() for it in parents),
+        _read_actor(b"author", *author),
+        _read_actor(b"committer", *committer),
+        text(message),
+    )
 
 
-def _content(words: List[bytes]) -> Reading[Content]:
-    return Content(words[1].decode(), words[2].decode(), (yield int(words[3])))
+def _content(reply: Reply) -> Content:
+    return Content(reply.words[3].decode(), reply.words[4].decode(), reply.parts[0])
 
 
 # Commands.
@@ -601,7 +472,7 @@ def content(word: Text, path: Text) -> Command[Content]:
 
 def index() -> Command[int]:
     """Makes rows of all commits in the engine's memory, over which later logs walk. The reply is their number."""
-    return Command("index", b"index\n", _rows)
+    return Command("index", b"index\n", _count)
 
 
 def log(

@@ -15,8 +15,10 @@ from types import TracebackType
 from typing import Deque, Dict, Iterable, Iterator, List, Mapping, Optional, Sequence, Tuple, Type, TypeVar, Union, overload
 
 from . import protocol
-from .engine import Busy, Engine, EngineDied, Folder, Pending, Unfinished, _refusal, act, command_line, find_engine, is_sha256
-from .protocol import ANY, NEW, Actor, Command, Commit, Content, Expected, File, Ids, LogEntry, Names, Refused, Text, raw, text
+from .engine import Engine, Folder, Pending, Unfinished, act, command_line, find_engine, is_sha256, refusal
+from .errors import Busy, EngineDied, Fault, HistoryError, Refused
+from .protocol import ANY, NEW, Actor, Command, Commit, Content, Expected, File, Ids, LogEntry, Names, Text, raw, text
+from .transport import Process
 
 T = TypeVar("T")
 Who = Union[Actor, str]
@@ -179,7 +181,7 @@ class Repo:
                 recover = False
 
     def _start(self) -> Engine:
-        engine = Engine(command_line("run", self.folder, self.sha256, self._program), self._timeout)
+        engine = Engine(Process(command_line("run", self.folder, self.sha256, self._program)), self._timeout)
         try:
             # A question with a short answer: the engine replies once it has opened the folder.
             engine.wait(engine.send(protocol.names("refs/wunthavel/none")))
@@ -191,7 +193,7 @@ class Repo:
             raise
         if engine.over is None:
             return engine
-        raise _refusal(engine.over.said, engine.over.status, self.folder, self.sha256, self._program)
+        raise refusal(engine.over.said, engine.over.status, self.folder, self.sha256, self._program)
 
     def reopen(self, recover: bool = True) -> None:
         """Starts the engine again, after it ended by a fault or a signal, or to see what others changed in the folder."""
@@ -214,7 +216,7 @@ class Repo:
     @property
     def pid(self) -> int:
         """The engine's process id."""
-        return self._engine.pid
+        return self._engine.transport.pid
 
     def __enter__(self) -> "Repo":
         return self
@@ -245,17 +247,17 @@ class Repo:
         >>> ids = list(repo.batch(protocol.show(it) for it in words))            # doctest: +SKIP
         """
         for reply in self.results(commands, window=window):
-            if isinstance(reply, protocol.HistoryError):
+            if isinstance(reply, HistoryError):
                 raise reply
             yield reply
 
-    def results(self, commands: Iterable[Command[T]], *, window: int = WINDOW) -> Iterator[Union[T, Refused, protocol.Fault]]:
+    def results(self, commands: Iterable[Command[T]], *, window: int = WINDOW) -> Iterator[Union[T, Refused, Fault]]:
         """The same as `batch`, with a `Refused` or a `Fault` in the place of the reply, after which it goes on."""
         ahead: Deque[Pending[T]] = deque()
         coming = iter(commands)
         more = True
         while True:
-            while more and len(ahead) < window and self._engine.unsent < 1 << 18:
+            while more and len(ahead) < window and self._engine.transport.unsent < 1 << 18:
                 command = next(coming, None)
                 more = command is not None
                 if command is not None:
@@ -263,8 +265,8 @@ class Repo:
             if not ahead:
                 return
             try:
-                reply: Union[T, Refused, protocol.Fault] = ahead.popleft().result()
-            except (Refused, protocol.Fault) as error:
+                reply: Union[T, Refused, Fault] = ahead.popleft().result()
+            except (Refused, Fault) as error:
                 reply = error
             yield reply
 

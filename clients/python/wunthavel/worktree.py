@@ -10,7 +10,8 @@ import time
 from dataclasses import dataclass
 from typing import Dict, Iterable, Iterator, List, Optional, Tuple
 
-from .protocol import File, HistoryError, raw, text
+from .errors import HistoryError
+from .protocol import File, raw, text
 
 OWN = ".wunthavel"
 IGNORED = ".wunthavelignore"

@@ -1,0 +1,292 @@
+"""Passes commands and replies between many clients and one engine.
+
+Whole commands are passed on, one of each client in turn, and whole replies back. So commands of two clients are never mixed, and a client that stalls,
+floods or dies holds up nobody: what isn't whole waits with its client, and what it doesn't read does too, up to limits and times.
+"""
+import asyncio
+import contextlib
+import socket
+import time
+from collections import deque
+from typing import Callable, Deque, Dict, Iterator, List, NamedTuple, Optional, Sequence, Set
+
+from .keeper import Flight, Keeper
+from .wire import LONGEST_LINE, BadCommand, Parts, Whole, command
+
+# How many seconds are between two looks at the times.
+LOOK = 0.25
+
+
+class Limits(NamedTuple):
+    """What clients may take. Times are in seconds; 0 is none."""
+
+    clients: int = 256
+    # Bytes of one command, whole commands of one client that wait, and commands of one client that the engine has.
+    command: int = 64 << 20
+    waiting: int = 64
+    ahead: int = 16
+    # Bytes of replies that wait for a client to read them, above which it gets no further ones.
+    unread: int = 1 << 20
+    # How long a client may stop inside a command, or not read its replies; how long it may say nothing; how long the engine may think.
+    stall: float = 60.0
+    idle: float = 0.0
+    engine: float = 600.0
+    # How long a new server waits for the folder, and a stopping one for its engine.
+    folder: float = 10.0
+
+
+class Client(asyncio.Protocol):
+    """A client's connection: its commands wait here for their turn, and its replies for it to read them."""
+
+    transport: asyncio.Transport
+
+    def __init__(self, server: "Server") -> None:
+        self.server, self.limits = server, server.limits
+        self.parts = Parts(command, LONGEST_LINE, self.limits.command)
+        # Commands that came and aren't looked at yet; those that wait; how many the engine has; what is sent next.
+        self._coming: Iterator[Whole] = iter(())
+        self.ready: Deque[Whole] = deque()
+        self._ready_bytes = self.flying = 0
+        self._replies: List[bytes] = []
+        # About how large its replies are: they are taken for large until they are known.
+        self._usual = self.limits.unread // 4
+        # Set once nothing more is read of it: then this line follows its replies, and the connection is closed.
+        self.last: Optional[bytes] = None
+        self._has_ended = self._is_full = self._is_cut = self.in_turn = False
+        self._heard = self._wrote = time.monotonic()
+        self._unread = 0
+
+    # What asyncio calls.
+
+    def connection_made(self, transport: asyncio.BaseTransport) -> None:
+        assert isinstance(transport, asyncio.Transport)
+        self.transport = transport
+        transport.set_write_buffer_limits(self.limits.unread)
+        self.server.welcome(self)
+
+    def data_received(self, data: bytes) -> None:
+        self._heard = time.monotonic()
+        if self.last is None:
+            self._coming = self.parts.feed(data)
+            self._refill()
+            self.server.queue(self)
+
+    def eof_received(self) -> bool:
+        self._has_ended = True
+        self._refill()
+        return True
+
+    def pause_writing(self) -> None:
+        self._is_full = True
+
+    def resume_writing(self) -> None:
+        self._is_full = False
+        self.server.queue(self)
+
+    def connection_lost(self, error: Optional[Exception]) -> None:
+        self.cut()
+        self.server.leave(self)
+
+    # Commands.
+
+    def _refill(self) -> None:
+        """Takes commands of what came, while few wait, and reads on once there is nothing left of it."""
+        if self.last is not None:
+            return
+        try:
+            while len(self.ready) < self.limits.waiting and self._ready_bytes <= self.limits.command:
+                whole = next(self._coming, None)
+                if whole is None:
+                    self._read_on()
+                    return
+                self.ready.append(whole)
+                self._ready_bytes += len(whole.data or b"")
+        except BadCommand as bad:
+            self.finish(f"refused {bad.cause}\n".encode())
+        self.transport.pause_reading()
+
+    def _read_on(self) -> None:
+        if self._has_ended:
+            self.finish(b"" if self.parts.is_between else b"refused Truncated\n")
+        elif not self.transport.is_closing():
+            self.transport.resume_reading()
+
+    @property
+    def waits(self) -> bool:
+        """Whether it still waits for replies."""
+        return not self._is_cut
+
+    @property
+    def may_send(self) -> bool:
+        """Whether its next command can be given to the engine."""
+        if not self.ready or self._is_full:
+            return False
+        if not self.flying:
+            return True
+        is_room = self.transport.get_write_buffer_size() + self.flying * self._usual < self.limits.unread
+        return is_room and self.ready[0].data is not None and self.flying < self.limits.ahead
+
+    def next(self) -> Optional[Flight]:
+        """Returns its next command, or None if that is too large, which is its reply then."""
+        whole = self.ready.popleft()
+        self._ready_bytes -= len(whole.data or b"")
+        if len(self.ready) < self.limits.waiting // 2:
+            self._refill()
+        if whole.data is None:
+            # It waited for its turn among the client's replies.
+            self._replies.append(b"refused TooLarge\n")
+            self.server.has_replies(self)
+            return None
+        self.flying += 1
+        return Flight(self, whole.data, whole.value)
+
+    # Replies.
+
+    def take(self, reply: bytes, is_last: bool) -> None:
+        """Takes the reply to a command. If the engine's run ends by it, so does this client's."""
+        self.server.count["commands"] += 1
+        if self._is_cut:
+            return
+        self.flying -= 1
+        self._usual = max(len(reply), self._usual // 2)
+        self._replies.append(reply)
+        if is_last:
+            self.cut()
+        self.server.has_replies(self)
+
+    def finish(self, last: bytes) -> None:
+        """Reads nothing more; what it waits for is still sent, and then this line."""
+        self.last = last
+        self.transport.pause_reading()
+        self.server.has_replies(self)
+
+    def cut(self) -> None:
+        """Gives up what it waits for. The replies that are there are still sent."""
+        self._is_cut, self.flying = True, 0
+        self.ready.clear()
+        self._coming = iter(())
+        self.finish(b"")
+
+    def flush(self) -> None:
+        """Sends the replies that are there, and ends the connection after the last one."""
+        if self.transport.is_closing():
+            return
+        if self._replies:
+            self.transport.write(b"".join(self._replies))
+            self._replies.clear()
+        if self.last is not None and not self.ready and not self.flying:
+            self.transport.write(self.last)
+            self.transport.close()
+
+    def look(self, now: float) -> Optional[str]:
+        """Ends a connection that takes too long, and returns what it did."""
+        unread = self.transport.get_write_buffer_size()
+        if unread != self._unread:
+            self._unread, self._wrote = unread, now
+        stall, idle = self.limits.stall, self.limits.idle
+        if stall and unread and now - self._wrote > stall:
+            self.transport.abort()
+            return "doesn't read its replies"
+        is_inside = self.last is None and self.transport.is_reading() and not self.parts.is_between
+        if stall and is_inside and now - self._heard > stall:
+            self.finish(b"refused Truncated\n")
+            return "stopped inside a command"
+        if idle and not (self.ready or self.flying or unread) and now - self._heard > idle:
+            self.transport.close()
+        return None
+
+
+class Server:
+    """The clients of an engine, and whose turn it is."""
+
+    def __init__(self, keeper: Keeper, limits: Limits, say: Callable[[str], None]) -> None:
+        self.keeper, self.limits, self._say = keeper, limits, say
+        keeper.after_start = self._schedule
+        self._clients: Dict[Client, int] = {}
+        self._turns: Deque[Client] = deque()
+        self._touched: Set[Client] = set()
+        self._is_scheduled = False
+        self.count = {"clients": 0, "commands": 0, "refused_clients": 0}
+        self.stopping = asyncio.Event()
+
+    async def run(self, listeners: Sequence[socket.socket]) -> None:
+        """Serves until `stopping` is set, and then until the engine has replied to what it has."""
+        loop = asyncio.get_running_loop()
+        servers = [await loop.create_server(lambda: Client(self), sock=it, backlog=128) for it in listeners]
+        looking = asyncio.ensure_future(self._look())
+        await self.stopping.wait()
+        for it in servers:
+            it.close()
+        with contextlib.suppress(asyncio.TimeoutError):
+            await asyncio.wait_for(self._drain(), self.limits.folder)
+        looking.cancel()
+        for client in list(self._clients):
+            client.transport.abort()
+
+    async def _drain(self) -> None:
+        """Waits until each reply was sent that is to come."""
+        while self.keeper.flying or self._touched or any(it.transport.get_write_buffer_size() for it in self._clients):
+            await asyncio.sleep(0.01)
+
+    async def _look(self) -> None:
+        while True:
+            await asyncio.sleep(LOOK)
+            now = time.monotonic()
+            for client, number in list(self._clients.items()):
+                what = client.look(now)
+                if what:
+                    self._say(f"client {number} {what}, and is closed")
+            self.keeper.look(self.limits.engine)
+
+    # Clients.
+
+    def welcome(self, client: Client) -> None:
+        """Takes a client in, unless there are too many."""
+        if len(self._clients) >= self.limits.clients:
+            self.count["refused_clients"] += 1
+            client.finish(b"fault Busy\n")
+            client.flush()
+            return
+        self.count["clients"] += 1
+        self._clients[client] = self.count["clients"]
+
+    def leave(self, client: Client) -> None:
+        """Forgets a client whose connection has ended."""
+        self._clients.pop(client, None)
+
+    def queue(self, client: Client) -> None:
+        """Lets a client have a turn, if it has a command that can be passed on."""
+        self._line_up(client)
+        self._schedule()
+
+    def _line_up(self, client: Client) -> None:
+        if not client.in_turn and client.may_send:
+            client.in_turn = True
+            self._turns.append(client)
+
+    def has_replies(self, client: Client) -> None:
+        """Has a client's replies sent, together with those that come at the same time."""
+        self._touched.add(client)
+        self._schedule()
+
+    def _schedule(self) -> None:
+        if not self._is_scheduled:
+            self._is_scheduled = True
+            asyncio.get_running_loop().call_soon(self._pass_on)
+
+    def _pass_on(self) -> None:
+        """Sends replies, and gives the engine one command of each client in turn while it takes them."""
+        self._is_scheduled = False
+        touched, self._touched = self._touched, set()
+        for client in touched:
+            client.flush()
+            self._line_up(client)
+        while self._turns and self.keeper.takes_more and not self.stopping.is_set():
+            client = self._turns.popleft()
+            client.in_turn = False
+            if client.may_send:
+                flight = client.next()
+                if flight is not None:
+                    self.keeper.send(flight)
+                self._line_up(client)
+        self.keeper.write()
