@@ -1,6 +1,6 @@
 //! The two halves of a command that changes files, each called by itself.
 
-use crate::common::{INPUT, KINDS, REPLIES, first_command};
+use case_commits::{INPUT, KINDS, REPLIES, first_command};
 use gix_ref_file::MemoryFiles;
 use gix_ref_fuse::Fuse;
 use history::{
@@ -74,7 +74,8 @@ fn try_halves(rt: &impl Abort, alloc: Global, kind: Kind, in_objects: u64, in_na
     let Some(mut repository) = fresh(alloc, kind, in_objects, in_names) else {
         return Met::Neither;
     };
-    let moves = match repository.store_objects(alloc, first_command(rt, alloc, INPUT)) {
+    let command = first_command(alloc, INPUT).expect(rt, "no command");
+    let moves = match repository.store_objects(alloc, command) {
         Ok(moves) => moves,
         Err(stopped) => {
             assert!(rt; matches!(stopped, Stopped::Fault(Fault::File)), "at {call}");
@@ -104,7 +105,7 @@ fn the_halves_make_a_commit(rt: HostRuntime) {
         let Some(mut repository) = fresh(alloc, kind, 0, 0) else {
             panic!(rt; "not opened")
         };
-        let command = first_command(&rt, alloc, INPUT);
+        let command = first_command(alloc, INPUT).expect(&rt, "no command");
         let Ok(moves) = repository.store_objects(alloc, command) else {
             panic!(rt; "not stored")
         };
@@ -128,7 +129,7 @@ fn a_refusal_fails_no_repository(rt: HostRuntime) {
         };
         let (written, _) = answer(alloc, &mut repository, INPUT);
         assert!(rt; written.as_slice() == REPLIES.of(kind));
-        let command = first_command(&rt, alloc, INPUT);
+        let command = first_command(alloc, INPUT).expect(&rt, "no command");
         let refused = repository.store_objects(alloc, command).err();
         assert!(rt; matches!(refused, Some(Stopped::Refused(Cause::Taken))));
         let nothing = repository.store_objects(alloc, Command::Index);

@@ -2,12 +2,6 @@
 #![tactic(auto)]
 
 #[cfg(test)]
-mod calls;
-#[cfg(test)]
-mod changes;
-#[cfg(test)]
-mod common;
-#[cfg(test)]
 mod growth;
 #[cfg(test)]
 mod halves;
@@ -22,14 +16,10 @@ mod opened;
 #[cfg(test)]
 mod packed;
 #[cfg(test)]
-mod readings;
-#[cfg(test)]
 mod rounds;
 #[cfg(test)]
 mod texts;
 #[cfg(test)]
 mod walks;
-#[cfg(test)]
-mod watched;
 #[cfg(test)]
 mod writers;

@@ -1,7 +1,7 @@
 //! With ample memory each command has its own reply.
 //! A body that only gives up for memory is proved under any contract, so this must be tested.
 
-use crate::common::{INPUT, KINDS, REPLIES};
+use case_commits::{INPUT, KINDS, REPLIES};
 use history::in_memory::answer_stream;
 use history::{End, Kind};
 use std::alloc::Global;

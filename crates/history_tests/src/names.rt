@@ -1,6 +1,6 @@
 //! A names part after a commit: what a name holds, and whether the part is a repository's.
 
-use crate::common::{INPUT, KINDS, REPLIES, made_id, parts_after};
+use case_commits::{INPUT, KINDS, REPLIES, made_id, parts_after};
 use gix_ref_file::MemoryFiles;
 use history_check_names::survey_names;
 use history_check_objects::whole_objects;
@@ -12,7 +12,7 @@ use std::test::Fail;
 fn a_name_holds_its_commit(rt: HostRuntime) -> Result<(), Fail> {
     let alloc = rt.alloc();
     for kind in KINDS {
-        let (_, files) = parts_after(&rt, alloc, kind, &[INPUT]);
+        let (_, files) = parts_after(alloc, kind, &[INPUT]).ok_or("no parts")?;
         let mut names = Names::new(alloc, files, kind);
         let text = names.read_packed(alloc)?;
         names.keep_packed(alloc, text)?;
@@ -26,7 +26,7 @@ fn a_name_holds_its_commit(rt: HostRuntime) -> Result<(), Fail> {
 fn names_are_surveyed_over_objects(rt: HostRuntime) -> Result<(), Fail> {
     let alloc = rt.alloc();
     for kind in KINDS {
-        let (objects, files) = parts_after(&rt, alloc, kind, &[INPUT]);
+        let (objects, files) = parts_after(alloc, kind, &[INPUT]).ok_or("no parts")?;
         let whole = whole_objects(alloc, &objects, kind)?;
         let mut names = Names::new(alloc, files, kind);
         let branch = survey_names(alloc, &mut names, &whole.stored)?;

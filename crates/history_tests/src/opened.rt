@@ -1,6 +1,6 @@
 //! What an opened repository replies and plans.
 
-use crate::common::{
+use case_commits::{
     INPUT, KINDS, LISTED, SECOND, SECOND_REPLY, first_command, made_id, opened_after,
 };
 use history::Command;
@@ -11,7 +11,7 @@ use history_queries::list_files;
 fn a_reply_lists_the_files(rt: HostRuntime) {
     let alloc = rt.alloc();
     for kind in KINDS {
-        let repository = opened_after(&rt, alloc, kind, &[INPUT]);
+        let repository = opened_after(alloc, kind, &[INPUT]).expect(&rt, "not opened");
         let Ok(text) = list_files(&repository, alloc, b"main") else {
             panic!(rt; "no reply")
         };
@@ -23,8 +23,8 @@ fn a_reply_lists_the_files(rt: HostRuntime) {
 fn a_plan_has_the_commit(rt: HostRuntime) {
     let alloc = rt.alloc();
     for kind in KINDS {
-        let repository = opened_after(&rt, alloc, kind, &[INPUT]);
-        let Command::Commit(command) = first_command(&rt, alloc, SECOND) else {
+        let repository = opened_after(alloc, kind, &[INPUT]).expect(&rt, "not opened");
+        let Some(Command::Commit(command)) = first_command(alloc, SECOND) else {
             panic!(rt; "no commit")
         };
         let Ok(plan) = plan_commit(&repository, alloc, command) else {

@@ -1,6 +1,6 @@
 //! A `packed-refs` of several pieces: it is opened, or refused by its first bad line.
 
-use crate::common::{INPUT, parts_after};
+use case_commits::{INPUT, parts_after};
 use gix_ref_file::Files;
 use history::Kind;
 use history_check_names::survey_names;
@@ -43,7 +43,7 @@ fn text_with(alloc: Global, front: &[u8], number: u32, put: &[u8]) -> Result<Vec
 
 // Returns the line by which the names part with this `packed-refs` is refused, if it is.
 fn refused_line(rt: &impl Abort, alloc: Global, packed: &[u8]) -> Result<Option<usize>, Fail> {
-    let (objects, mut files) = parts_after(rt, alloc, Kind::Sha1, &[INPUT]);
+    let (objects, mut files) = parts_after(alloc, Kind::Sha1, &[INPUT]).ok_or("no parts")?;
     files.write(alloc, PACKED, packed)?;
     let whole = whole_objects(alloc, &objects, Kind::Sha1)?;
     let mut names = Names::new(alloc, files, Kind::Sha1);

@@ -1,6 +1,6 @@
 //! Rounds over files in memory and in a real folder.
 
-use crate::common::{INPUT, KINDS, REPLIES, SECOND, SECOND_REPLY};
+use case_commits::{INPUT, KINDS, REPLIES, SECOND, SECOND_REPLY};
 use gix_ref_file::{Files, MemoryFiles};
 use gix_ref_folder::{Disk, Folder, Part};
 use history::{Bytes, Collected, End, Kind, create};

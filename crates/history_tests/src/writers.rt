@@ -2,7 +2,7 @@
 
 ghost use Rattle.std.specs.Prelude.{None};
 
-use crate::common::{INPUT, KINDS, LISTED, REPLIES};
+use case_commits::{INPUT, KINDS, LISTED, REPLIES};
 use gix_ref_file::MemoryFiles;
 use history::in_memory::new_repository;
 use history::{Broken, Bytes, Collected, End, Kind, Repository, RunError, Sink, run};

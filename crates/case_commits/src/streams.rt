@@ -1,12 +1,6 @@
-//! Two commits of one file, reads of the first, the replies with Git's ids, and their repository.
+//! Streams of commits, and what is replied to them, with the ids that git gives.
 
-use gix_ref_file::MemoryFiles;
-use history::in_memory::new_repository;
-use history::{Bytes, Collected, Command, End, Kind, ObjectId, Received, run};
-use history_repository::Repository;
-use history_word::{Buffer, read_command};
-use std::alloc::Global;
-use std::process::Abort;
+use history::{Kind, ObjectId};
 
 /// The kinds of digest.
 pub const KINDS: [Kind; 2] = [Kind::Sha1, Kind::Sha256];
@@ -49,49 +43,12 @@ pub const SECOND_REPLY: ByKind = ByKind {
     sha256: b"ok commit a5ea25249d07efccaadbf8c78d176b8ccc8ebfb7d3ee2e5e80bf06d2bd831a1a\n",
 };
 
+/// A branch with a file two folders deep, and another with a file one folder deep.
+pub const TWO_BRANCHES: &[u8] =
+    b"commit refs/heads/main new\nput file 5 5\na/b/c\nhello\nauthor 1 3 1 +0000\nA\na@b\ncommitter 1 3 1 +0000\nA\na@b\nmessage 3\none\nend\ncommit refs/heads/other new\nput file 3 4\nd/e\nmore\nauthor 1 3 2 +0000\nA\na@b\ncommitter 1 3 2 +0000\nA\na@b\nmessage 3\ntwo\nend\n";
+
 /// Returns the id in replies that begin with `ok commit <id>`.
 pub fn made_id(replies: &[u8]) -> Option<ObjectId> {
     let line = replies.split(|byte| *byte == b'\n').next()?;
     ObjectId::from_hex(line.strip_prefix(b"ok commit ")?).ok()
-}
-
-/// Returns the command that an input begins with.
-pub fn first_command(rt: &impl Abort, alloc: Global, input: &[u8]) -> Command {
-    match read_command(alloc, &mut Buffer::new(), &mut Bytes::new(input)) {
-        Ok(Received::Command(command)) => command,
-        _ => panic!(rt; "no command"),
-    }
-}
-
-/// Returns the two parts of a new repository in memory, after these inputs.
-pub fn parts_after(
-    rt: &impl Abort,
-    alloc: Global,
-    kind: Kind,
-    inputs: &[&[u8]],
-) -> (MemoryFiles, MemoryFiles) {
-    let Ok(mut repository) = new_repository(alloc, kind) else {
-        panic!(rt; "not opened")
-    };
-    for input in inputs {
-        let mut reader = Bytes::new(*input);
-        let mut replies = Collected::new(alloc);
-        let ended = run(alloc, &mut reader, &mut replies, &mut repository);
-        assert!(rt; ended == Ok(End::Input));
-    }
-    repository.into_parts()
-}
-
-/// Returns the repository opened over such parts, as the crates below `history` take it.
-pub fn opened_after(
-    rt: &impl Abort,
-    alloc: Global,
-    kind: Kind,
-    inputs: &[&[u8]],
-) -> Repository<MemoryFiles> {
-    let (objects, names) = parts_after(rt, alloc, kind, inputs);
-    match Repository::open(alloc, objects, names, kind) {
-        Ok(repository) => repository,
-        Err(_) => panic!(rt; "not opened"),
-    }
 }

@@ -1,6 +1,6 @@
 //! How many objects a command and an opening read: each once, however much leads to it.
 
-use crate::common::{KINDS, first_command, parts_after};
+use case_commits::{KINDS, TWO_BRANCHES, first_command, parts_after};
 use gix_ref_file::paths::joined;
 use gix_ref_file::{Files, MemoryFiles};
 use gix_ref_fuse::Fuse;
@@ -10,10 +10,6 @@ use history_queries::{all_rows, list_files, list_names, log, show};
 use history_repository::Repository;
 use std::alloc::{AllocError, Global};
 use std::process::Abort;
-
-/// A branch with a file two folders deep, and another with a file one folder deep.
-pub const BEFORE: &[u8] =
-    b"commit refs/heads/main new\nput file 5 5\na/b/c\nhello\nauthor 1 3 1 +0000\nA\na@b\ncommitter 1 3 1 +0000\nA\na@b\nmessage 3\none\nend\ncommit refs/heads/other new\nput file 3 4\nd/e\nmore\nauthor 1 3 2 +0000\nA\na@b\ncommitter 1 3 2 +0000\nA\na@b\nmessage 3\ntwo\nend\n";
 
 /// The commit, the root, and the folders `a` and `a/b`.
 const CHANGED: (&[u8], u64) = (
@@ -272,7 +268,7 @@ fn readings_of_any(
     alloc: Global,
     input: &[u8],
 ) -> (bool, u64) {
-    let command = first_command(rt, alloc, input);
+    let command = first_command(alloc, input).expect(rt, "no command");
     let before = repository.objects.files().calls();
     let done = is_done(repository, alloc, command);
     let met = repository.objects.files().calls().saturating_sub(before);
@@ -286,7 +282,7 @@ fn counted(
     kind: Kind,
     inputs: &[&[u8]],
 ) -> Repository<Fuse<MemoryFiles>> {
-    let (objects, names) = parts_after(rt, alloc, kind, inputs);
+    let (objects, names) = parts_after(alloc, kind, inputs).expect(rt, "no parts");
     let objects = Fuse::failing_at(objects, 0, None);
     let names = Fuse::failing_at(names, 0, None);
     match Repository::open(alloc, objects, names, kind) {
@@ -299,7 +295,7 @@ fn counted(
 fn a_command_reads_each_object_once(rt: HostRuntime) {
     let alloc = rt.alloc();
     for kind in KINDS {
-        let repository = counted(&rt, alloc, kind, &[BEFORE]);
+        let repository = counted(&rt, alloc, kind, &[TWO_BRANCHES]);
         for (input, wanted) in [CHANGED, BRANCHED, GRAFTED, SHOWN, SHOWN_COMMIT, LISTED] {
             let met = readings(&rt, &repository, alloc, input);
             assert!(rt; met == wanted, "{met} for {wanted}");
@@ -316,7 +312,7 @@ fn calls_of_acting(
     inputs: &[&[u8]],
     input: &[u8],
 ) -> u64 {
-    let (objects, names) = parts_after(rt, alloc, kind, inputs);
+    let (objects, names) = parts_after(alloc, kind, inputs).expect(rt, "no parts");
     let objects = Fuse::failing_at(objects, 0, None);
     let names = Fuse::failing_at(names, 0, None);
     let Ok(mut repository) = Whole::open(alloc, objects, names, kind) else {
@@ -335,8 +331,8 @@ fn a_pack_reads_each_object_once(rt: HostRuntime) {
     let alloc = rt.alloc();
     for kind in KINDS {
         for (inputs, command) in [
-            ([BEFORE, LATER].as_slice(), PACKED),
-            ([BEFORE, LATER, APART].as_slice(), PACKED_APART),
+            ([TWO_BRANCHES, LATER].as_slice(), PACKED),
+            ([TWO_BRANCHES, LATER, APART].as_slice(), PACKED_APART),
         ] {
             let (input, wanted) = command;
             let opened = calls_of_acting(&rt, alloc, kind, inputs, b"");
@@ -370,12 +366,12 @@ fn a_commit_compares_each_object_once(rt: HostRuntime) {
     let alloc = rt.alloc();
     for kind in KINDS {
         for (input, read, compared) in [PUT_THRICE, PUT_NOTHING, PUT_AGAIN, PUT_AND_REMOVED] {
-            let mut repository = counted(&rt, alloc, kind, &[BEFORE]);
+            let mut repository = counted(&rt, alloc, kind, &[TWO_BRANCHES]);
             let planned = readings(&rt, &repository, alloc, input);
             assert!(rt; planned == read, "{planned} for {read}");
-            let first = first_command(&rt, alloc, input);
+            let first = first_command(alloc, input).expect(&rt, "no command");
             assert!(rt; calls_of_storing(&mut repository, alloc, first).is_some());
-            let again = first_command(&rt, alloc, input);
+            let again = first_command(alloc, input).expect(&rt, "no command");
             let met = calls_of_storing(&mut repository, alloc, again);
             let wanted = read.saturating_add(compared.saturating_mul(2));
             assert!(rt; met == Some(wanted), "{met:?} for {wanted}");
@@ -387,7 +383,7 @@ fn a_commit_compares_each_object_once(rt: HostRuntime) {
 fn words_of_one_object_read_it_once(rt: HostRuntime) {
     let alloc = rt.alloc();
     for kind in KINDS {
-        let repository = counted(&rt, alloc, kind, &[BEFORE, LATER]);
+        let repository = counted(&rt, alloc, kind, &[TWO_BRANCHES, LATER]);
         for (input, wanted) in [
             AT_ITS_TIP,
             AT_ITS_TAG,
@@ -411,7 +407,7 @@ fn words_of_one_object_read_it_once(rt: HostRuntime) {
 fn a_log_reads_each_object_once(rt: HostRuntime) {
     let alloc = rt.alloc();
     for kind in KINDS {
-        let repository = counted(&rt, alloc, kind, &[BEFORE, LATER]);
+        let repository = counted(&rt, alloc, kind, &[TWO_BRANCHES, LATER]);
         for (input, wanted) in [
             LOGGED,
             LOGGED_TOPOLOGICAL,
@@ -521,7 +517,7 @@ fn an_index_reads_a_long_commit_once(rt: HostRuntime) -> Result<(), AllocError> 
     let alloc = rt.alloc();
     let long = with_message_of(alloc, 20_000)?;
     for kind in KINDS {
-        let repository = counted(&rt, alloc, kind, &[BEFORE, long.as_slice()]);
+        let repository = counted(&rt, alloc, kind, &[TWO_BRANCHES, long.as_slice()]);
         let met = readings(&rt, &repository, alloc, b"index\n");
         assert!(rt; met == 3, "{met}");
     }
@@ -547,7 +543,11 @@ fn calls_of_a_pass(alloc: Global, files: &MemoryFiles) -> Option<u64> {
 fn opening_reads_each_object_once(rt: HostRuntime) {
     let alloc = rt.alloc();
     for kind in KINDS {
-        let (objects, names) = parts_after(&rt, alloc, kind, &[BEFORE, PACKED_NAMES, LOOSE_NAMES]);
+        let (objects, names) = parts_after(
+            alloc,
+            kind,
+            &[TWO_BRANCHES, PACKED_NAMES, LOOSE_NAMES],
+        ).expect(&rt, "no parts");
         let wanted = calls_of_a_pass(alloc, &objects);
         let objects = Fuse::failing_at(objects, 0, None);
         let names = Fuse::failing_at(names, 0, None);
@@ -565,7 +565,7 @@ fn opening_reads_each_object_once(rt: HostRuntime) {
 fn commits_that_have_rows_are_not_read(rt: HostRuntime) {
     let alloc = rt.alloc();
     for kind in KINDS {
-        let mut repository = counted(&rt, alloc, kind, &[BEFORE, LATER]);
+        let mut repository = counted(&rt, alloc, kind, &[TWO_BRANCHES, LATER]);
         let Ok(rows) = all_rows(&repository, alloc) else {
             panic!(rt; "no rows")
         };

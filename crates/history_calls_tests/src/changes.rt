@@ -1,9 +1,10 @@
 //! What a change of names costs and reads, and what comes of another writer's lock.
 //! No contract counts calls, and the files of a contract have one writer: so these must be tested.
 
-use crate::common::{ByKind, INPUT, KINDS, SECOND, SECOND_REPLY, first_command, parts_after};
-use crate::readings::BEFORE;
 use crate::watched::{THEIRS, Watched};
+use case_commits::{
+    ByKind, INPUT, KINDS, SECOND, SECOND_REPLY, TWO_BRANCHES, first_command, parts_after,
+};
 use gix_ref_file::paths::joined;
 use gix_ref_file::{FileError, Files, MemoryFiles, Place};
 use gix_ref_fuse::Fuse;
@@ -22,13 +23,14 @@ const TWO_NAMES: &[u8] =
 
 // Returns how many calls on the names part a command makes, with the moves of its names or before.
 fn calls(rt: &impl Abort, alloc: Global, made: &[u8], input: &[u8], moves: bool) -> u64 {
-    let (objects, names) = parts_after(rt, alloc, Kind::Sha1, &[made]);
+    let (objects, names) = parts_after(alloc, Kind::Sha1, &[made]).expect(rt, "no parts");
     let objects = Fuse::failing_at(objects, 0, None);
     let names = Fuse::failing_at(names, 0, None);
     let Ok(mut repository) = Repository::open(alloc, objects, names, Kind::Sha1) else {
         panic!(rt; "not opened")
     };
-    let Ok(planned) = repository.store_objects(alloc, first_command(rt, alloc, input)) else {
+    let command = first_command(alloc, input).expect(rt, "no command");
+    let Ok(planned) = repository.store_objects(alloc, command) else {
         panic!(rt; "not stored")
     };
     if moves {
@@ -40,7 +42,7 @@ fn calls(rt: &impl Abort, alloc: Global, made: &[u8], input: &[u8], moves: bool)
 #[test]
 fn a_name_moves_by_few_calls(rt: HostRuntime) {
     let alloc = rt.alloc();
-    for (made, input, names) in [(INPUT, SECOND, 1), (BEFORE, TWO_NAMES, 2)] {
+    for (made, input, names) in [(INPUT, SECOND, 1), (TWO_BRANCHES, TWO_NAMES, 2)] {
         let before = calls(&rt, alloc, made, input, false);
         let met = calls(&rt, alloc, made, input, true).saturating_sub(before);
         assert!(rt; met <= OF_A_NAME.saturating_mul(names), "{met} of {names}");
@@ -69,7 +71,7 @@ const OF_AN_OPENING: u64 = 3;
 #[test]
 fn an_opening_alone_reads_records(rt: HostRuntime) -> Result<(), Fail> {
     let alloc = rt.alloc();
-    let (objects, mut names) = parts_after(&rt, alloc, Kind::Sha1, &[INPUT]);
+    let (objects, mut names) = parts_after(alloc, Kind::Sha1, &[INPUT]).ok_or("no parts")?;
     write_records(alloc, &mut names)?;
     let opened = open(&rt, alloc, Kind::Sha1, objects, names, b"");
     let (objects, names) = opened.into_parts();
@@ -176,13 +178,13 @@ const DELETE: Locked = Locked {
 // The command is a fault and changes nothing, the lock is there until it is recovered, and then the
 // command is done.
 fn check_locked(rt: &impl Abort, alloc: Global, kind: Kind, it: &Locked) -> Result<(), Fail> {
-    let (mut objects, mut names) = parts_after(rt, alloc, kind, &[INPUT, it.made]);
+    let (mut objects, mut names) = parts_after(alloc, kind, &[INPUT, it.made]).ok_or("no parts")?;
     names.write(alloc, it.lock, THEIRS)?;
     let wanted = all_files(alloc, &names)?;
     assert!(rt; recover(alloc, &mut objects, &mut names, kind).is_ok());
     assert!(rt; names.kind_of(it.lock)? == Place::Absent);
     let recovered = all_files(alloc, &names)?;
-    let (objects, names) = parts_after(rt, alloc, kind, &[INPUT, it.made]);
+    let (objects, names) = parts_after(alloc, kind, &[INPUT, it.made]).ok_or("no parts")?;
     let mut repository = open(rt, alloc, kind, objects, names, it.lock);
     let (reply, ended) = answer(alloc, &mut repository, it.input);
     assert!(rt; ended == Some(End::Fault) && reply.as_slice() == b"fault File\n".as_slice());
