@@ -103,6 +103,7 @@ for name in some:
     partial, full = rules(name)
     add("partial", name, times(name, 3, True) if partial else broken)
     add("path", name, times(name, 3, full) if full else "refused")
+    add("last", name, times(name.rpartition(b"/")[2], 2, full) if full else "refused")
 for name, component in [(b"refs/heads", b"main"), (b"a", b"b/c"), (b"a", b""), (b"a", b"/b"), (b"a", b".b"), (b"a", b"b.lock"), (b"a", b"b/"),
                         (b"a", b"@"), (b"@a", b"@{b"), (b"HEAD", b"x"), (b"a", b"caf\xc3\xa9"), (b"a", b"b c"), (b"a.", b"b")]:
     whole = name + b"/" + component
@@ -159,7 +160,11 @@ for digits, _, text in written:
     text = text[:-1]
     taken = f"id {digits}" if digits else f"back {text.decode()}"
     add("taken", text, f"{taken}; {taken}; {text.decode()}")
+    # The null id has only zeros; git writes none, since it means that a reference doesn't exist.
+    is_null = str(bool(digits) and set(digits) == {"0"}).lower()
+    add("null", text, f"{is_null} {is_null}")
 add("taken", b"ref: main", "refused")
+add("null", b"ref: main", "refused")
 # ---- lists of edits
 
 NEW = "64c5e58854b06001b3a0c20edb97900dd0131025"

@@ -41,6 +41,8 @@ def folder():
     yield row("folder[ n:write:f#:x] n:list:-[ n:append:f#:y][ n:read:f#][ n:rename:f#:g#][ n:remove:g#] n:list:-", lambda size: " ".join(
         ["done"] * size + ["names" + numbered(size, ":f{0}")] + ["done"] * size + ["2:so%20xy"] * size + ["done"] * (2 * size) + ["names"]))
     yield row("folder n:write:f:x*# n:append:f:y*# n:read:f", lambda size: f"done done {2 * size}:so%20{'x' * size}{'y' * size}")
+    yield row("folder n:folder:d[ n:create:d/f#] n:list:d n:rename:none:a n:last", lambda size: " ".join(
+        ["done"] * (size + 1) + ["names" + numbered(size, ":f{0}"), "failed", "none%3a%20No%20such%20file%20or%20directory"]))
 
 
 def names():

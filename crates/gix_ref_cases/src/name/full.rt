@@ -1,4 +1,4 @@
-//! Full names: their paths, and names outside of a namespace.
+//! Full names: their paths and last components, and names outside of a namespace.
 
 use bstr::BStr;
 use case_words::Page;
@@ -13,6 +13,15 @@ pub fn path(alloc: Global, bytes: &[u8], page: &mut Page) -> Option<()> {
     page.put(BStr::new(view.to_path()));
     page.value(BStr::new(name.to_path()));
     page.value(name.try_clone().ok()?.into_inner().as_bstr());
+    Some(())
+}
+
+/// The last component by a view and by a name of its own.
+pub fn last(alloc: Global, bytes: &[u8], page: &mut Page) -> Option<()> {
+    let view = FullNameRef::new(bytes).ok()?;
+    let name = view.to_owned(alloc).ok()?;
+    page.put(view.file_name());
+    page.value(name.file_name());
     Some(())
 }
 

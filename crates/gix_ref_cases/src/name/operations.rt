@@ -39,8 +39,10 @@ fn of_names(alloc: Global, operation: &str, bytes: &[u8], page: &mut Page) -> Op
         "namespace" => cases::namespace(alloc, bytes, page),
         "composed" => cases::composed(alloc, bytes, page),
         "taken" => targets::taken(alloc, bytes, page),
+        "null" => targets::null(alloc, bytes, page),
         "partial" => partial::partial(alloc, bytes, page),
         "path" => full::path(alloc, bytes, page),
+        "last" => full::last(alloc, bytes, page),
         "once" => lists::once(alloc, bytes, page),
         _ => none(page),
     }

@@ -26,6 +26,14 @@ pub fn taken(alloc: Global, text: &[u8], page: &mut Page) -> Option<()> {
     Some(())
 }
 
+/// Whether the target is a null id, by a target of its own and by its view.
+pub fn null(alloc: Global, text: &[u8], page: &mut Page) -> Option<()> {
+    let target = read(alloc, text)?;
+    page.put(target.is_null());
+    page.value(target.to_ref().is_null());
+    Some(())
+}
+
 fn show_taken(taken: Result<ObjectId, Target>, page: &mut Page) {
     match taken {
         Ok(id) => page.put_between("id ", id, "; "),

@@ -1,4 +1,4 @@
-//! `FullName`, which owns its bytes: made, copied, viewed, printed, its category, put into or out of a namespace.
+//! `FullName`, which owns its bytes: made, copied, viewed, printed, its category and last component, put into or out of a namespace.
 
 ghost use Rattle.std.specs.Prelude.{◌≡◌, ◌++◌, ◌&&◌, not, ℕ, List, IsTrue, IsFalse, IfOk, OnErr, MatchResult, MatchOption, length, drop, Some, if◌then◌else◌};
 ghost use Rattle.bstr.specs.BStr.{bstr_bytes};
@@ -34,7 +34,7 @@ impl Model for FullName {
 
 impl FullName {
     ghost use Rattle.gix_ref_name.specs.Names.{name_of, part_of, Makes};
-    ghost use Rattle.gix_ref_name.specs.Fronts.{with_front};
+    ghost use Rattle.gix_ref_name.specs.Fronts.{IsLastPart, with_front};
     ghost use Rattle.gix_ref_name.specs.Namespaces.{outside_of};
     ghost use Rattle.gix_ref_name.specs.Categories.{Tells, HasNoCategory, IsShortName};
 
@@ -156,6 +156,13 @@ impl FullName {
         ensures { IsShortName self.now (bstr_bytes result) }
     {
         self.as_ref().shorten()
+    }
+
+    /// The last component of the name.
+    pub fn file_name(&self) -> BStr<'_>
+        ensures { IsLastPart self.now (bstr_bytes result) }
+    {
+        self.as_ref().file_name()
     }
 
     /// A name of the same bytes.

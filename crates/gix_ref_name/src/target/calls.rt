@@ -119,6 +119,16 @@ impl<'a> TargetRef<'a> {
         }
     }
 
+    /// Returns whether it is the null id of its hash function.
+    pub fn is_null(self) -> bool
+        ensures { IsTrue result ↔ IsNull (target_ref_view self.entry) }
+    {
+        match self {
+            TargetRef::Object(id) => id.is_null(),
+            TargetRef::Symbolic(_) => false,
+        }
+    }
+
     /// The object's id; `None` if it is a name.
     pub fn try_id(self) -> Option<oid<'a>>
         ensures { option_map viewed_id result ≡ id_in (target_ref_view self.entry) }
