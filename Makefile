@@ -28,14 +28,12 @@ quick: ## the example and the programs of cases by rt try, without a proof; some
 wrong-bodies: ## tries the wrong bodies of planted/ and must-fail/; CRATES="gix_hash history" those of some crates, NAMED=1 the named; many hours for all
 	planted/try $(CRATES)
 
-# The proved program if it is built of these sources, else the crate `example` by rt try.
-demo: ## the program on a stream of several commands: the proved one if it is built, else the sources without a proof; a minute
-	@if [ -x $(PROGRAM) ] && [ -z "$$($(NEWER))" ]; then \
-	  $(PROGRAM) < demo/first.stream; \
-	else \
-	  echo 'This run is not the proved build, which make program makes.' >&2; \
-	  cd crates/example && rt try --steps 60000000 < ../../demo/first.stream; \
-	fi
+# The proved program if it is built of these sources, else one that nothing proves, built without optimising.
+demo: ## a short story on a real folder, told by the proved program if it is built, else by an unproved one, which is built first; minutes
+	@if [ -x $(PROGRAM) ] && [ -z "$$($(NEWER))" ]; then engine=$(PROGRAM); else \
+	  echo 'demo: the proved program is not built (make program makes it). One without a proof is built for this run.' >&2; \
+	  $(MAKE) --no-print-directory unproved OUT=out/demo/wunthavel-history FLAGS=--quick && engine=out/demo/wunthavel-history; \
+	fi && demo/story $$engine
 
 clients-test: ## the tests of clients/python, over the proved program if it is built, else over an unproved one, which is built; minutes
 	@[ -x $(PROGRAM) ] || $(MAKE) --no-print-directory unproved
@@ -53,11 +51,12 @@ unproved: ## compiles the program without a proof, as out/unproved/wunthavel-his
 unchecked: ## the same without the checks of rt try, as out/unchecked/wunthavel-history: for bench/report alone, before the proofs are done
 unproved: FLAGS =
 unchecked: FLAGS = --unchecked
+OUT = out/$@/wunthavel-history
 unproved unchecked:
 	@room=$$(mktemp -d) && trap 'rm -rf "$$room"' EXIT && \
 	find crates.txt HANDLES crates scripts -name out -prune -o -type f -print0 | xargs -0 cp --parents -t "$$room" && \
 	sed -i 's/(proved)/($@)/' "$$room/crates/history_actions/src/command_line/version.rt" && \
-	"$$room/scripts/unproved-build" out/$@/wunthavel-history $(FLAGS)
+	"$$room/scripts/unproved-build" $(OUT) $(FLAGS)
 
 # `history` alone is a builtin of bash, so the program's own name is another.
 install: program ## proves the program, and puts it as PREFIX/bin/wunthavel-history, with a link history; hours the first time
