@@ -110,7 +110,7 @@ class Bench:
         """Has so many processes ask at once, and returns the seconds from when all are connected."""
         package = os.path.dirname(os.path.abspath(__file__))
         lines = [f"import sys; sys.path.insert(0, {package!r}); from wunthavel import connect", f"with connect({socket!r}) as repo:"]
-        lines += ["  print('ready', flush=True); sys.stdin.readline()", f"  for _ in range({each}): repo.show('main', 'folder 1/page 1')"]
+        lines += ["  print('ready', flush=True); sys.stdin.readline()", f"  for _ in range({each}): repo.read('folder 1/page 1', 'main')"]
         pipe = subprocess.PIPE
         asking = [subprocess.Popen([sys.executable, "-c", "\n".join(lines)], stdin=pipe, stdout=pipe) for _ in range(clients)]
         for it in asking:

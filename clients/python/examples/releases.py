@@ -21,19 +21,19 @@ class Releases:
 
     def release(self, version: str, notes: str) -> str:
         """Makes a release of what HEAD has."""
-        return self.repo.tag(f"v{version}", "HEAD", notes)
+        return self.repo.tag(f"v{version}", message=notes)
 
     def tags(self) -> List[Name]:
         """The releases' tags, newest first."""
-        made = {it.name: self.repo.past(it.name)[0].actor.seconds for it in self.repo.names("refs/tags") if it.name.startswith(TAGS)}
-        return sorted((it for it in self.repo.names("refs/tags") if it.name in made), key=lambda it: (made[it.name], it.name), reverse=True)
+        tags = [it for it in self.repo.names("tags") if it.name.startswith(TAGS)]
+        return sorted(tags, key=lambda it: (self.repo.past(it.name)[0].actor.seconds, it.name), reverse=True)
 
     def log(self) -> Iterator[Tuple[str, str, List[Commit]]]:
         """Gives each release, newest first: its version, the title of its notes, and the commits that came with it."""
         tags = self.tags()
         for tag, before in zip(tags, [*tags[1:], None]):
             hidden = [before.name] if before else []
-            yield tag.name[len(TAGS) :], self.repo.past(tag.name)[0].title, list(self.repo.log(words=tag.name, hidden=hidden))
+            yield tag.name[len(TAGS) :], self.repo.past(tag.name)[0].title, list(self.repo.log(at=tag.name, hidden=hidden))
 
 
 def main(folder: str, action: str, *words: str) -> None:

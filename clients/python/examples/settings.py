@@ -9,10 +9,9 @@
 import getpass
 import os
 import sys
-from typing import Callable, Dict
+from typing import Dict
 
-import wunthavel
-from wunthavel import CommitBuilder, Refused, Repo
+from wunthavel import NoSuchPath, Repo
 
 HEAD = "refs/heads/main"
 FOLDER = "settings"
@@ -28,34 +27,21 @@ class Settings:
         """A setting's value, now or in a commit; `KeyError` if it has none."""
         try:
             return self.repo.read(f"{FOLDER}/{key}", at).decode()
-        except Refused as error:
+        except NoSuchPath as error:
             raise KeyError(key) from error
 
     def all(self, at: str = HEAD) -> Dict[str, str]:
         """All settings, fetched in one batch."""
-        found = self.repo.files(at)
-        values = self.repo.batch(wunthavel.protocol.content(at, it.path) for it in found)
-        return {it.path[len(FOLDER) + 1 :]: value.data.decode() for it, value in zip(found, values)}
-
-    def change(self, why: str, edits: Callable[[CommitBuilder], object]) -> str:
-        """Makes a change as one commit, over whatever others changed meanwhile."""
-        while True:
-            tip = self.repo.resolve(HEAD)
-            change = self.repo.commit(why, name=HEAD, expect=wunthavel.NEW if tip is None else tip)
-            edits(change)
-            try:
-                return change.run()
-            except Refused as error:
-                if error.cause not in ("NotExpected", "Taken"):
-                    raise
+        return {file.path[len(FOLDER) + 1 :]: value.data.decode() for file, value in self.repo.contents(FOLDER, at)}
 
     def set(self, values: Dict[str, str]) -> str:
-        """Sets all these values at once."""
-        return self.change("Set " + ", ".join(values), lambda change: [change.put(f"{FOLDER}/{key}", value.encode()) for key, value in values.items()])
+        """Sets all these values at once, over whatever others changed meanwhile."""
+        puts = [(f"{FOLDER}/{key}", value.encode()) for key, value in values.items()]
+        return self.repo.update(HEAD, lambda change: [change.put(*it) for it in puts], "Set " + ", ".join(values))
 
     def rollback(self, commit: str) -> str:
         """Makes the settings what they were in a commit. The history goes on: a rollback can be rolled back too."""
-        return self.change(f"Roll back to {commit[:10]}", lambda change: change.graft(FOLDER, commit, FOLDER))
+        return self.repo.update(HEAD, lambda change: change.graft(FOLDER, FOLDER, commit), f"Roll back to {commit[:10]}")
 
 
 def main(folder: str, action: str, *words: str) -> None:

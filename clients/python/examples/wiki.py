@@ -10,8 +10,7 @@ import os
 import sys
 from typing import Iterator, Optional, Sequence
 
-import wunthavel
-from wunthavel import Commit, Line, Refused, Repo
+from wunthavel import Commit, CommitBuilder, Line, NoSuchPath, Repo
 
 HEAD = "refs/heads/main"
 
@@ -29,29 +28,22 @@ class Wiki:
     def edit(self, page: str, content: bytes, who: str, seen: Optional[str]) -> str:
         """Saves a page, as its editor began from the commit `seen`, or from nothing.
 
-        Another page's edit may have come between; then this one is tried again over it. An edit of the same page is a conflict.
+        Another page's edit may have come between; then this one is made over it. An edit of the same page is a conflict.
         """
-        while True:
-            tip = self.repo.resolve(HEAD)
-            if self.version(page, tip) != self.version(page, seen):
+
+        def change(edit: CommitBuilder) -> None:
+            if self.version(page, edit.base) != self.version(page, seen):
                 raise Conflict(page)
-            edit = self.repo.commit(f"Edit {page}", name=HEAD, expect=wunthavel.NEW if tip is None else tip, author=who)
-            try:
-                return edit.put(f"pages/{page}.md", content).run()
-            except Refused as error:
-                if error.cause not in ("NotExpected", "Taken"):
-                    raise
+            edit.put(f"pages/{page}.md", content)
+
+        return self.repo.update(HEAD, change, f"Edit {page}", author=who)
 
     def version(self, page: str, commit: Optional[str]) -> Optional[str]:
         """The id of the page's content in a commit, if it has one."""
-        if commit is None:
-            return None
         try:
-            return self.repo.show(commit, f"pages/{page}.md").id
-        except Refused as error:
-            if error.cause == "NoSuchPath":
-                return None
-            raise
+            return self.repo.content(f"pages/{page}.md", commit).id if commit else None
+        except NoSuchPath:
+            return None
 
     def show(self, page: str, commit: str = HEAD) -> bytes:
         """The page, as it is or as it was."""

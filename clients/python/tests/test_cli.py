@@ -14,7 +14,7 @@ from typing import Any, List, Tuple
 from unittest import mock
 
 import wunthavel
-from wunthavel import cli, protocol, worktree
+from wunthavel import cli, protocol, wire, worktree
 from wunthavel.protocol import File
 from wunthavel.worktree import WorkError, WorkTree, refuse_path
 from tests.support import PATIENCE, all_shown
@@ -274,7 +274,7 @@ class Commands(AtATerminal):
 
     def large(self) -> str:
         with open("large", "wb") as it:
-            it.truncate(worktree.LARGEST + 1)
+            it.truncate(wire.LARGEST + 1)
         return self.does("save", "Large", status=1)
 
     def test_who_saves(self) -> None:

@@ -9,8 +9,8 @@ from tests.support import ADA
 
 
 def load_tests(loader: unittest.TestLoader, tests: unittest.TestSuite, pattern: object) -> unittest.TestSuite:
-    tests.addTests(doctest.DocTestSuite(protocol))
-    tests.addTests(doctest.DocTestSuite("wunthavel.progress"))
+    for it in ("errors", "progress", "protocol", "texts"):
+        tests.addTests(doctest.DocTestSuite(f"wunthavel.{it}"))
     return tests
 
 

@@ -1,8 +1,11 @@
 """`Repo` over the engine: each command, batches, ends of the engine, and what is made on the client's side."""
+import errno
 import gc
 import itertools
 import os
 import random
+import re
+import shutil
 import signal
 import subprocess
 import sys
@@ -10,13 +13,13 @@ import threading
 import time
 import tracemalloc
 import unittest
-from typing import Any, Dict, List
+from typing import Any, Callable, Dict, List, Tuple, Type
 from unittest import mock
 
 import wunthavel
 from wunthavel import NEW, Change, Command, File, protocol
-from wunthavel.repo import _same_lines
-from tests.support import ADA, PATIENCE, WithRepo
+from wunthavel.plans import same_lines, unified
+from tests.support import ADA, PATIENCE, WithRepo, wait_until
 
 
 class Commands(WithRepo):
@@ -29,6 +32,89 @@ class Commands(WithRepo):
         for command in commands:
             with self.refused("UnbornHead"):
                 self.repo.run(command)
+        self.assertEqual((self.repo.files(), self.repo.list(), list(self.repo.contents())), ([], [], []))
+        for ask in (self.repo.read, self.repo.content, self.repo.blame, self.repo.list):
+            with self.assertRaises(wunthavel.NoSuchPath) as met:
+                ask("a")
+            self.assertEqual(met.exception.values, ("a",))
+
+    def test_names_that_are_not_full_are_of_branches(self) -> None:
+        first = self.repo.commit("Begin", name="side").put("a", b"1").run()
+        self.repo.move({"next": first})
+        self.repo.move([("last", NEW, "next")])
+        self.repo.rename("next", "later")
+        self.repo.delete("last", first)
+        self.repo.tag("v1", first)
+        self.assertEqual([it.name for it in self.repo.names("heads")], ["refs/heads/later", "refs/heads/side"])
+        self.assertEqual([it.name for it in self.repo.names()], ["refs/heads/later", "refs/heads/side", "refs/tags/v1"])
+
+    def test_a_refusal_names_what_it_is_about(self) -> None:
+        first = self.repo.commit("Begin").put("a", b"1").run()
+        asks: List[Tuple[Callable[[], object], Type[wunthavel.Refused], Tuple[str, ...]]] = [
+            (lambda: self.repo.move({"good": first, "b..ad": first}), wunthavel.BadName, ("refs/heads/b..ad",)),
+            (lambda: self.repo.commit("x", name="b ad").run(), wunthavel.BadName, ("refs/heads/b ad",)),
+            (lambda: self.repo.commit("x").put("good", b"").put("b//ad", b"").run(), wunthavel.BadPath, ("b//ad",)),
+            (lambda: self.repo.commit("x").put("good", b"").put("large", bytes((16 << 20) + 1)).run(), wunthavel.TooLarge, ("large",)),
+            (lambda: self.repo.commit("x", expect=NEW).run(), wunthavel.Taken, ()),
+            (lambda: self.repo.commit("x", name="main", expect=NEW).run(), wunthavel.Taken, ("refs/heads/main",)),
+            (lambda: self.repo.read("none"), wunthavel.NoSuchPath, ("none",)),
+            (lambda: self.repo.delete("none"), wunthavel.NoSuchName, ("refs/heads/none",)),
+        ]
+        for ask, kind, values in asks:
+            with self.subTest(kind=kind), self.assertRaises(kind) as met:
+                ask()
+            self.assertEqual(tuple(it for it in met.exception.values if it != "HEAD"), values)
+            self.assertEqual(met.exception.cause, kind.__name__)
+
+    def test_each_cause_of_the_protocol_has_a_class(self) -> None:
+        with open(os.path.join(os.path.dirname(__file__), "../../../docs/PROTOCOL.md"), encoding="utf-8") as it:
+            rows = re.findall(r"^\| (`[A-Z][^|]*) \|", it.read().partition("## Refusals")[2], re.MULTILINE)
+        causes = [it for row in rows for it in re.findall(r"`([A-Z]\w+)", row)]
+        self.assertGreater(len(causes), 40)
+        for it in causes:
+            self.assertTrue(issubclass(getattr(wunthavel, it), wunthavel.Refused), it)
+            self.assertIs(type(wunthavel.Refused.of(it)), getattr(wunthavel, it))
+
+    def test_a_commit_that_is_not_run_warns(self) -> None:
+        edit = self.repo.commit("Begin").put("a", b"1")
+        with self.assertWarnsRegex(ResourceWarning, "Begin"):
+            del edit
+        with self.assertRaises(KeyError), self.repo.commit("Begin"):
+            raise KeyError
+
+    def test_update(self) -> None:
+        self.repo.commit("Begin").put("count", b"0").run()
+
+        def count(edit: wunthavel.CommitBuilder) -> None:
+            assert edit.base is not None
+            edit.put("count", b"%d" % (1 + int(self.repo.read("count", edit.base))))
+
+        threads = [threading.Thread(target=lambda: [self.repo.update("main", count, "Count") for _ in range(25)]) for _ in range(4)]
+        for it in threads:
+            it.start()
+        for it in threads:
+            it.join()
+        self.assertEqual(self.repo.read("count"), b"100")
+        id = self.repo.update("new", lambda edit: self.assertIsNone(edit.put("a", b"1").base))
+        self.assertEqual((self.repo.resolve("new"), self.repo.show(id).message), (id, "update"))
+
+    def test_words_of_parents(self) -> None:
+        ids = self.chain(6)
+        aside = self.repo.commit("Aside", name="aside", parents=["main~4"]).put("aside", b"").run()
+        merge = self.repo.commit("Merge", parents=["aside^0"]).run()
+        words = {"HEAD~1": ids[5], "HEAD^": ids[5], "main^1~4": ids[1], "main~5": ids[1], "HEAD^2": aside, "main^2~": ids[1], "aside~": ids[1], "main~0": merge, merge + "~~": ids[4]}
+        for word, id in words.items():
+            self.assertEqual(self.repo.resolve(word), id, word)
+        self.assertEqual(self.repo.read("page", "main~3"), b"3\n")
+        self.assertEqual(self.repo.log_ids("main~4", hidden="main~6"), [ids[2], ids[1]])
+        for word in ("main~7", "main^3", "aside^2"):
+            with self.assertRaises(wunthavel.UnknownWord) as met:
+                self.repo.show(word)
+            self.assertIn(word, str(met.exception))
+        self.repo.commit("Graft", expect="main~0").graft("old", "page", at="main~4").run()
+        self.assertEqual(self.repo.read("old"), b"2\n")
+        self.repo.move({"back": "main~3"})
+        self.assertEqual(self.repo.resolve("back"), ids[4])
 
     def test_commits_with_compare_and_set(self) -> None:
         first = self.repo.commit("Begin", expect=NEW).put("a", b"1").put("bin/b", b"2", "exec").put("l", b"a", "link").run()
@@ -41,7 +127,7 @@ class Commands(WithRepo):
         self.assertEqual(self.repo.resolve(), edit.id)
         self.assertEqual(self.repo.files(), [File("file", "e440e5c842586965a7fb77deda2eca68612b1f53", "a")])
         self.assertEqual([it.path for it in self.repo.files(first)], ["a", "bin/b", "l"])
-        self.assertEqual(self.repo.show(first, "bin/b"), wunthavel.Content("exec", "d8263ee9860594d2806b0dfd1bfd17528b0ba2a4", b"2"))
+        self.assertEqual(self.repo.content("bin/b", first), wunthavel.Content("exec", "d8263ee9860594d2806b0dfd1bfd17528b0ba2a4", b"2"))
 
     def test_a_block_that_raises_commits_nothing(self) -> None:
         with self.assertRaises(KeyError), self.repo.commit("Begin"):
@@ -52,7 +138,7 @@ class Commands(WithRepo):
         charles = wunthavel.Actor("Charles", "", 5, "-0730")
         first = self.repo.commit("Begin\n\nWith a body.\n", author=charles, committer=ADA).run()
         second = self.repo.commit("Aside", name="refs/heads/side").put("s", b"").run()
-        merge = self.repo.commit("Merge", parents=["side"]).graft("from", "side").run()
+        merge = self.repo.commit("Merge", parents=["side"]).graft("from", at="side").run()
         commit = self.repo.show(first)
         self.assertEqual((commit.id, commit.parents, commit.author, commit.committer), (first, (), charles, ADA))
         self.assertEqual((commit.title, commit.message), ("Begin", "Begin\n\nWith a body.\n"))
@@ -88,7 +174,7 @@ class Commands(WithRepo):
         self.assertEqual(len(self.repo.log_ids(order="date")), 6)
         self.assertEqual(list(self.repo.log(limit=0)), [])
         self.assertEqual(self.repo.index(), 6)
-        self.assertEqual([it.id for it in self.repo.log(words=ids[1])], [ids[1], ids[0]])
+        self.assertEqual([it.id for it in self.repo.log(at=ids[1])], [ids[1], ids[0]])
 
     def test_any_bytes(self) -> None:
         paths = [" a b ", "new\nline", "\udcff\udcfe", "ü", "-", "put file 1 1"]
@@ -313,13 +399,69 @@ class Ends(WithRepo):
                 repo.close()
 
     def test_a_fault_then_the_end(self) -> None:
-        repo = wunthavel.Repo(self.store, engine=self.fake("sys.stdin.buffer.readline(); os.write(1, b'fault File\\n'); sys.exit(1)"))
+        body = "sys.stdin.buffer.readline(); os.write(1, b'fault File\\n'); sys.exit('note: objects/unfinished: No space left on device')"
+        repo = wunthavel.Repo(self.store, engine=self.fake(body))
         with self.assertRaises(wunthavel.Fault) as met:
             repo.pack()
-        self.assertEqual(met.exception.cause, "File")
-        with self.assertRaises(wunthavel.EngineDied):
+        fault = met.exception
+        self.assertEqual((fault.cause, fault.path, fault.reason, fault.errno), ("File", "objects/unfinished", "No space left on device", errno.ENOSPC))
+        self.assertTrue(repo.closed)
+        with self.assertRaises(wunthavel.EngineDied) as died:
             repo.pack()
+        self.assertIn("No space left on device", str(died.exception))
+        self.assertIn("reopen() recovers the folder", str(died.exception))
         repo.close()
+
+    def test_faults_of_questions_each_with_its_note(self) -> None:
+        body = "for it in range(300):\n  sys.stdin.buffer.readline(); os.write(1, b'fault File\\n'); time.sleep(0.001); os.write(2, b'note: objects/%d: Permission denied\\n' % it)"
+        with wunthavel.Repo(self.store, engine=self.fake(body)) as repo:
+            found = list(repo.results(protocol.show("HEAD") for _ in range(300)))
+        self.assertEqual([getattr(it, "path", None) for it in found], [f"objects/{it}" for it in range(300)])
+        self.assertEqual({getattr(it, "errno", None) for it in found}, {errno.EACCES})
+
+    def test_a_fault_of_the_engine_itself(self) -> None:
+        first = self.repo.commit("Begin").put("a", b"1").run()
+        file = self.repo.show(first).tree
+        os.unlink(os.path.join(self.store, "objects", file[:2], file[2:]))
+        with self.assertRaises(wunthavel.Fault) as met:
+            self.repo.files(first)
+        self.assertEqual((met.exception.path, met.exception.errno), (f"objects/{file[:2]}/{file[2:]}", errno.ENOENT))
+        self.assertEqual(self.repo.show().id, first)
+
+    def test_an_engine_that_ended_is_known_to_have(self) -> None:
+        os.kill(self.repo.pid, signal.SIGKILL)
+        wait_until(lambda: self.repo.closed)
+
+    def test_a_fork(self) -> None:
+        first = self.chain(1)[0]
+        child = os.fork()
+        if not child:
+            # Nothing of the tests is to run here.
+            status = 1
+            try:
+                self.repo.show()
+            except wunthavel.EngineError as error:
+                status = 0 if "open the folder anew after fork" in str(error) else 2
+            self.repo.close()
+            os._exit(status)
+        self.assertEqual(self.repo.show().id, first)
+        begun = time.monotonic()
+        self.repo.close()
+        self.assertLess(time.monotonic() - begun, 20)
+        self.assertEqual(self.repo._engine.over and self.repo._engine.over.status, 0)
+        self.assertEqual(os.waitpid(child, 0)[1], 0)
+
+    def test_closing_beside_a_child_that_lives_on(self) -> None:
+        child = os.fork()
+        if not child:
+            time.sleep(PATIENCE)
+            os._exit(0)
+        begun = time.monotonic()
+        self.repo.close()
+        self.assertLess(time.monotonic() - begun, 20)
+        self.assertEqual(self.repo._engine.over and self.repo._engine.over.status, 0)
+        os.kill(child, signal.SIGKILL)
+        os.waitpid(child, 0)
 
     def test_an_interrupted_wait_leaves_it_in_step(self) -> None:
         self.chain(1)
@@ -451,9 +593,9 @@ class OnTheClientsSide(WithRepo):
         self.repo.commit("Go on").remove("goes").put("kind", b"", "exec").put("content", b"2").put("a b", b"").run()
         self.assertEqual([(it.kind, it.path) for it in self.repo.diff_names(first)], [("added", "a b"), ("changed", "content"), ("removed", "goes"), ("changed", "kind")])
         self.assertEqual([it.kind for it in self.repo.diff_names(None, first)], ["added"] * 4)
-        self.assertEqual(list(self.repo.diff_names("HEAD", "main")), [])
-        self.assertEqual(list(self.repo.changed_by()), list(self.repo.diff_names(first)))
-        self.assertIsInstance(next(self.repo.changed_by(first)), Change)
+        self.assertEqual(self.repo.diff_names("HEAD", "main"), [])
+        self.assertEqual(self.repo.changed_by(), self.repo.diff_names(first))
+        self.assertIsInstance(self.repo.changed_by(first)[0], Change)
 
     def test_blame(self) -> None:
         self.repo.commit("one").put("p", b"a\nb\nc\n").run()
@@ -463,6 +605,65 @@ class OnTheClientsSide(WithRepo):
         for path, cause in (("none", "NoSuchPath"), ("", "BadPath")):
             with self.refused(cause):
                 self.repo.blame(path)
+
+    def test_blame_asks_a_few_times(self) -> None:
+        for number in range(3):
+            self.repo.commit(f"{number}").put("p", b"".join(b"%d\n" % it for it in range(number + 1))).run()
+            list(self.repo.batch(self.repo.commit("other").put("q", b"%d %d" % (number, it)).command() for it in range(200)))
+        with mock.patch.object(self.repo._engine, "wait", wraps=self.repo._engine.wait) as wait:
+            self.assertEqual([it.commit.title for it in self.repo.blame("p")], ["0", "1", "2"])
+        self.assertLess(wait.call_count, 30)
+
+    def test_diff(self) -> None:
+        first = self.repo.commit("Begin").put("p", b"a\nb\nc\n").put("z", b"\0").put("q", b"1").run()
+        self.repo.commit("Go on").put("p", b"a\nB\nc\nd").put("z", b"\0\0").remove("q").run()
+        self.assertEqual(self.repo.diff(first, "HEAD", "p"), b"--- a/p\n+++ b/p\n@@ -1,3 +1,4 @@\n a\n-b\n+B\n c\n+d\n\\ No newline at end of file\n")
+        self.assertEqual(self.repo.diff(first, "HEAD", "q"), b"--- a/q\n+++ /dev/null\n@@ -1 +0,0 @@\n-1\n\\ No newline at end of file\n")
+        self.assertEqual(self.repo.diff(first, "HEAD", "z"), b"Binary files a/z and b/z differ\n")
+        self.assertEqual(self.repo.diff(first, first, "p"), b"")
+
+    @unittest.skipUnless(shutil.which("git"), "there is no git")
+    def test_git_applies_a_diff(self) -> None:
+        chance = random.Random(5)
+        for _ in range(40):
+            old, new = (b"".join(chance.choice([b"a\n", b"b\n", b"c\r\n", b"\n"]) for _ in range(chance.randrange(12))) + chance.choice([b"", b"end"]) for _ in range(2))
+            with open(os.path.join(self.room, "p"), "wb") as it:
+                it.write(old)
+            patch = unified(old, new, "p")
+            if old and new and patch:
+                subprocess.run(["git", "apply", "--whitespace=nowarn", "-"], input=patch, cwd=self.room, check=True, env={**os.environ, "GIT_DIR": "/nowhere"})
+                with open(os.path.join(self.room, "p"), "rb") as it:
+                    self.assertEqual(it.read(), new)
+
+    def test_what_a_name_was_at(self) -> None:
+        made = {}
+        for seconds in (100, 200, 300):
+            made[seconds] = self.repo.commit(f"{seconds}", author=wunthavel.Actor("A", "", seconds)).put("a", b"%d" % seconds).run()
+        for seconds, wanted in ((250, made[200]), (300, made[300]), (10**9, made[300]), (100, made[100])):
+            self.assertEqual(self.repo.as_of("main", seconds), wunthavel.AsOf(wanted, "log"))
+        self.assertEqual(self.repo.as_of("main", 99), wunthavel.AsOf(None, "time"))
+        self.repo.close()
+        os.unlink(os.path.join(self.store, "logs/refs/heads/main"))
+        self.repo = wunthavel.Repo(self.store)
+        self.assertEqual(self.repo.as_of("main", 250), wunthavel.AsOf(made[200], "time"))
+        self.assertEqual(self.repo.as_of("main", 99), wunthavel.AsOf(None, "time"))
+
+    def test_bytes_that_are_not_what_was_stored(self) -> None:
+        id = "ce013625030ba8dba906f756967f9e9ca394464a"
+        body = f"for _ in range(4):\n  sys.stdin.buffer.readline(); sys.stdin.buffer.readline(); os.write(1, b'ok show content file {id} 6\\nhallo\\n\\n')"
+        with wunthavel.Repo(self.store, engine=self.fake(body)) as repo:
+            for ask in (repo.read, repo.content):
+                with self.assertRaises(wunthavel.Damaged) as met:
+                    ask("greeting")
+                self.assertEqual((met.exception.path, met.exception.id), ("greeting", id))
+                self.assertIn("wunthavel verify", str(met.exception))
+            self.assertEqual(repo.read("greeting", check=False), b"hallo\n")
+            self.assertEqual(repo.content("greeting", check=False).data, b"hallo\n")
+
+    def test_contents(self) -> None:
+        self.repo.commit("Begin").put("a", b"1").put("d/b", b"2").put("d/c", b"3", "exec").run()
+        self.assertEqual([(file.path, content.data) for file, content in self.repo.contents()], [("a", b"1"), ("d/b", b"2"), ("d/c", b"3")])
+        self.assertEqual([(file.path, content.kind) for file, content in self.repo.contents("d/", "main")], [("d/b", "file"), ("d/c", "exec")])
 
     def test_blame_through_merges_agrees_with_a_walk_over_all_commits(self) -> None:
         for seed in range(6):
@@ -480,10 +681,12 @@ class OnTheClientsSide(WithRepo):
             lines = sorted(tips[name] + [b"%09d of %d\n" % (chance.randrange(10**9), step) for _ in range(chance.randrange(4))])
             if lines and chance.random() < 0.3:
                 lines.pop(chance.randrange(len(lines)))
-            edit = self.repo.commit(f"{step}", name=name).put("other", b"%d" % step)
-            if chance.random() < 0.4 and self.repo.resolve(other) != self.repo.resolve(name):
+            merges = chance.random() < 0.4 and self.repo.resolve(other) != self.repo.resolve(name)
+            edit = self.repo.commit(f"{step}", name=name, parents=[other] if merges else [])
+            if merges:
                 lines = sorted({*tips[name], *tips[other]})
-                edit = self.repo.commit(f"{step}", name=name, parents=[other])
+            else:
+                edit.put("other", b"%d" % step)
             edit.put("p", b"".join(lines)) if lines else edit.remove("p")
             edit.run()
             tips[name] = lines
@@ -510,7 +713,7 @@ class OnTheClientsSide(WithRepo):
         for _ in range(300):
             old = [b"%d" % chance.randrange(5) for _ in range(chance.randrange(9))]
             new = [b"%d" % chance.randrange(5) for _ in range(chance.randrange(9))]
-            pairs = list(_same_lines(old, new))
+            pairs = list(same_lines(old, new))
             self.assertEqual([old[it] for it, _ in pairs], [new[it] for _, it in pairs])
             self.assertTrue(all(a[0] < b[0] and a[1] < b[1] for a, b in zip(pairs, pairs[1:])))
 

@@ -2,7 +2,10 @@
 
 `WUNTHAVEL_LOAD=100000` makes the load test send so many commands; by default it sends fewer. All sockets are Unix ones or of 127.0.0.1.
 """
+import asyncio
 import contextlib
+import errno
+import inspect
 import json
 import os
 import random
@@ -19,7 +22,8 @@ from typing import Any, Callable, Dict, Iterator, List, Optional, Sequence, Tupl
 
 sys.path.insert(0, os.path.dirname(os.path.dirname(os.path.abspath(__file__))))
 
-from wunthavel import EngineDied, EngineError, HistoryError, Refused, connect, find_engine, protocol
+from wunthavel import AsyncRepo, BadName, Busy, EngineDied, EngineError, Fault, HistoryError, NotExpected, ReadOnly, Refused, ServedRepo
+from wunthavel import connect, find_engine, protocol
 from wunthavel.engine import act
 from wunthavel.transport import tcp_address
 from wunthavel.wire import LONGEST_LINE, BadCommand, Parts, Whole, command, reply
@@ -44,6 +48,8 @@ with open(done, "a") as it:
     it.write(action + "\n")
 while action == "recover" and os.path.exists(os.path.join(folder, "hold")):
     time.sleep(0.01)
+if action == "recover" and os.path.exists(os.path.join(folder, "full")):
+    sys.exit("fault File\nnote: logs/HEAD: No space left on device")
 if action != "run":
     sys.exit(0)
 for line in sys.stdin.buffer:
@@ -60,8 +66,12 @@ for line in sys.stdin.buffer:
             time.sleep(600)
         print("fault File" if what == "fault" else "ok switch", flush=True)
         if what == "fault":
-            sys.exit(1)
+            sys.exit("note: objects/unfinished: No space left on device")
     elif words[0] == "files":
+        if words[1] == "slow":
+            time.sleep(0.01)
+            with open(done, "a") as it:
+                it.write("slow\n")
         once = os.path.join(folder, words[1])
         if words[1] == "poison" or words[1] == "once" and not os.path.exists(once):
             open(once, "w").close()
@@ -378,6 +388,29 @@ class WithTheEngine(Served):
         long = b"commit refs/heads/main new\nput file 1 100000\na\n" + b"x" * 100000 + b"\n" + ACTOR
         self.assertEqual(self.ask(b"names\n" + long + b"names\n").split(b"\n")[:3], [b"ok names 0 refs/heads/main", b"refused TooLarge", b"ok names 0 refs/heads/main"])
 
+    def test_a_name_that_no_file_can_have(self) -> None:
+        self.start()
+        for name in ("a" * 251, "a" * 256 + "/b"):
+            text = self.commit(name, 1) + b"switch refs/heads/" + name.encode() + b"\nnames\n"
+            self.assertEqual(self.ask(text), b"refused BadName\n" * 2 + b"ok names 0 refs/heads/main\n")
+        # What isn't a whole command is none before that.
+        self.assertEqual(self.ask(self.commit("a" * 251, 1)[:-1]), b"refused Truncated\n")
+        with connect(self.address, actor=ADA) as repo, self.assertRaises(BadName) as met:
+            repo.move([("refs/heads/good", "main", "main"), ("refs/heads/" + "a" * 251, "main", "main")])
+        self.assertEqual(self.stop()["restarts"], 0)
+
+    def test_commands_of_all_clients_together(self) -> None:
+        self.start("--held", "3000000")
+        begun = b"commit refs/heads/a any\nput file 1 2000000\na\n"
+        first, second = self.raw(), self.raw()
+        first.sendall(begun + b"x" * 1900000)
+        wait_until(lambda: self.ask(b"names\n"))
+        second.sendall(begun + b"x" * 1800000)
+        first.sendall(b"x" * 100000 + b"\n" + ACTOR)
+        self.assertEqual(first.recv(100), b"refused TooLarge\n")
+        second.sendall(b"x" * 200000 + b"\n" + ACTOR)
+        self.assertRegex(second.recv(100), rb"\Aok commit ")
+
     def test_many_clients(self) -> None:
         self.start("--clients", "2")
         first, second = self.raw(), self.raw()
@@ -385,6 +418,8 @@ class WithTheEngine(Served):
             it.sendall(b"names\n")
             it.recv(100)
         self.assertEqual(self.rest(self.raw()), b"fault Busy\n")
+        with self.assertRaises(Busy):
+            connect(self.address)
         first.close()
         wait_until(lambda: self.ask(b"names\n") == b"ok names 0 refs/heads/main\n")
 
@@ -456,9 +491,149 @@ class WithTheEngine(Served):
             self.assertEqual([it.title for it in repo.past()], ["two", "one"])
             self.assertEqual(sum(1 for _ in repo.batch(protocol.show(first) for _ in range(5000))), 5000)
             repo.tag("v1")
+            repo._wait = 0.1
             self.stop()
             with self.assertRaises(EngineDied):
                 repo.show()
+
+    def test_a_connection_is_made_again(self) -> None:
+        self.start()
+        with connect(self.address, actor=ADA, wait=PATIENCE) as repo:
+            first = repo.commit("one").put("a", b"1").run()
+            for kill in (True, False):
+                self.stop(kill=kill)
+                self.start()
+                self.assertEqual([it.id for it in repo.batch([protocol.show("main")] * 300)], [first] * 300)
+            self.stop()
+            self.start()
+            second = repo.commit("two", expect=first).put("a", b"2").run()
+            self.stop()
+            self.start()
+            # Whether this one was done can't be known.
+            with self.assertRaises(EngineDied):
+                repo.commit("three").put("a", b"3").run()
+            self.assertEqual([it.id for it in repo.log()], [second, first])
+
+    def test_a_change_that_was_done_before_the_connection_ended_is_found(self) -> None:
+        self.start()
+        with connect(self.address, actor=ADA, wait=PATIENCE) as repo:
+            first = repo.commit("one", expect=protocol.NEW).put("a", b"1").run()
+            sent = repo.send(repo.commit("two", expect=first).put("a", b"2").command())
+            id = sent.result()
+            for expect, title, content, found in ((first, "two", b"2", id), (first, "two", b"other", None), (first, "other", b"2", None), (protocol.NEW, "one", b"1", first)):
+                again = repo.commit(title, expect=expect).put("a", content).command()
+                pending = repo.send(again)
+                with contextlib.suppress(Refused):
+                    pending.result()
+                refused = found is None
+                with self.assertRaises(Refused) if refused else contextlib.nullcontext():
+                    repo._look_whether_done(pending, EngineDied("gone"))
+                    self.assertEqual(pending.result(), found)
+
+    def test_updates_beside_kills_are_counted_once(self) -> None:
+        self.start()
+        with connect(self.address, actor=ADA) as repo:
+            repo.commit("Begin", name="main").put("count", b"0").run()
+        over = threading.Event()
+
+        def add(number: int) -> None:
+            if not number:
+                while not over.wait(0.3):
+                    self.kill_engine()
+                return
+            with connect(self.address, actor=protocol.Actor(f"w{number}", "", 5), wait=PATIENCE) as repo:
+                for it in range(20):
+                    repo.update("main", lambda edit: edit.put("count", b"%d" % (1 + int(repo.read("count", edit.base or "")))), f"{it}")
+            done.append(number)
+            if len(done) == 4:
+                over.set()
+
+        done: List[int] = []
+        self.together(5, add)
+        with connect(self.address) as repo:
+            self.assertEqual(repo.read("count", "main"), b"80")
+
+    # Waiting, and reading alone.
+
+    def test_a_change_is_waited_for(self) -> None:
+        self.start()
+        with connect(self.address, actor=ADA) as repo:
+            found: List[Optional[str]] = []
+            waiting = threading.Thread(target=lambda: found.append(repo.wait("main", timeout=PATIENCE)), daemon=True)
+            waiting.start()
+            time.sleep(0.3)
+            repo.commit("other", name="other").put("a", b"1").run()
+            time.sleep(0.3)
+            self.assertEqual(found, [])
+            first = repo.commit("one").put("a", b"1").run()
+            waiting.join(PATIENCE)
+            self.assertEqual(found, [first])
+            self.assertEqual(repo.wait("main", timeout=PATIENCE), first)
+            began = time.monotonic()
+            self.assertEqual(repo.wait("main", first, timeout=0.5), first)
+            self.assertGreaterEqual(time.monotonic() - began, 0.5)
+
+    def test_a_socket_for_reading_alone(self) -> None:
+        readers = os.path.join(self.room, "readers")
+        self.assertEqual(self.start("--read-only", readers), [self.address, readers])
+        with connect(self.address, actor=ADA) as repo, connect(readers, actor=ADA) as reader:
+            first = repo.commit("one").put("a", b"1").run()
+            self.assertEqual((reader.resolve(), reader.read("a"), reader.index()), (first, b"1", 1))
+            changes: List[Callable[[], object]] = [lambda: reader.commit("two").put("a", b"2").run(), lambda: reader.tag("v1"), lambda: reader.delete("main")]
+            changes += [lambda: reader.move({"b": "main"}), lambda: reader.rename("main", "b"), lambda: reader.switch("b"), reader.pack]
+            for change in changes:
+                with self.assertRaises(ReadOnly):
+                    change()
+            self.assertEqual((reader.resolve(), reader.head), (first, "refs/heads/main"))
+        self.stop()
+        self.assertFalse(os.path.exists(readers))
+
+    # asyncio.
+
+    def test_tasks_of_asyncio(self) -> None:
+        self.start()
+        asyncio.run(self.tasks())
+
+    async def tasks(self) -> None:
+        async with await AsyncRepo.connect(self.address, actor=ADA) as repo:
+            self.assertEqual(await repo.files(), [])
+            waiting = asyncio.ensure_future(repo.wait("main", timeout=PATIENCE))
+            first = await repo.commit("Begin", expect=protocol.NEW).put("count", b"0").put("d/a", b"x").run()
+            self.assertEqual(await waiting, first)
+            async with repo.commit("Aside", name="aside") as edit:
+                edit.put("b", b"2")
+
+            async def count(edit: Any) -> None:
+                edit.put("count", b"%d" % (1 + int(await repo.read("count", edit.base))))
+
+            await asyncio.gather(*(repo.update("main", count, f"{it}", author=protocol.Actor(f"{it}", "", 5)) for it in range(20)))
+            self.assertEqual((await repo.read("count"), await repo.resolve("main~20"), await repo.head()), (b"20", first, "refs/heads/main"))
+            shown = await asyncio.gather(*(repo.show(it) for it in await repo.log_ids()))
+            self.assertEqual([it.id for it in shown], [it.id async for it in repo.log()])
+            self.assertEqual([it.name for it in await repo.names("heads")], ["refs/heads/aside", "refs/heads/main"])
+            self.assertEqual([it.name for it in await repo.list()], ["count", "d"])
+            self.assertEqual([it.path async for it, _ in repo.contents("d")], ["d/a"])
+            self.assertEqual([it.path for it in await repo.diff_names(first)], ["count"])
+            self.assertEqual((await repo.diff(first, "main", "count"))[:24], b"--- a/count\n+++ b/count\n")
+            self.assertEqual([it.commit.id for it in await repo.blame("d/a")], [first])
+            with self.assertRaises(NotExpected):
+                await repo.commit("Late", name="main", expect=first).put("count", b"").run()
+            self.stop()
+            with self.assertRaises(EngineDied):
+                await repo.show()
+            self.assertTrue(repo.closed)
+            self.start()
+            await repo.reopen()
+            self.assertEqual(await repo.read("count"), b"20")
+
+    def test_asyncio_has_the_calls_of_repo(self) -> None:
+        for name in dir(ServedRepo):
+            here, there = getattr(ServedRepo, name), getattr(AsyncRepo, name, None)
+            if name.startswith("_") or name in ("create", "check", "recover", "kill", "pid", "send"):
+                continue
+            self.assertIsNotNone(there, name)
+            if inspect.isfunction(here) and name not in ("close", "reopen", "batch", "results"):
+                self.assertEqual(list(inspect.signature(here).parameters), list(inspect.signature(there).parameters), name)
 
 
 class WithAFakeEngine(Served):
@@ -518,6 +693,43 @@ class WithAFakeEngine(Served):
         self.assertEqual(self.ask(b"hello\n"), b"refused Syntax\n")
         os.remove(hold)
         self.assertEqual(waiting.recv(100), b"ok names 0 refs/heads/main\n")
+
+    def test_many_long_questions_hold_nobody_long(self) -> None:
+        self.begin()
+        for _ in range(30):
+            self.raw().sendall(b"files slow\n" * 40)
+        wait_until(lambda: len(self.done()) > 100)
+        before = len(self.done())
+        self.assertEqual(self.ask(b"names\n"), b"ok names 0 refs/heads/main\n")
+        # The engine had 64 of them, and each other client has one turn before this one.
+        self.assertLess(len(self.done()) - before, 64 + 31 + 20)
+
+    def test_notes_are_for_those_who_ask(self) -> None:
+        self.begin()
+        self.assertEqual(self.ask(self.switch("fault")), b"fault File\n")
+        said = b"fault File\nnote: objects/unfinished: No space left on device\n"
+        self.assertEqual(self.ask(b"notes\n" + self.switch("fault")), said)
+        # It is a first line alone.
+        self.assertEqual(self.ask(b"names\nnotes\n"), b"ok names 0 refs/heads/main\nrefused Syntax\n")
+        with connect(self.address) as repo, self.assertRaises(Fault) as met:
+            repo.switch("fault")
+        self.assertEqual((met.exception.path, met.exception.reason, met.exception.errno), ("objects/unfinished", "No space left on device", errno.ENOSPC))
+        self.assertTrue(repo.closed)
+
+    def test_while_recovering_fails_the_server_stays_and_says_why(self) -> None:
+        self.begin()
+        full = os.path.join(self.folder, "full")
+        open(full, "w").close()
+        self.assertEqual(self.ask(self.switch("die")), b"")
+        said = b"fault File\nnote: logs/HEAD: No space left on device\n"
+        for _ in range(20):
+            self.assertEqual(self.ask(b"notes\n" + b"names\n" * 2), said * 2)
+        self.assertEqual(self.ask(b"notes\nnames\n" + self.switch("a", "b")), said * 2)
+        self.assertEqual(self.done().count("run"), 1)
+        self.assertLess(self.done().count("recover"), 20)
+        os.remove(full)
+        wait_until(lambda: self.ask(b"names\n") == b"ok names 0 refs/heads/main\n")
+        self.assertEqual(self.ask(self.switch("a")), b"ok switch\n")
 
     def some(self, sock: socket.socket, lines: int) -> bytes:
         said = b""

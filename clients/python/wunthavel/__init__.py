@@ -6,45 +6,33 @@
 ...     [commit.title for commit in repo.log()]
 ['Begin']
 """
-from . import protocol
-from .engine import Pending, Unfinished, find_engine
-from .errors import Busy, EngineDied, EngineError, Fault, HistoryError, ProtocolError, Refused
-from .protocol import (
-    ANY,
-    NEW,
-    Actor,
-    Command,
-    Commit,
-    Content,
-    Expect,
-    File,
-    Ids,
-    LogEntry,
-    Name,
-    Names,
-)
-from .repo import Change, CommitBuilder, Entry, Line, Repo, changes
+from . import errors, protocol
+from .aio import AsyncRepo
+from .builder import CommitBuilder
+from .engine import Pending, find_engine
+from .errors import *  # noqa: F403
+from .plans import AsOf, Change, Entry, Line, changes
+from .protocol import ANY, NEW, Actor, Command, Commit, Content, Expect, File, Ids, LogEntry, Name, Names
+from .repo import Repo
 from .served import ServedRepo, connect
 
 __version__ = "0.1.0"
 
 
 __all__ = [
+    *errors.__all__,
     "ANY",
     "Actor",
-    "Busy",
+    "AsOf",
+    "AsyncRepo",
     "Change",
     "Command",
     "Commit",
     "CommitBuilder",
     "Content",
-    "EngineDied",
-    "EngineError",
     "Entry",
     "Expect",
-    "Fault",
     "File",
-    "HistoryError",
     "Ids",
     "Line",
     "LogEntry",
@@ -52,11 +40,8 @@ __all__ = [
     "Name",
     "Names",
     "Pending",
-    "ProtocolError",
-    "Refused",
     "Repo",
     "ServedRepo",
-    "Unfinished",
     "changes",
     "connect",
     "find_engine",

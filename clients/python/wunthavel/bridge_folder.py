@@ -6,8 +6,8 @@ import time
 from typing import ContextManager, Dict, Iterator, List, Optional, Set, Tuple
 
 from .bridge_forms import SHA1, SHA256, BridgeError, Hashing, Patterns, read_tag, shown
-from .engine import Unfinished, act
-from .errors import Busy
+from .engine import act
+from .errors import Busy, Unfinished
 
 # How many seconds to wait for another process that works in a folder.
 WAIT = 5.0

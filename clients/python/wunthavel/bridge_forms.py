@@ -5,8 +5,10 @@ from dataclasses import dataclass
 from typing import Dict, Iterable, Iterator, List, NamedTuple, Optional, Sequence, Tuple
 
 from .errors import HistoryError
+from .texts import shown as shown
+from .wire import LARGEST, LONGEST_NAME, LONGEST_PATH
 
-MAX_CONTENT, MAX_PATH, MAX_NAME, MAX_PARENTS = 16_777_216, 4_096, 1_024, 64
+MAX_CONTENT, MAX_PATH, MAX_NAME, MAX_PARENTS = LARGEST, LONGEST_PATH, LONGEST_NAME, 64
 MAX_TITLE, MAX_ACTOR_PART, MAX_SECONDS = 1_024, 512, 2**63 - 1
 PRIVATE = (b"refs/bisect/", b"refs/worktree/", b"refs/rewritten/")
 FOLDER, LINK, COMMIT = b"40000", b"120000", b"160000"
@@ -60,12 +62,6 @@ class CannotHold(HistoryError):
 
 class BridgeError(HistoryError):
     """The bridge can't go on, for the reason that its text says."""
-
-
-def shown(data: bytes) -> str:
-    """Returns bytes as a person reads them, without what would confuse a terminal."""
-    text = data.decode("utf-8", "backslashreplace")
-    return "".join(it if it.isprintable() else f"\\x{ord(it):02x}" for it in text)
 
 
 # Names.

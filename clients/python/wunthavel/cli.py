@@ -13,12 +13,15 @@ import sys
 from typing import Any, Callable, Dict, Iterable, List, Optional, Sequence, Tuple, Union
 
 from . import protocol
-from .engine import Unfinished, act
-from .errors import HistoryError, Refused
+from .engine import act
+from .errors import HistoryError, Refused, Unfinished
 from .progress import Progress
 from .protocol import NEW, Commit, File, Names, raw, text
-from .repo import Change, Repo, changes
-from .worktree import IGNORED, LARGEST, Here, WorkError, WorkTree, refuse_path
+from .plans import Change, changes
+from .repo import Repo
+from .texts import shown
+from .wire import LARGEST
+from .worktree import IGNORED, Here, WorkError, WorkTree, refuse_path
 
 # Commands with words of their own, each in its module.
 APART = {"serve": "serve", "git-export": "git_export", "git-import": "git_import", "fast-import": "fast_import", "html": "html"}
@@ -59,11 +62,6 @@ class Output:
         """Writes a value as a line of JSON, if that is wanted."""
         if self.as_json:
             print(json.dumps(value))
-
-
-def shown(what: str) -> str:
-    """Returns a text without control characters, which a terminal would obey."""
-    return re.sub(r"[\x00-\x1f\x7f-\x9f]", lambda it: repr(it[0])[1:-1], what)
 
 
 def plain(value: Union[Commit, File, None]) -> Any:
@@ -196,7 +194,7 @@ def log(at: Session) -> int:
     """Lists the commits, newest first."""
     labels = _labels(at.repo.names()) if not at.out.as_json else {}
     paths = [at.tree.path_of(it) for it in at.asked.paths]
-    for it in at.repo.log([one for one in paths if one], at.asked.number, words=at.asked.word):
+    for it in at.repo.log([one for one in paths if one], at.asked.number, at=at.asked.word):
         at.out.tell(plain(it))
         told = "".join(f" ({', '.join(map(shown, labels[it.id]))})" for _ in [0] if it.id in labels)
         line = f"{at.out.paint('yellow', it.id[:10])} {at.out.paint('dim', when(it))} {shown(it.author.name)}{at.out.paint('green', told)}"
@@ -207,7 +205,7 @@ def log(at: Session) -> int:
 def show(at: Session) -> int:
     """Shows a commit, and what it changed."""
     commit = at.repo.show(at.asked.word)
-    found = list(at.repo.changed_by(commit.id))
+    found = at.repo.changed_by(commit.id)
     at.out.tell({**plain(commit), "changes": [plain_change(it) for it in found]})
     at.out.say(at.out.paint("yellow", f"commit {commit.id}"))
     if len(commit.parents) > 1:
@@ -236,7 +234,7 @@ def cat(at: Session) -> int:
     word, colon, path = at.asked.path.partition(":")
     if not colon:
         word, path = "", at.tree.path_of(at.asked.path)
-    found = at.repo.show(word or "HEAD", path)
+    found = at.repo.content(path, word or "HEAD")
     if at.out.as_json:
         at.out.tell({"kind": found.kind, "id": found.id, **_kept(found.data)})
     else:

@@ -3,6 +3,7 @@
 Commands go out and replies come in by one wait, so neither side ever waits for the other to read: any number of commands can be on the way.
 """
 import contextlib
+import functools
 import os
 import shutil
 import signal
@@ -11,8 +12,8 @@ import threading
 from collections import deque
 from typing import Any, Callable, Deque, Generic, Iterator, List, Optional, Sequence, TypeVar, Union
 
-from .errors import Busy, EngineDied, EngineError, Fault, HistoryError, ProtocolError, Refused
-from .protocol import Command, text
+from .errors import Busy, EngineDied, EngineError, Fault, HistoryError, ProtocolError, Refused, Unfinished
+from .protocol import Command, raw, text
 from .transport import PIPE, Transport
 from .wire import Parts, Reply, reply
 
@@ -23,28 +24,9 @@ CHECKOUT = os.path.join(os.path.dirname(os.path.abspath(__file__)), "../../../cr
 UNSENT = 1 << 20
 # So many commands are written together.
 TOGETHER = 64
-# What recover mends, if a folder is refused for it.
-STOPPED = ("Unfinished", "LogWithoutName", "BadLog")
+# How a note ends that says why the folder isn't opened.
+OTHER = "another process works there"
 INTERRUPTED = "the engine was interrupted"
-
-
-class Unfinished(Refused):
-    """A stopped run left something in the folder. `recover()` removes it; then the folder opens.
-
-    >>> try:                                            # doctest: +SKIP
-    ...     repo = Repo("store")
-    ... except Unfinished as stopped:
-    ...     stopped.recover()
-    ...     repo = Repo("store")
-    """
-
-    def __init__(self, cause: str, values: Sequence[str] = (), folder: Folder = "", sha256: bool = False, engine: Optional[str] = None) -> None:
-        super().__init__(cause, values=values)
-        self.folder, self._sha256, self._engine = folder, sha256, engine
-
-    def recover(self) -> None:
-        """Recovers the folder. What was acknowledged is kept."""
-        act("recover", self.folder, self._sha256, self._engine)
 
 
 def find_engine() -> str:
@@ -82,13 +64,14 @@ def refusal(said: str, status: Optional[int], folder: Folder, sha256: bool, engi
     for at, line in enumerate(lines):
         verb, _, rest = line.partition(" ")
         cause, _, about = rest.partition(" ")
-        values = [it for it in [about, *lines[at + 1 :]] if it]
-        if verb == "refused" and cause in STOPPED:
-            return Unfinished(cause, values, folder, sha256, engine)
         if verb == "refused" and cause:
-            return Refused(cause, values=values)
+            error = Refused.of(cause, values=[it for it in [about, *lines[at + 1 :]] if it])
+            if isinstance(error, Unfinished):
+                error.mend = functools.partial(act, "recover", folder, sha256, engine)
+            return error
         if verb == "fault" and cause:
-            return (Busy if any("another process" in it for it in values) else Fault)(cause, values=values)
+            note = "\n".join(lines[at + 1 :])
+            return (Busy if note.endswith(OTHER) else Fault).noted(cause, raw(note))
     return EngineError(f"the engine ended with status {status}", status, said.strip())
 
 
@@ -120,8 +103,7 @@ class Pending(Generic[T]):
     """A command on its way. `result()` waits for its reply."""
 
     def __init__(self, engine: "Engine", command: Command[T]) -> None:
-        self.command = command
-        self._engine = engine
+        self.command, self.engine = command, engine
         self._value: Any = None
         self._error: Optional[HistoryError] = None
         self.done = False
@@ -129,10 +111,14 @@ class Pending(Generic[T]):
     def result(self) -> T:
         """Returns the reply, for which it waits, or raises `Refused`, `Fault` or `EngineDied`."""
         if not self.done:
-            self._engine.wait(self)
+            self.engine.wait(self)
         if self._error is not None:
             raise self._error
         return self._value  # type: ignore[no-any-return]
+
+    def settle(self, value: T) -> None:
+        """Gives it a reply that is known otherwise."""
+        self._value, self._error, self.done = value, None, True
 
     def _take(self, reply: Reply) -> None:
         try:
@@ -150,9 +136,10 @@ class Engine:
 
     def __init__(self, transport: Transport, timeout: Optional[float] = None) -> None:
         self.transport, self.timeout = transport, timeout
-        self._lock = threading.RLock()
+        self._lock, self._process = threading.RLock(), os.getpid()
         self._pending: Deque[Pending[Any]] = deque()
         self._parts = Parts(reply, keeps=False, note=transport.note)
+        transport.put(transport.greeting)
         self._over: Optional[EngineDied] = None
         # Set while an interruption would leave what was sent or read out of step.
         self._busy = False
@@ -160,7 +147,12 @@ class Engine:
     @property
     def alive(self) -> bool:
         """Whether commands can be sent."""
-        return self._over is None and self.transport.can_write
+        return self._over is None and self._is_here and self.transport.is_alive
+
+    @property
+    def _is_here(self) -> bool:
+        """Whether this is the process that opened the folder, and no child of it."""
+        return self._process == os.getpid()
 
     @property
     def over(self) -> Optional[EngineDied]:
@@ -170,10 +162,12 @@ class Engine:
     def send(self, command: Command[T], at_once: bool = True) -> Pending[T]:
         """Sends a command, and returns at once unless much waits to be written; then it reads replies meanwhile. One that needn't go at once is
         written with others, at the latest when a reply is waited for."""
+        self._refuse_fork()
         pending = Pending(self, command)
         with self._lock, self._in_step():
             if self._over is not None:
-                raise EngineDied(f"{self.transport.who} is closed or has ended ({self._over})", self._over.status, command=command)
+                why = f"{self._over}; Repo.reopen() {self.transport.reopened}"
+                raise EngineDied(why, self._over.status, command=command)
             self._pending.append(pending)
             self.transport.put(command.data)
             if at_once or self.transport.pieces >= TOGETHER or self.transport.unsent >= PIPE // 64:
@@ -184,12 +178,17 @@ class Engine:
 
     def wait(self, pending: Pending[Any]) -> None:
         """Waits until the reply is there or the engine has ended."""
+        self._refuse_fork()
         with self._lock, self._in_step():
             self.transport.write()
             while not pending.done and self._over is None:
                 self._transfer()
             if not pending.done and self._over is not None:
                 pending._fail(self._over)
+
+    def _refuse_fork(self) -> None:
+        if not self._is_here:
+            raise EngineError("the folder was opened before a fork, and belongs to the parent: open the folder anew after fork")
 
     @contextlib.contextmanager
     def _in_step(self) -> Iterator[None]:
@@ -229,8 +228,12 @@ class Engine:
         for whole in self._parts.feed(data):
             if not self._pending:
                 raise ProtocolError("a reply to nothing")
-            self._pending[0]._take(whole.value)
+            pending = self._pending[0]
+            pending._take(whole.value)
             self._pending.popleft()
+            if pending.command.changes and whole.value.is_fault:
+                self._end(f"{self.transport.who} ended after this: {pending._error}")
+                return
 
     def _end(self, why: str, kill: bool = False) -> None:
         """Ends the engine, and fails all commands that wait. If this is interrupted, the next call goes on with it."""
@@ -249,6 +252,8 @@ class Engine:
 
     def close(self, send: bool = True) -> None:
         """Sends what waits, unless that isn't wanted, ends the input, and waits for the engine's end. A command is done whole or not at all."""
+        if not self._is_here:
+            return
         with self._lock:
             while send and self._over is None and self._pending:
                 with self._in_step():
@@ -257,10 +262,12 @@ class Engine:
 
     def kill(self) -> None:
         """Ends the engine at once, as `kill -9` does."""
+        if not self._is_here:
+            return
         with self._lock:
             self._end(f"{self.transport.who} was killed", kill=True)
 
     def __del__(self) -> None:
-        if hasattr(self, "_busy") and self._over is None:
+        if hasattr(self, "_busy") and self._over is None and self._is_here:
             with contextlib.suppress(Exception):
                 self._end(f"{self.transport.who} was closed")

@@ -23,6 +23,7 @@ from .errors import HistoryError, Refused
 from .progress import Progress
 from .protocol import ANY, NEW, Actor, Expected
 from .repo import Repo
+from .texts import shown
 
 EXPORT = ["fast-export", "--all", "--show-original-ids", "--signed-tags=verbatim", "--reencode=no", "--mark-tags"]
 OWN_NAME = b"refs/wunthavel/fast-import"
@@ -34,11 +35,6 @@ NOBODY = Actor("fast-import", "", 0, "+0000")
 
 class StreamError(HistoryError):
     """The stream can't be imported further, for the reason that its text says."""
-
-
-def shown(text: bytes) -> str:
-    """Returns bytes as a person reads them."""
-    return text.decode("utf-8", "backslashreplace")
 
 
 # The stream (git-fast-import(1)).

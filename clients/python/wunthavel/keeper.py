@@ -9,8 +9,9 @@ from collections import deque
 from dataclasses import dataclass
 from typing import Any, Callable, Deque, Optional, Sequence
 
-from .engine import Unfinished, act, command_line, refusal
-from .errors import Busy, EngineError, HistoryError, ProtocolError, Refused
+from .engine import act, command_line, refusal
+from .errors import Busy, EngineError, Fault, HistoryError, ProtocolError, Refused, Unfinished
+from .texts import raw
 from .transport import PIPE, End, Process
 from .wire import Parts, Reply, Whole, reply
 
@@ -18,6 +19,8 @@ from .wire import Parts, Reply, Whole, reply
 MOST_FLYING, MOST_UNSENT = 64, 1 << 18
 # Replies after which a run ends, besides a fault in a changing command.
 ENDS = (b"refused Syntax\n", b"refused LineTooLong\n", b"refused Truncated\n")
+# How many seconds are at least between two tries to recover the folder that fail.
+PAUSE = 1.0
 # So often the engine may end in a row before it replied once.
 TRIES = 5
 # A question with a short answer: the engine replies once it has opened the folder.
@@ -35,6 +38,7 @@ class Flight:
     client: Any
     data: bytes
     changes: bool
+    names: Sequence[bytes] = ()
     tries: int = 0
 
 
@@ -47,23 +51,27 @@ class Keeper:
         self.restarts = self._barren = 0
         # Set once the folder is open.
         self.is_open = asyncio.Event()
-        # Called once an engine takes commands again.
+        # Called once commands are taken again.
         self.after_start: Callable[[], None] = lambda: None
         # Set by a reply after which the engine does no further command.
         self._is_over = self._kills = False
+        # Set while there is no engine since recovering fails; and by each command that is given.
+        self._is_troubled, self._wanted = False, asyncio.Event()
         self._process: Optional[Process] = None
         self._busy_until = self._heard = time.monotonic()
 
     @property
     def takes_more(self) -> bool:
-        """Whether the engine can be given a command now."""
-        return self._process is not None and len(self.flying) < MOST_FLYING and self._process.unsent < MOST_UNSENT
+        """Whether a command can be given to the engine now, or be replied to without one."""
+        unsent = self._process.unsent if self._process is not None else 0
+        return (self._process is not None or self._is_troubled) and len(self.flying) < MOST_FLYING and unsent < MOST_UNSENT
 
     def send(self, flight: Flight) -> None:
         """Gives the engine a command, which a later `write` writes."""
         if not self.flying:
             self._heard = time.monotonic()
         self.flying.append(flight)
+        self._wanted.set()
         if self._process is not None:
             self._process.put(flight.data)
 
@@ -149,7 +157,7 @@ class Keeper:
         if flight.client is None:
             self.is_open.set()
         else:
-            flight.client.take(whole.data, self._is_over)
+            flight.client.take(flight, whole, self._is_over)
 
     def _settle(self) -> None:
         """Keeps those commands without replies that are sent again."""
@@ -167,7 +175,10 @@ class Keeper:
         if isinstance(error, Busy):
             await self._pause(error)
             return
-        self._barren += 1
+        if isinstance(error, Fault):
+            await self._stay(error)
+        else:
+            self._barren += 1
         if self._barren > TRIES or isinstance(error, Refused) and not isinstance(error, Unfinished):
             raise ServeError(f"the engine doesn't run: {error}")
         while not await self._recover():
@@ -179,12 +190,32 @@ class Keeper:
             return True
         except Busy as error:
             await self._pause(error)
+        except Fault as error:
+            await self._stay(error)
         except EngineError as error:
             # As if it was killed.
             self._barren += 1
             if self._barren > TRIES:
                 raise ServeError(f"the folder isn't recovered: {error}") from error
         return False
+
+    async def _stay(self, error: Fault) -> None:
+        """Replies by a fault to each command, until it is time to try again and there is a command to try it for."""
+        if not self.is_open.is_set():
+            raise ServeError(f"the folder can't be opened: {error}") from error
+        note = f"note: {error.path}: {error.reason}" if error.reason is not None else ""
+        reply = Reply([b"fault", b"File"], [], raw(note))
+        end, self._is_troubled = time.monotonic() + PAUSE, True
+        while True:
+            while self.flying:
+                flight = self.flying.popleft()
+                flight.client.take(flight, Whole(b"fault File\n", reply), flight.changes)
+            self._wanted.clear()
+            self.after_start()
+            await self._wanted.wait()
+            if time.monotonic() > end:
+                break
+        self._is_troubled = False
 
     async def _pause(self, error: Busy) -> None:
         """Waits a little for another process that works in the folder."""

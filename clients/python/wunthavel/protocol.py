@@ -16,26 +16,20 @@ import re
 import time
 from dataclasses import dataclass, field
 from datetime import datetime, timedelta, timezone
-from typing import Callable, Generic, Iterable, List, Optional, Sequence, Tuple, TypeVar, Union, overload
+from typing import Callable, Dict, Generic, Iterable, List, Optional, Sequence, Tuple, TypeVar, Union, overload
 
 from . import wire
-from .errors import Fault, ProtocolError, Refused
-from .wire import LONGEST_LINE, Parts, Reply
+from .bridge_forms import name_problem
+from .errors import BadTime, Busy, Fault, ProtocolError, Refused
+from .texts import Text as Text
+from .texts import raw as raw
+from .texts import shown as shown
+from .texts import text as text
+from .wire import LARGEST, LONGEST_LINE, LONGEST_NAME, LONGEST_PATH, Asked, Parts, Reply
 
-Text = Union[str, bytes]
 T = TypeVar("T")
 KINDS = ("file", "exec", "link")
 ORDERS = ("breadth", "newest", "oldest", "date", "topological")
-
-
-def text(data: bytes) -> str:
-    """Returns the bytes as text that `raw` gives back unchanged."""
-    return data.decode("utf-8", "surrogateescape")
-
-
-def raw(value: Text) -> bytes:
-    """Returns the bytes of a text."""
-    return value.encode("utf-8", "surrogateescape") if isinstance(value, str) else bytes(value)
 
 
 class Expect(enum.Enum):
@@ -219,6 +213,8 @@ class Command(Generic[T]):
     data: bytes = field(repr=False)
     rest: Callable[[Reply], T] = field(repr=False)
     changes: bool = False
+    # Whether it says for each name that it moves what that is to be at, so that it can't be done twice.
+    expects: bool = False
     about: str = ""
 
     @property
@@ -233,7 +229,20 @@ class Command(Generic[T]):
             return self.rest(reply)
         if verb == b"ok":
             raise ProtocolError(f"{b' '.join(reply.words)[:200]!r} is no reply to {self.title!r}")
-        raise (Fault if reply.is_fault else Refused)(text(word), self)
+        cause = text(word)
+        if reply.is_fault:
+            raise (Busy if cause == "Busy" else Fault).noted(cause, reply.note, self)
+        raise Refused.of(cause, self, self._subjects(cause))
+
+    @property
+    def asked(self) -> Asked:
+        """What it asks for."""
+        found: Asked = next(Parts(wire.command, keeps=False).feed(self.data)).value
+        return found
+
+    def _subjects(self, cause: str) -> List[str]:
+        """Returns the names or paths of the command for which the cause can hold."""
+        return [shown(it)[:200] for it in _SUBJECTS[cause](self.asked)] if cause in _SUBJECTS else []
 
 
 def read_reply(command: Command[T], data: bytes) -> T:
@@ -245,6 +254,39 @@ def read_reply(command: Command[T], data: bytes) -> T:
     return command.value(found[0].value)
 
 
+# What a refusal is about. The engine says the cause alone, so the names and paths of which it can't hold are left out here.
+
+
+def _is_path(path: bytes) -> bool:
+    return len(path) <= LONGEST_PATH and b"\0" not in path and all(path.split(b"/"))
+
+
+def _bad_names(asked: Asked) -> List[bytes]:
+    return [it for it in asked.names if name_problem(it)] or asked.names
+
+
+def _bad_paths(asked: Asked) -> List[bytes]:
+    paths = [it for it, _ in asked.paths]
+    return [it for it in paths if not _is_path(it)] or paths[:1]
+
+
+def _only_name(asked: Asked) -> List[bytes]:
+    return asked.names if len(asked.names) == 1 else []
+
+
+def _only_path(asked: Asked) -> List[bytes]:
+    return [it for it, _ in asked.paths] if len(asked.paths) == 1 else []
+
+
+_SUBJECTS: Dict[str, Callable[[Asked], List[bytes]]] = {
+    "BadName": _bad_names,
+    "BadPath": _bad_paths,
+    "TooLarge": lambda asked: [path for path, content in asked.paths if len(content or b"") > LARGEST],
+    **dict.fromkeys(("PrivateName", "NoSuchName", "Taken", "NotExpected", "HoldsTag", "NothingMoves", "Collides"), _only_name),
+    **dict.fromkeys(("NoSuchPath", "IsFolder"), _only_path),
+}
+
+
 # Parts of commands. What would break the stream's lines is refused here, by the cause that the engine has for it.
 
 
@@ -252,14 +294,14 @@ def _word(value: Text, cause: str, longest: int = LONGEST_LINE - 256) -> bytes:
     try:
         data = raw(value)
     except UnicodeEncodeError:
-        raise Refused(cause, values=[ascii(value)]) from None
+        raise Refused.of(cause, values=[ascii(value)]) from None
     if not data or b" " in data or b"\n" in data or len(data) > longest:
-        raise Refused(cause, values=[repr(value)[:200]])
+        raise Refused.of(cause, values=[shown(value)[:200]])
     return data
 
 
 def _name(value: Text) -> bytes:
-    return _word(value, "BadName", 1024)
+    return _word(value, "BadName", LONGEST_NAME)
 
 
 def _commit_word(value: Text) -> bytes:
@@ -273,7 +315,7 @@ def _expected(expect: Expected) -> bytes:
 def _actor(role: bytes, who: Actor) -> bytes:
     name, email = raw(who.name), raw(who.email)
     if who.seconds < 0:
-        raise Refused("BadTime", values=[str(who.seconds)])
+        raise BadTime("BadTime", values=[str(who.seconds)])
     return b"%s %d %d %d %s\n%s\n%s\n" % (role, len(name), len(email), who.seconds, _word(who.offset, "BadTime", 64), name, email)
 
 
@@ -404,22 +446,23 @@ def commit(
     data += [b"parent %s\n" % _commit_word(it) for it in parents]
     data += edits
     data += [_actor(b"author", author), _actor(b"committer", committer or author), _message(message), b"end\n"]
-    return Command("commit", b"".join(data), _id, True)
+    return Command("commit", b"".join(data), _id, True, expect is not ANY)
 
 
 def tag(name: Text, word: Text, message: Text, tagger: Actor, expect: Expected = ANY) -> Command[str]:
     """Makes an annotated tag of the word's commit under a name below `refs/tags/`. The reply is the tag's own id."""
     data = b"tag %s %s %s\n" % (_name(name), _expected(expect), _commit_word(word))
-    return Command("tag", data + _actor(b"tagger", tagger) + _message(message) + b"end\n", _id, True)
+    return Command("tag", data + _actor(b"tagger", tagger) + _message(message) + b"end\n", _id, True, expect is not ANY)
 
 
 def move(moves: Iterable[Tuple[Text, Expected, Text]], message: Text, actor: Actor) -> Command[None]:
     """Moves names to words' commits, all or none: each move is a name, what is expected of it, and the word."""
-    data = [b"move\n"]
-    data += [b"to %s %s %s\n" % (_name(name), _expected(expect), _commit_word(word)) for name, expect, word in moves]
-    if len(data) == 1:
+    given = list(moves)
+    if not given:
         raise ValueError("a move has at least one name")
-    return Command("move", b"".join([*data, _actor(b"actor", actor), _message(message), b"end\n"]), _nothing, True)
+    lines = [b"to %s %s %s\n" % (_name(name), _expected(expect), _commit_word(word)) for name, expect, word in given]
+    data = b"".join([b"move\n", *lines, _actor(b"actor", actor), _message(message), b"end\n"])
+    return Command("move", data, _nothing, True, all(expect is not ANY for _, expect, _ in given))
 
 
 def rename(old: Text, new: Text) -> Command[None]:
@@ -431,7 +474,7 @@ def delete(name: Text, expect: Expected = ANY) -> Command[None]:
     """Deletes a name with its log."""
     if expect is NEW:
         raise ValueError("a name that is deleted can't be new")
-    return Command("delete", b"delete %s %s\n" % (_name(name), _expected(expect)), _nothing, True)
+    return Command("delete", b"delete %s %s\n" % (_name(name), _expected(expect)), _nothing, True, expect is not ANY)
 
 
 def switch(branch: Text) -> Command[None]:
@@ -468,6 +511,17 @@ def content(word: Text, path: Text) -> Command[Content]:
     """Shows the content at a path of the word's commit."""
     where = raw(path)
     return Command("show", b"show %s path %d\n%s\n" % (_commit_word(word), len(where), where), _content, about=repr(text(where))[:200])
+
+
+def wait(name: Text, number: int, milliseconds: int) -> Command[int]:
+    """Has a server reply once a change came of this name, or of HEAD, after so many changes of any, or these milliseconds have passed. The reply is the
+    number of changes."""
+    return Command("wait", b"wait %s %d %d\n" % (_name(name), number, milliseconds), _count)
+
+
+def is_made_by(commit: Commit, command: Command[str]) -> bool:
+    """Whether actors and message of a commit are those that a command asked for."""
+    return command.data.endswith(_actor(b"author", commit.author) + _actor(b"committer", commit.committer) + _message(commit.message) + b"end\n")
 
 
 def index() -> Command[int]:

@@ -96,11 +96,13 @@ def _words() -> argparse.ArgumentParser:
     parser.add_argument("socket", metavar="SOCKET", help="the path of the Unix socket, which is made; - for none, with --tcp")
     parser.add_argument("folder", metavar="FOLDER", help="the history's folder")
     parser.add_argument("--tcp", metavar="[HOST:]PORT", help="also listen at this port of the loopback address (0: any free one). Each user of the machine can reach it")
+    parser.add_argument("--read-only", metavar="SOCKET", help="also listen at this Unix socket, which refuses commands that change something")
     parser.add_argument("--mode", metavar="OCTAL", default="600", help="who may use the socket, as chmod has it (600)")
     default = Limits()
     for name, what in (
         ("clients", "clients at once"),
         ("command", "bytes of one command; a larger one is refused as TooLarge"),
+        ("held", "bytes of all clients' commands that aren't whole or wait; above it the largest one that isn't whole is refused as TooLarge"),
         ("waiting", "whole commands of one client that wait before it is read on"),
         ("ahead", "commands of one client that the engine has at once"),
         ("unread", "bytes of replies that a client leaves unread before it gets no more"),
@@ -127,8 +129,11 @@ def _open_listeners(asked: argparse.Namespace) -> Tuple[List[socket.socket], Lis
     if asked.tcp is not None:
         listeners.append(listen_tcp(tcp_address(asked.tcp)))
         places.append("{}:{}".format(*listeners[-1].getsockname()[:2]))
+    if asked.read_only is not None:
+        listeners.append(listen_unix(asked.read_only, int(asked.mode, 8)))
+        places.append(asked.read_only)
     if not listeners:
-        raise ServeError("it has nowhere to listen: give a socket's path or --tcp")
+        raise ServeError("it has nowhere to listen: give a socket's path, --tcp or --read-only")
     return listeners, places
 
 
@@ -164,16 +169,18 @@ async def _first(*events: asyncio.Event) -> None:
 async def _listen(asked: argparse.Namespace, server: Server, tell: Callable[[str], None]) -> None:
     """Serves at the places that are asked for."""
     listeners, places = _open_listeners(asked)
+    sockets = [it for it in (asked.socket, asked.read_only) if it in places]
     try:
         if asked.json:
             print(json.dumps({"serving": places}), flush=True)
         else:
             tell(f"{asked.folder} is served at {', '.join(places)}")
-        await server.run(listeners)
+        count = len(listeners) - (asked.read_only is not None)
+        await server.run(listeners[:count], listeners[count:])
     finally:
-        if asked.socket in places:
+        for it in sockets:
             with contextlib.suppress(OSError):
-                os.unlink(asked.socket)
+                os.unlink(it)
 
 
 def _run(asked: argparse.Namespace) -> Dict[str, Any]:

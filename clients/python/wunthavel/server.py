@@ -5,13 +5,15 @@ floods or dies holds up nobody: what isn't whole waits with its client, and what
 """
 import asyncio
 import contextlib
+import itertools
+import os
 import socket
 import time
 from collections import deque
-from typing import Callable, Deque, Dict, Iterator, List, NamedTuple, Optional, Sequence, Set
+from typing import Callable, Deque, Dict, Iterator, List, NamedTuple, Optional, Sequence, Set, Tuple
 
 from .keeper import Flight, Keeper
-from .wire import LONGEST_LINE, BadCommand, Parts, Whole, command
+from .wire import LONGEST_LINE, Asked, BadCommand, Parts, Whole, served_command
 
 # How many seconds are between two looks at the times.
 LOOK = 0.25
@@ -24,6 +26,8 @@ class Limits(NamedTuple):
     # Bytes of one command, whole commands of one client that wait, and commands of one client that the engine has.
     command: int = 64 << 20
     waiting: int = 64
+    # Bytes of the commands of all clients that aren't whole or wait.
+    held: int = 256 << 20
     ahead: int = 16
     # Bytes of replies that wait for a client to read them, above which it gets no further ones.
     unread: int = 1 << 20
@@ -35,18 +39,36 @@ class Limits(NamedTuple):
     folder: float = 10.0
 
 
+class Waiting(NamedTuple):
+    """A command that waits for its turn. One that isn't passed on has its reply."""
+
+    data: bytes
+    asked: Asked
+    refusal: bytes = b""
+
+    @property
+    def is_passed_on(self) -> bool:
+        """Whether the engine has a part in it."""
+        return not self.refusal and not self.data.startswith(b"wait ")
+
+
 class Client(asyncio.Protocol):
     """A client's connection: its commands wait here for their turn, and its replies for it to read them."""
 
     transport: asyncio.Transport
 
-    def __init__(self, server: "Server") -> None:
-        self.server, self.limits = server, server.limits
-        self.parts = Parts(command, LONGEST_LINE, self.limits.command)
+    def __init__(self, server: "Server", is_reader: bool) -> None:
+        self.server, self.limits, self._is_reader = server, server.limits, is_reader
+        # The first line may ask for notes.
+        readings = (served_command(may_greet=number == 0) for number in itertools.count())
+        self.parts = Parts(lambda: next(readings), LONGEST_LINE, self.limits.command)
+        self._wants_notes = False
         # Commands that came and aren't looked at yet; those that wait; how many the engine has; what is sent next.
         self._coming: Iterator[Whole] = iter(())
-        self.ready: Deque[Whole] = deque()
+        self.ready: Deque[Waiting] = deque()
         self._ready_bytes = self.flying = 0
+        # How many bytes of its commands are counted.
+        self._held = 0
         self._replies: List[bytes] = []
         # About how large its replies are: they are taken for large until they are known.
         self._usual = self.limits.unread // 4
@@ -69,6 +91,7 @@ class Client(asyncio.Protocol):
         if self.last is None:
             self._coming = self.parts.feed(data)
             self._refill()
+            self._count()
             self.server.queue(self)
 
     def eof_received(self) -> bool:
@@ -99,11 +122,30 @@ class Client(asyncio.Protocol):
                 if whole is None:
                     self._read_on()
                     return
-                self.ready.append(whole)
-                self._ready_bytes += len(whole.data or b"")
+                if whole.value.greets:
+                    self._wants_notes = True
+                    continue
+                self.ready.append(self._waiting(whole))
+                self._ready_bytes += len(self.ready[-1].data)
         except BadCommand as bad:
             self.finish(f"refused {bad.cause}\n".encode())
         self.transport.pause_reading()
+
+    def _waiting(self, whole: Whole) -> Waiting:
+        asked: Asked = whole.value
+        if asked.changes and self._is_reader:
+            return Waiting(b"", asked, b"refused ReadOnly\n")
+        if whole.data is None:
+            return Waiting(b"", asked, b"refused TooLarge\n")
+        if asked.changes and any(self.server.is_too_long(it) for it in asked.names):
+            return Waiting(b"", asked, b"refused BadName\n")
+        return Waiting(whole.data, asked)
+
+    def _count(self) -> None:
+        """Has the server know how many bytes of its commands wait."""
+        held = self._ready_bytes + self.parts.held
+        self.server.hold(held - self._held)
+        self._held = held
 
     def _read_on(self) -> None:
         if self._has_ended:
@@ -119,34 +161,47 @@ class Client(asyncio.Protocol):
     @property
     def may_send(self) -> bool:
         """Whether its next command can be given to the engine."""
-        if not self.ready or self._is_full:
+        if not self.ready or self._is_full or self.server.has_wait(self):
             return False
         if not self.flying:
             return True
         is_room = self.transport.get_write_buffer_size() + self.flying * self._usual < self.limits.unread
-        return is_room and self.ready[0].data is not None and self.flying < self.limits.ahead
+        return is_room and self.ready[0].is_passed_on and self.flying < self.limits.ahead
 
     def next(self) -> Optional[Flight]:
-        """Returns its next command, or None if that is too large, which is its reply then."""
-        whole = self.ready.popleft()
-        self._ready_bytes -= len(whole.data or b"")
+        """Returns its next command, or None if that is replied to here."""
+        it = self.ready.popleft()
+        self._ready_bytes -= len(it.data)
         if len(self.ready) < self.limits.waiting // 2:
             self._refill()
-        if whole.data is None:
+        self._count()
+        if it.refusal:
             # It waited for its turn among the client's replies.
-            self._replies.append(b"refused TooLarge\n")
-            self.server.has_replies(self)
+            self.reply(it.refusal)
+            return None
+        if not it.is_passed_on:
+            self.server.wait(self, it.data)
             return None
         self.flying += 1
-        return Flight(self, whole.data, whole.value)
+        return Flight(self, it.data, it.asked.changes, it.asked.names)
 
     # Replies.
 
-    def take(self, reply: bytes, is_last: bool) -> None:
+    def reply(self, reply: bytes) -> None:
+        """Sends a reply."""
+        self._replies.append(reply)
+        self.server.has_replies(self)
+
+    def take(self, flight: Flight, whole: Whole, is_last: bool) -> None:
         """Takes the reply to a command. If the engine's run ends by it, so does this client's."""
         self.server.count["commands"] += 1
+        if flight.changes and whole.value.words[0] != b"refused":
+            self.server.moved(flight.names)
         if self._is_cut:
             return
+        reply = whole.data or b""
+        if self._wants_notes and reply == b"fault File\n":
+            reply += (whole.value.note or b"note: ") + b"\n"
         self.flying -= 1
         self._usual = max(len(reply), self._usual // 2)
         self._replies.append(reply)
@@ -162,9 +217,15 @@ class Client(asyncio.Protocol):
 
     def cut(self) -> None:
         """Gives up what it waits for. The replies that are there are still sent."""
-        self._is_cut, self.flying = True, 0
+        if self.flying:
+            # Whether something was changed isn't known.
+            self.server.moved([b"HEAD"])
+        self.server.end_wait(self)
+        self._is_cut, self.flying, self._ready_bytes = True, 0, 0
         self.ready.clear()
         self._coming = iter(())
+        self.parts.clear()
+        self._count()
         self.finish(b"")
 
     def flush(self) -> None:
@@ -191,7 +252,8 @@ class Client(asyncio.Protocol):
         if stall and is_inside and now - self._heard > stall:
             self.finish(b"refused Truncated\n")
             return "stopped inside a command"
-        if idle and not (self.ready or self.flying or unread) and now - self._heard > idle:
+        is_idle = not (self.ready or self.flying or unread or self.server.has_wait(self))
+        if idle and is_idle and now - self._heard > idle:
             self.transport.close()
         return None
 
@@ -205,14 +267,19 @@ class Server:
         self._clients: Dict[Client, int] = {}
         self._turns: Deque[Client] = deque()
         self._touched: Set[Client] = set()
-        self._is_scheduled = False
+        self._is_scheduled, self._held = False, 0
+        # How many changes were made, and who waits for one of which name, with the end of the time for that.
+        self._moves = 0
+        self._waits: Dict[Client, Tuple[bytes, asyncio.TimerHandle]] = {}
+        self._folder_length = len(os.fsencode(keeper.folder))
         self.count = {"clients": 0, "commands": 0, "refused_clients": 0}
         self.stopping = asyncio.Event()
 
-    async def run(self, listeners: Sequence[socket.socket]) -> None:
-        """Serves until `stopping` is set, and then until the engine has replied to what it has."""
+    async def run(self, listeners: Sequence[socket.socket], for_readers: Sequence[socket.socket] = ()) -> None:
+        """Serves until `stopping` is set, and then until the engine has replied to what it has. Some listeners are for reading alone."""
         loop = asyncio.get_running_loop()
-        servers = [await loop.create_server(lambda: Client(self), sock=it, backlog=128) for it in listeners]
+        servers = [await loop.create_server(lambda: Client(self, False), sock=it, backlog=128) for it in listeners]
+        servers += [await loop.create_server(lambda: Client(self, True), sock=it, backlog=128) for it in for_readers]
         looking = asyncio.ensure_future(self._look())
         await self.stopping.wait()
         for it in servers:
@@ -237,6 +304,50 @@ class Server:
                 if what:
                     self._say(f"client {number} {what}, and is closed")
             self.keeper.look(self.limits.engine)
+
+    # What clients may ask for.
+
+    def is_too_long(self, name: bytes) -> bool:
+        """Whether the system can't take the path of a name with its lock."""
+        *folders, last = name.split(b"/")
+        return len(last) > 250 or any(len(it) > 255 for it in folders) or self._folder_length + 1 + len(name) > 4085
+
+    def hold(self, more: int) -> None:
+        """Counts bytes of commands. Above the limit the largest command that isn't whole is read past."""
+        self._held += more
+        if more > 0 and self._held > self.limits.held:
+            largest = max(self._clients, key=lambda it: it.parts.held, default=None)
+            if largest is not None:
+                largest.parts.drop()
+
+    # Clients that wait for a change.
+
+    def wait(self, client: Client, line: bytes) -> None:
+        """Has a client wait for a change of a name, unless others came that it doesn't know."""
+        _, name, known, milliseconds = line.split()
+        if int(known) != self._moves:
+            client.reply(b"ok wait %d\n" % self._moves)
+            return
+        timer = asyncio.get_running_loop().call_later(int(milliseconds) / 1000, self.end_wait, client)
+        self._waits[client] = (name, timer)
+
+    def has_wait(self, client: Client) -> bool:
+        """Whether a client waits for a change."""
+        return client in self._waits
+
+    def end_wait(self, client: Client) -> None:
+        """Replies to a client that waits."""
+        wait = self._waits.pop(client, None)
+        if wait is not None:
+            wait[1].cancel()
+            client.reply(b"ok wait %d\n" % self._moves)
+
+    def moved(self, names: Sequence[bytes]) -> None:
+        """Ends the waits for these names. HEAD may be any."""
+        self._moves += 1
+        for client, (name, _) in list(self._waits.items()):
+            if name in names or b"HEAD" in names or name == b"HEAD":
+                self.end_wait(client)
 
     # Clients.
 

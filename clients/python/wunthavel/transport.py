@@ -10,10 +10,12 @@ import re
 import select
 import socket
 import subprocess
+import weakref
 from collections import deque
-from typing import Deque, List, NamedTuple, Optional, Sequence, Tuple, Union
+from typing import Callable, Deque, List, NamedTuple, Optional, Sequence, Tuple, Union
 
 from .errors import EngineError
+from .wire import GREETING
 
 Address = Union[str, Tuple[str, int]]
 LOOPBACK = ("127.0.0.1", "localhost", "::1")
@@ -33,14 +35,21 @@ class End(NamedTuple):
     said: str = ""
 
 
+# Those that a child of a fork closes, since else they wouldn't end while it runs.
+_OPEN: "weakref.WeakSet[Transport]" = weakref.WeakSet()
+
+
 class Transport:
     """Where bytes are written, `given`, and where they are read, `sources`: of these those that haven't come to their ends."""
 
-    # What it is, and what its end is, for a person.
-    who, ended = "the engine", "the engine ended"
+    # What it is, what its end is, and what it does if it is opened again, for a person.
+    who, ended, reopened = "the engine", "the engine ended", "recovers the folder and opens it again"
+    # What is written before all commands.
+    greeting = b""
     pid = 0
 
     def __init__(self, given: int, *sources: int) -> None:
+        _OPEN.add(self)
         self.given, self.sources = given, list(sources)
         self._pieces: Deque[memoryview] = deque()
         # How many bytes wait to be written, and whether any can be.
@@ -83,6 +92,8 @@ class Transport:
 
     def read(self, source: int, most: int = 1 << 16) -> bytes:
         """Returns what came from a source, if it is a part of replies. At its end it is no source any more."""
+        if source not in self.sources:
+            return b""
         try:
             data = os.read(source, most)
         except BlockingIOError:
@@ -93,9 +104,8 @@ class Transport:
             self.sources.remove(source)
         return data
 
-    def note(self) -> Optional[bytes]:
-        """Returns the next note that isn't among the replies, empty if none comes; None if it isn't there yet."""
-        return b""
+    # Returns the next note, empty if none comes, or None if it isn't there yet; notes are among the replies if this isn't there.
+    note: Optional[Callable[[], Optional[bytes]]] = None
 
     def wait(self, timeout: Optional[float]) -> Optional[List[int]]:
         """Waits until something can be written or read, and returns the sources that have something; None if that takes too long."""
@@ -117,6 +127,18 @@ class Transport:
         """Ends it: at once, or once it has done what it has, if that takes no longer than so many seconds."""
         raise NotImplementedError
 
+    def forsake(self) -> None:
+        """Closes what a child of a fork has of it, which the other side doesn't notice."""
+        raise NotImplementedError
+
+
+def _forsake_all() -> None:
+    for it in list(_OPEN):
+        it.forsake()
+
+
+os.register_at_fork(after_in_child=_forsake_all)
+
 
 class Process(Transport):
     """An engine's process. It ends with its input. `kept` are files that it keeps open."""
@@ -130,7 +152,7 @@ class Process(Transport):
         assert self._process.stdin and self._process.stdout and self._process.stderr
         self.pid = self._process.pid
         self._stdin, self._stdout, self._stderr = self._process.stdin, self._process.stdout, self._process.stderr
-        self._noted, self._said = self._stderr.fileno(), bytearray()
+        self._noted, self._said, self.note = self._stderr.fileno(), bytearray(), self._next_note
         super().__init__(self._stdin.fileno(), self._stdout.fileno(), self._noted)
         for it in (self._stdin, self._stdout):
             with contextlib.suppress(OSError, AttributeError):
@@ -143,7 +165,7 @@ class Process(Transport):
         self._said += data[: MOST_SAID - len(self._said)]
         return b""
 
-    def note(self) -> Optional[bytes]:
+    def _next_note(self) -> Optional[bytes]:
         # It is written just after the reply.
         if self._noted in self.sources:
             self.read(self._noted)
@@ -182,11 +204,20 @@ class Process(Transport):
         with contextlib.suppress(OSError):
             self._process.kill()
 
+    def forsake(self) -> None:
+        for it in (self._stdin, self._stdout, self._stderr):
+            with contextlib.suppress(OSError):
+                it.close()
+        # It is no child of this process, which never waits for it.
+        self._process.returncode = 0
+
 
 class Socket(Transport):
     """A connection to a server, whose engine replies."""
 
-    who, ended = "the connection", "the server closed the connection"
+    who, ended, reopened = "the connection", "the server closed the connection", "connects again"
+    # The server is to write notes among the replies.
+    greeting = GREETING + b"\n"
 
     def __init__(self, address: Address) -> None:
         self._socket = _connect(address)
@@ -197,6 +228,18 @@ class Socket(Transport):
         self.sources.clear()
         self._socket.close()
         return End()
+
+    def forsake(self) -> None:
+        self._socket.close()
+
+    @property
+    def is_alive(self) -> bool:
+        try:
+            return self.can_write and self._socket.recv(1, socket.MSG_PEEK | socket.MSG_DONTWAIT) != b""
+        except BlockingIOError:
+            return True
+        except OSError:
+            return False
 
 
 def tcp_address(text: str) -> Tuple[str, int]:

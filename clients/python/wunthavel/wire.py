@@ -10,6 +10,8 @@ from .errors import ProtocolError
 
 T = TypeVar("T")
 LONGEST_LINE = 4096
+# How many bytes a content, a path and a name may have.
+LARGEST, LONGEST_PATH, LONGEST_NAME = 16 << 20, 4096, 1024
 
 
 class Rows(int):
@@ -51,6 +53,16 @@ _ORDER = "(?:breadth|newest|oldest|newest-since W|oldest-since W|date|topologica
 _LOG = re.compile(_form(f"log {_ORDER} (?:all|first)").pattern + rb"((?: [+-][^ \n]+)+)((?: path (?:0|[1-9][0-9]{0,19}))*)")
 
 
+class Asked(NamedTuple):
+    """What a command asks for: whether it changes the repository, which names it is about, and its paths, with contents where they are put; these are
+    empty if fields aren't read. `greets` says that it is no command, but the line that asks a server for notes."""
+
+    changes: bool
+    names: List[bytes]
+    paths: List[Tuple[bytes, Optional[bytes]]]
+    greets: bool = False
+
+
 def _sizes(found: "Optional[re.Match[bytes]]") -> List[int]:
     """Returns the sizes of the fields that a line announces."""
     if not found:
@@ -61,9 +73,11 @@ def _sizes(found: "Optional[re.Match[bytes]]") -> List[int]:
     return sizes
 
 
-def _fields(found: "Optional[re.Match[bytes]]") -> Reading[None]:
+def _fields(found: "Optional[re.Match[bytes]]") -> Reading[List[bytes]]:
+    fields = []
     for size in _sizes(found):
-        yield size
+        fields.append((yield size))
+    return fields
 
 
 def _end(line: bytes) -> None:
@@ -71,7 +85,7 @@ def _end(line: bytes) -> None:
         raise BadCommand("Syntax")
 
 
-def _commit() -> Reading[None]:
+def _commit(asked: Asked) -> Reading[None]:
     line = yield None
     while _PARENT.fullmatch(line):
         line = yield None
@@ -79,7 +93,8 @@ def _commit() -> Reading[None]:
         found = _EDIT.fullmatch(line)
         if not found:
             break
-        yield from _fields(found)
+        fields = yield from _fields(found)
+        asked.paths.append((fields[0], fields[1] if line.startswith(b"put ") else None))
         line = yield None
     yield from _fields(_ACTORS["author"].fullmatch(line))
     yield from _fields(_ACTORS["committer"].fullmatch((yield None)))
@@ -87,64 +102,88 @@ def _commit() -> Reading[None]:
     _end((yield None))
 
 
-def _tag() -> Reading[None]:
+def _tag(asked: Asked) -> Reading[None]:
     yield from _fields(_ACTORS["tagger"].fullmatch((yield None)))
     yield from _fields(_MESSAGE.fullmatch((yield None)))
     _end((yield None))
 
 
-def _move() -> Reading[None]:
+def _move(asked: Asked) -> Reading[None]:
     line = yield None
     if not _TO.fullmatch(line):
         raise BadCommand("Syntax")
     while _TO.fullmatch(line):
+        asked.names.append(line.split(b" ")[1])
         line = yield None
     yield from _fields(_ACTORS["actor"].fullmatch(line))
     yield from _fields(_MESSAGE.fullmatch((yield None)))
     _end((yield None))
 
 
-def _nothing() -> Reading[None]:
+def _no_more(asked: Asked) -> Reading[None]:
     return
     yield
 
 
-# The first line of each command, what follows it and its fields, and whether the command changes the repository.
+# Of each command: its first line, how many of its words are names, what follows it and its fields, and whether it changes the repository.
 _COMMANDS = {
-    b"commit": (_form(f"commit W {_EXPECT}"), _commit, True),
-    b"tag": (_form(f"tag W {_EXPECT} W"), _tag, True),
-    b"move": (_form("move"), _move, True),
-    b"rename": (_form("rename W W"), _nothing, True),
-    b"delete": (_form("delete W (?:any|at W)"), _nothing, True),
-    b"switch": (_form("switch W"), _nothing, True),
-    b"pack": (_form("pack"), _nothing, True),
-    b"index": (_form("index"), _nothing, False),
-    b"names": (_form("names(?: W)?"), _nothing, False),
-    b"files": (_form("files W"), _nothing, False),
-    b"past": (_form("past W"), _nothing, False),
-    b"show": (_form("show W(?: path N)?"), _nothing, False),
+    b"commit": (_form(f"commit W {_EXPECT}"), 1, _commit, True),
+    b"tag": (_form(f"tag W {_EXPECT} W"), 1, _tag, True),
+    b"move": (_form("move"), 0, _move, True),
+    b"rename": (_form("rename W W"), 2, _no_more, True),
+    b"delete": (_form("delete W (?:any|at W)"), 1, _no_more, True),
+    b"switch": (_form("switch W"), 1, _no_more, True),
+    b"pack": (_form("pack"), 0, _no_more, True),
+    b"index": (_form("index"), 0, _no_more, False),
+    b"names": (_form("names(?: W)?"), 1, _no_more, False),
+    b"files": (_form("files W"), 0, _no_more, False),
+    b"past": (_form("past W"), 1, _no_more, False),
+    b"show": (_form("show W(?: path N)?"), 0, _no_more, False),
 }
+# What a server alone takes: a first line that asks for notes, and a command that waits for a change.
+GREETING = b"notes"
+_WAIT = re.compile(rb"wait [^ \n]+ (?:0|[1-9][0-9]{0,18}) (?:0|[1-9][0-9]{0,6})")
 
 
-def command() -> Reading[bool]:
-    """Reads a command, and returns whether it changes the repository; a BadCommand says that it is none."""
+def command() -> Reading[Asked]:
+    """Reads a command; a `BadCommand` says that it is none."""
+    return (yield from _command((yield None)))
+
+
+def served_command(may_greet: bool) -> Reading[Asked]:
+    """Reads a command that a server takes, or a greeting where that may come."""
     line = yield None
-    word = line.split(b" ", 1)[0]
-    if word == b"log":
-        found = _LOG.fullmatch(line)
-        if not found or b" +" not in found[1]:
-            raise BadCommand("Syntax")
-        for size in found[2].split(b" path ")[1:]:
-            if int(size) >= 1 << 64:
-                raise BadCommand("Syntax")
-            yield int(size)
-        return False
-    if word not in _COMMANDS:
+    if may_greet and line == GREETING:
+        return Asked(False, [], [], True)
+    if _WAIT.fullmatch(line):
+        return Asked(False, line.split(b" ")[1:2], [])
+    return (yield from _command(line))
+
+
+def _command(line: bytes) -> Reading[Asked]:
+    words = line.split(b" ")
+    if words[0] == b"log":
+        return (yield from _log(line))
+    if words[0] not in _COMMANDS:
         raise BadCommand("Syntax")
-    form, rest, changes = _COMMANDS[word]
-    yield from _fields(form.fullmatch(line))
-    yield from rest()
-    return changes
+    form, names, rest, changes = _COMMANDS[words[0]]
+    asked = Asked(changes, words[1 : 1 + names], [])
+    fields = yield from _fields(form.fullmatch(line))
+    asked.paths.extend((it, None) for it in fields)
+    yield from rest(asked)
+    return asked
+
+
+def _log(line: bytes) -> Reading[Asked]:
+    found = _LOG.fullmatch(line)
+    if not found or b" +" not in found[1]:
+        raise BadCommand("Syntax")
+    paths: List[Tuple[bytes, Optional[bytes]]] = []
+    for size in found[2].split(b" path ")[1:]:
+        if int(size) >= 1 << 64:
+            raise BadCommand("Syntax")
+        paths.append(((yield int(size)), None))
+    return Asked(False, [], paths)
 
 
 # Replies.
@@ -207,7 +246,7 @@ def _bare(words: List[bytes]) -> Reading[List[Any]]:
 
 
 _REPLIES = {b"names": _lines, b"past": _lines, b"log": _ids, b"files": _files, b"show": _shown}
-_REPLIES.update(dict.fromkeys((b"commit", b"tag", b"move", b"rename", b"delete", b"switch", b"pack", b"index"), _bare))
+_REPLIES.update(dict.fromkeys((b"commit", b"tag", b"move", b"rename", b"delete", b"switch", b"pack", b"index", b"wait"), _bare))
 
 
 def reply() -> Reading[Reply]:
@@ -284,6 +323,16 @@ class Parts(Generic[T]):
     def held(self) -> int:
         """How many bytes are kept of one that isn't whole."""
         return len(self._buffer)
+
+    def clear(self) -> None:
+        """Forgets all that was read: nothing more is."""
+        self._buffer.clear()
+        self._start = self._at = self._searched = 0
+
+    def drop(self) -> None:
+        """Keeps nothing of what isn't whole: its bytes are read past."""
+        self._drops = True
+        self._forget()
 
     @property
     def needs_much(self) -> bool:

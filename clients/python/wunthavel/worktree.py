@@ -15,7 +15,6 @@ from .protocol import File, raw, text
 
 OWN = ".wunthavel"
 IGNORED = ".wunthavelignore"
-LARGEST = 16 * 1024 * 1024
 
 
 class WorkError(HistoryError):
