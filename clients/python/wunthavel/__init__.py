@@ -16,7 +16,7 @@ from .protocol import ANY, NEW, Actor, Command, Commit, Content, Expect, File, I
 from .repo import Repo
 from .served import ServedRepo, connect
 
-__version__ = "0.1.0"
+__version__ = "0.2.0"
 
 
 __all__ = [

@@ -193,7 +193,7 @@ def _replace(path: str, content: str) -> None:
 def main(argv: Sequence[str]) -> int:
     """`wunthavel html FOLDER OUT`."""
     parser = argparse.ArgumentParser("wunthavel html", description="Writes a history as static pages.", epilog="example: wunthavel html . pages")
-    parser.add_argument("folder", metavar="FOLDER", help="a repository, or a folder with its history in .wunthavel")
+    parser.add_argument("folder", metavar="FOLDER", help="a repository, or a folder with its history in .wunthavel/store")
     parser.add_argument("out", metavar="OUT", help="the folder that the pages are written to")
     parser.add_argument("--limit", type=int, metavar="N", help="show the newest N commits alone")
     parser.add_argument("--title", help="the page's title")

@@ -328,7 +328,7 @@ EXAMPLES = {
     "recover": f"Example, after check said refused Unfinished:\n  {NAME} recover pages",
 }
 
-VERSION = "0.1.0 (proved)\n"
+VERSION = "0.2.0 (proved)\n"
 
 HELP = (
     f"A version store with Git's object ids, reference names and logs\n\nUsage: {NAME} <COMMAND>\n\nCommands:\n"
