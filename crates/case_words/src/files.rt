@@ -105,6 +105,7 @@ fn change<F: Files>(
         "create" => return Some(files.create_new(alloc, path, &rest)),
         "write" => files.write(alloc, path, &rest),
         "append" => files.append(alloc, path, &rest),
+        "shorten" => files.shorten(alloc, path, str::from_utf8(&rest).ok()?.parse().ok()?),
         "rename" => files.rename(alloc, path, &rest),
         "remove" => files.remove_file(alloc, path),
         "folder" => files.make_folder(alloc, path),

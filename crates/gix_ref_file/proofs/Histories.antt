@@ -6,7 +6,7 @@ use Rattle.std.proofs.lemmas.List.{append_cancel_left, append-nil, take_all, dro
 use Rattle.std.specs.List.{AllByRecursion}
 use Rattle.gix_ref_file.specs.declared.files.FileError.{FileError}
 use Rattle.gix_ref_file.specs.Tree.{Tree, file, node_at, bytes_at}
-use Rattle.gix_ref_file.specs.Changes.{Change, to_create, to_write, to_append, to_rename, to_remove_file, to_make_folder, to_remove_folder, allows, after, cut, MayLeave}
+use Rattle.gix_ref_file.specs.Changes.{Change, to_create, to_write, to_append, to_shorten, to_rename, to_remove_file, to_make_folder, to_remove_folder, allows, after, cut, MayLeave}
 use Rattle.gix_ref_file.specs.History.{History, trees, moment, stood_between, Adds, Makes, Steps}
 
 all_weaker : {P Q : Tree → Type 0} → ((t : Tree) → P t → Q t) → (ts : List Tree) → AllByRecursion P ts → AllByRecursion Q ts
@@ -52,6 +52,7 @@ whole : (change : Change) (tree : Tree) → (n : ℕ) × (after (cut n change) t
 whole (to_create path bytes) tree = (length bytes, ap (λ bs. cond (is_some (node_at tree path)) tree (insert tree path (file bs))) (take_all (length bytes) bytes (omega arith)))
 whole (to_write path bytes) tree = (length bytes, ap (λ bs. insert tree path (file bs)) (take_all (length bytes) bytes (omega arith)))
 whole (to_append path bytes) tree = (length bytes, ap (λ bs. insert tree path (file (bytes_at tree path ++ bs))) (take_all (length bytes) bytes (omega arith)))
+whole (to_shorten path count) tree = (0, refl)
 whole (to_rename from to) tree = (0, refl)
 whole (to_remove_file path) tree = (0, refl)
 whole (to_make_folder path) tree = (0, refl)
@@ -118,6 +119,7 @@ cut_twice : (m n : ℕ) (change : Change) (tree : Tree) → (k : ℕ) × (after 
 cut_twice m n (to_create path bytes) tree = let k = taken_twice m n bytes in (k.0, ap (λ bs. cond (is_some (node_at tree path)) tree (insert tree path (file bs))) k.1)
 cut_twice m n (to_write path bytes) tree = let k = taken_twice m n bytes in (k.0, ap (λ bs. insert tree path (file bs)) k.1)
 cut_twice m n (to_append path bytes) tree = let k = taken_twice m n bytes in (k.0, ap (λ bs. insert tree path (file (bytes_at tree path ++ bs))) k.1)
+cut_twice m n (to_shorten path count) tree = (0, refl)
 cut_twice m n (to_rename from to) tree = (0, refl)
 cut_twice m n (to_remove_file path) tree = (0, refl)
 cut_twice m n (to_make_folder path) tree = (0, refl)
@@ -128,6 +130,7 @@ allows-cut : (n : ℕ) (change : Change) (tree : Tree) → allows tree (cut n ch
 allows-cut n (to_create path bytes) tree = refl
 allows-cut n (to_write path bytes) tree = refl
 allows-cut n (to_append path bytes) tree = refl
+allows-cut n (to_shorten path count) tree = refl
 allows-cut n (to_rename from to) tree = refl
 allows-cut n (to_remove_file path) tree = refl
 allows-cut n (to_make_folder path) tree = refl

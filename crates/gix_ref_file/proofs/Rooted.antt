@@ -5,7 +5,7 @@ use Rattle.std.specs.List.{list_any, AllByRecursion}
 use Rattle.std.specs.FinMap.{insert, remove, get, keys, contains_key-keys}
 use Rattle.gix_ref_file.specs.declared.files.FileError.{FileError}
 use Rattle.gix_ref_file.specs.Tree.{Tree, Node, file, folder, same_path, is_path, parent, node_at, bytes_of, bytes_at, is_folder, IsRooted}
-use Rattle.gix_ref_file.specs.Changes.{Change, to_create, to_write, to_append, to_rename, to_remove_file, to_make_folder, to_remove_folder, may_hold_file, is_file_at, is_empty_at, allows, after, cut, MayLeave}
+use Rattle.gix_ref_file.specs.Changes.{Change, to_create, to_write, to_append, to_shorten, to_rename, to_remove_file, to_make_folder, to_remove_folder, may_hold_file, is_file_at, is_empty_at, allows, after, cut, MayLeave}
 use Rattle.gix_ref_file.specs.History.{History, trees, Adds, Makes}
 use Rattle.gix_ref_file.proofs.Trees.{one_path, get-inserted, get-removed, no_folder, room_after_remove}
 
@@ -143,6 +143,8 @@ pub rooted_after : (n : ℕ) (change : Change) (t : Tree) → IsRooted t → IsT
 rooted_after n (to_create path bytes) t rooted may = rooted_create t path (take n bytes) rooted may
 rooted_after n (to_write path bytes) t rooted may = rooted_insert t path (file (take n bytes)) rooted may
 rooted_after n (to_append path bytes) t rooted may = rooted_insert t path (file (bytes_at t path ++ take n bytes)) rooted may
+rooted_after n (to_shorten path count) t rooted may =
+    rooted_insert t path (file (take count (bytes_at t path))) rooted (file_may t path rooted (both _ _ may).0)
 rooted_after n (to_rename from to) t rooted may =
     let parts = both _ _ may in
     rooted_insert (remove t from) to (file (bytes_at t from)) (rooted_remove_file t from rooted parts.0) (room_after_remove t from (file_may t from rooted parts.0) to ∙ parts.1)

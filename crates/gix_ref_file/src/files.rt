@@ -2,7 +2,7 @@
 ghost use Rattle.std.specs.Prelude.{◌≡◌, ◌≤◌, ◌+◌, ◌++◌, ℕ, length, map, take, option_map, unwrap_or, is_none, IfOk, IfSome, OnOk, OnErr, IsErrOf};
 ghost use Rattle.gix_ref_file.specs.declared.files.FileError.TheVariants.{Failed, Memory};
 ghost use Rattle.gix_ref_file.specs.Tree.{node_at, place_of, bytes_of, bytes_at, part, overwritten, names_at, IsRooted};
-ghost use Rattle.gix_ref_file.specs.Changes.{to_create, to_write, to_append, to_rename, to_remove_file, to_make_folder, to_remove_folder, allows};
+ghost use Rattle.gix_ref_file.specs.Changes.{to_create, to_write, to_append, to_shorten, to_rename, to_remove_file, to_make_folder, to_remove_folder, allows};
 ghost use Rattle.gix_ref_file.specs.History.{History, Makes, HasCause};
 
 use std::alloc::{AllocError, AllocFailed, Global};
@@ -154,6 +154,20 @@ pub trait Files {
             → Makes (to_append path.now bytes.now) (history self.old) (history self.new) result }
         ensures cause { is_honest self.old
             → HasCause (allows (history self.old).tree (to_append path.now bytes.now))
+            (failures self.old) (failures self.new) result }
+        ensures later { failures self.old ≤ failures self.new }
+        ensures unfailed { OnOk result (failures self.new ≡ failures self.old) }
+        ensures memory { IsErrOf result Memory → failures self.new ≡ failures self.old }
+        ensures atomic { is_atomic → OnErr result (history self.new ≡ history self.old) };
+
+    /// Takes the end of a file off, so that its first `length` bytes are left. Returns `Failed` if there is
+    /// no file, or a shorter one.
+    fn shorten(&mut self, alloc: Global, path: &[u8], length: u64) -> Result<(), FileError>
+        ensures honest { is_honest self.old → is_honest self.new }
+        ensures change { is_honest self.old
+            → Makes (to_shorten path.now length) (history self.old) (history self.new) result }
+        ensures cause { is_honest self.old
+            → HasCause (allows (history self.old).tree (to_shorten path.now length))
             (failures self.old) (failures self.new) result }
         ensures later { failures self.old ≤ failures self.new }
         ensures unfailed { OnOk result (failures self.new ≡ failures self.old) }

@@ -1,8 +1,8 @@
 //! Laws of the definitions, each the contract of a function that does nothing.
-ghost use Rattle.std.specs.Prelude.{◌≡◌, ◌≤◌, ◌++◌, ◌∷◌, ℕ, List, None, length, IsTrue, IsFalse, IsSome};
+ghost use Rattle.std.specs.Prelude.{◌≡◌, ◌≤◌, ◌++◌, ◌∷◌, ℕ, List, None, length, take, IsTrue, IsFalse, IsSome};
 ghost use Rattle.std.specs.List.{list_any};
 ghost use Rattle.gix_ref_file.specs.Tree.{Tree, same_path, node_at, bytes_at, names_at, IsRooted, IsAscending, max_path};
-ghost use Rattle.gix_ref_file.specs.Changes.{Change, to_write, to_append, to_rename, allows, after, paths_of};
+ghost use Rattle.gix_ref_file.specs.Changes.{Change, to_write, to_append, to_shorten, to_rename, allows, after, paths_of};
 ghost use Rattle.gix_ref_file.specs.History.{History, trees, moment, stood_between};
 
 /// The names in a folder ascend by their bytes, so each is there once.
@@ -23,7 +23,7 @@ pub fn other_paths_stay()
         → node_at (after change tree) path ≡ node_at tree path }
 {}
 
-/// What was written, appended or renamed is read, and nothing is left at a file's old path.
+/// What was written, appended, shortened or renamed is read, and nothing is left at a file's old path.
 pub fn changes_are_read()
     ensures written { (tree : Tree) (path bytes : List ℕ)
         → IsTrue (allows tree (to_write path bytes))
@@ -31,6 +31,9 @@ pub fn changes_are_read()
     ensures appended { (tree : Tree) (path bytes : List ℕ)
         → IsTrue (allows tree (to_append path bytes))
         → bytes_at (after (to_append path bytes) tree) path ≡ bytes_at tree path ++ bytes }
+    ensures shortened { (tree : Tree) (path : List ℕ) (count : ℕ) → IsRooted tree
+        → IsTrue (allows tree (to_shorten path count))
+        → bytes_at (after (to_shorten path count) tree) path ≡ take count (bytes_at tree path) }
     ensures renamed { (tree : Tree) (from to : List ℕ) → IsTrue (allows tree (to_rename from to))
         → bytes_at (after (to_rename from to) tree) to ≡ bytes_at tree from }
     ensures moved { (tree : Tree) (from to : List ℕ) → IsTrue (allows tree (to_rename from to))

@@ -142,6 +142,14 @@ impl Files for MemoryFiles {
         self.write(alloc, path, bytes)
     }
 
+    fn shorten(&mut self, alloc: Global, path: &[u8], length: u64) -> Result<(), FileError> {
+        let front = match self.file(path) {
+            Some(bytes) if length <= bytes.len() as u64 => bytes[..length as usize].to_vec(alloc)?,
+            _ => return Err(FileError::Failed),
+        };
+        Ok(self.put(alloc, path, Entry::File(front))?)
+    }
+
     fn rename(&mut self, alloc: Global, from: &[u8], to: &[u8]) -> Result<(), FileError> {
         if self.file(from).is_none() || !self.is_in_folder(to) {
             return Err(FileError::Failed);

@@ -32,7 +32,8 @@ pub struct Disk<R: fs::Files + AllocGlobal + Clone + Drop> {
 struct Made<F: OpenFile + Write + Drop> {
     place: String,
     file: F,
-    is_empty: bool,
+    // How many bytes were written.
+    length: u64,
 }
 
 impl<F: OpenFile + Write + Drop> Made<F> {
@@ -47,10 +48,28 @@ impl<F: OpenFile + Write + Drop> Made<F> {
 
     // Writes after what was written before.
     fn lengthen(&mut self, bytes: &[u8]) -> io::Result<()> {
-        self.file.write_all(bytes)?;
-        self.is_empty = self.is_empty && bytes.is_empty();
+        write_behind(&mut self.file, self.length, bytes)?;
+        self.length = self.length.saturating_add(bytes.len() as u64);
         Ok(())
     }
+}
+
+// Writes behind the bytes of a file of this length. If that fails, as on a full disk, nothing of it is
+// left, so that a log doesn't end within a line.
+fn write_behind<F: OpenFile + Write>(file: &mut F, length: u64, bytes: &[u8]) -> io::Result<()> {
+    let written = file.write_all(bytes);
+    if written.is_err() {
+        let _ = file.set_len(length);
+    }
+    written
+}
+
+// Returns an error if a file has another path too, at which it would change as well.
+fn refuse_other_paths(found: &Metadata) -> io::Result<()> {
+    if found.nlink() == 1 {
+        return Ok(());
+    }
+    Err(io::Error::other("the file has another path too"))
 }
 
 impl<R: fs::Files + AllocGlobal + Clone + Drop> Disk<R> {
@@ -175,7 +194,7 @@ impl<R: fs::Files + AllocGlobal + Clone + Drop> Disk<R> {
         self.made = Some(Made {
             place: path,
             file,
-            is_empty: bytes.is_empty(),
+            length: bytes.len() as u64,
         });
         Ok(())
     }
@@ -188,21 +207,30 @@ impl<R: fs::Files + AllocGlobal + Clone + Drop> Disk<R> {
         }
     }
 
-    // Opens a file to change it, and returns what was found there; one that is missing is made. The
-    // system would follow a link that was put into the place of a file just now, so what was opened
-    // is to be the file that was seen there.
+    // Opens a file to change it, and returns what was found there; one that is missing is made.
     fn open(&self, place: &str, how: &OpenOptions) -> io::Result<(R::File, Option<Metadata>)> {
-        let seen = match fs::symlink_metadata(&self.rt, place) {
-            Err(error) if error.kind() == ErrorKind::NotFound => {
-                return Ok((self.make(place)?, None));
+        match fs::symlink_metadata(&self.rt, place) {
+            Err(error) if error.kind() == ErrorKind::NotFound => Ok((self.make(place)?, None)),
+            seen => {
+                let (file, found) = self.open_seen(place, how, &seen?)?;
+                Ok((file, Some(found)))
             }
-            seen => seen?,
-        };
+        }
+    }
+
+    // Opens a file that was seen. The system would follow a link that was put into its place just now, so
+    // what was opened is to be that file.
+    fn open_seen(
+        &self,
+        place: &str,
+        how: &OpenOptions,
+        seen: &Metadata,
+    ) -> io::Result<(R::File, Metadata)> {
         if seen.is_file() {
             let file = how.open(&self.rt, place)?;
             let opened = file.metadata()?;
             if opened.ino() == seen.ino() && opened.dev() == seen.dev() {
-                return Ok((file, Some(opened)));
+                return Ok((file, opened));
             }
         }
         Err(io::Error::other("not a file"))
@@ -210,7 +238,7 @@ impl<R: fs::Files + AllocGlobal + Clone + Drop> Disk<R> {
 
     fn put(&mut self, place: &str, bytes: &[u8]) -> io::Result<()> {
         match self.made_at(place) {
-            Some(mut made) if made.is_empty => {
+            Some(mut made) if made.length == 0 => {
                 made.fill(bytes)?;
                 self.made = Some(made);
                 Ok(())
@@ -223,9 +251,7 @@ impl<R: fs::Files + AllocGlobal + Clone + Drop> Disk<R> {
     fn rewrite(&self, place: &str, bytes: &[u8]) -> io::Result<()> {
         let (mut file, found) = self.open(place, OpenOptions::new().write(true))?;
         if let Some(found) = found {
-            if found.nlink() != 1 {
-                return Err(io::Error::other("the file has another path too"));
-            }
+            refuse_other_paths(&found)?;
             if found.len() > 0 {
                 file.set_len(0)?;
             }
@@ -239,8 +265,23 @@ impl<R: fs::Files + AllocGlobal + Clone + Drop> Disk<R> {
             self.made = Some(made);
             return Ok(());
         }
-        let (mut file, _) = self.open(place, OpenOptions::new().append(true))?;
-        file.write_all(bytes)
+        let (mut file, found) = self.open(place, OpenOptions::new().append(true))?;
+        let length = match found {
+            Some(found) => found.len(),
+            None => 0,
+        };
+        write_behind(&mut file, length, bytes)
+    }
+
+    // Takes the end of a file off, unless it has another path too.
+    fn cut(&self, place: &str, length: u64) -> io::Result<()> {
+        let seen = fs::symlink_metadata(&self.rt, place)?;
+        let (file, found) = self.open_seen(place, OpenOptions::new().write(true), &seen)?;
+        refuse_other_paths(&found)?;
+        if found.len() < length {
+            return Err(io::Error::new(ErrorKind::InvalidInput, "the file is shorter"));
+        }
+        file.set_len(length)
     }
 }
 
@@ -282,6 +323,11 @@ impl<R: fs::Files + AllocGlobal + Clone + Drop> System for Disk<R> {
 
     fn append(&mut self, place: &str, bytes: &[u8]) -> io::Result<()> {
         self.lengthen(place, bytes)
+    }
+
+    fn shorten(&mut self, place: &str, length: u64) -> io::Result<()> {
+        self.made = None;
+        self.cut(place, length)
     }
 
     fn rename(&mut self, from: &str, to: &str) -> io::Result<()> {

@@ -1,7 +1,7 @@
 //! Files of a real folder (`Folder`): the calls of `Files` by the system's; names that are too long, sorted lists.
 ghost use Rattle.std.specs.Prelude.{◌≡◌, ◌↔◌, ℕ, List, Some, length, map, option_map, IfOk, IfSome, IfNone, OnOk, ◌≤◌, [], is_none, string_bytes, IsOk, IsTrue};
 ghost use Rattle.gix_ref_file.specs.Tree.{node_at, place_of, bytes_of, bytes_at, names_at, part, overwritten};
-ghost use Rattle.gix_ref_file.specs.Changes.{Change, to_create, to_write, to_append, to_rename, to_remove_file, to_make_folder, to_remove_folder};
+ghost use Rattle.gix_ref_file.specs.Changes.{Change, to_create, to_write, to_append, to_shorten, to_rename, to_remove_file, to_make_folder, to_remove_folder};
 ghost use Rattle.gix_ref_file.specs.Calls.{Finds};
 ghost use Rattle.gix_ref_folder.specs.Systems.{IsPlaceOf, AreNames, Reads};
 ghost use Rattle.gix_ref_folder.specs.Folders.{failures_of, last_in, root_of, part_of, system_of, history_in, IsHonestIn, IsPlaceIn, IsFileIn, IsFileThere, Acts};
@@ -343,6 +343,16 @@ impl<S: System> Folder<S> {
         done
     }
 
+    fn cut(&mut self, path: &[u8], length: u64) -> io::Result<()>
+        ensures change { Acts S.is_honest S.history self.old self.new
+            (to_shorten path.now length) result }
+        ensures failures { failures_of self.new ≡ failures_of self.old }
+    {
+        let place = self.target(path)?;
+        self.written = None;
+        self.system.shorten(place.as_str(), length)
+    }
+
     // The system's path of a file that is to be moved. The system would move a folder too.
     fn source(&self, path: &[u8]) -> io::Result<String>
         ensures { Finds (IsHonestIn S.is_honest S.history) (history_in S.history) self.now
@@ -502,6 +512,11 @@ impl<S: System> Files for Folder<S> {
     fn append(&mut self, alloc: Global, path: &[u8], bytes: &[u8]) -> Result<(), FileError> {
         let written = self.lengthen(path, bytes);
         self.failures.changed(alloc, path, written)
+    }
+
+    fn shorten(&mut self, alloc: Global, path: &[u8], length: u64) -> Result<(), FileError> {
+        let shortened = self.cut(path, length);
+        self.failures.changed(alloc, path, shortened)
     }
 
     fn rename(&mut self, alloc: Global, from: &[u8], to: &[u8]) -> Result<(), FileError> {

@@ -4,7 +4,7 @@ ghost use Rattle.std.specs.IoError.{error_kind};
 ghost use Rattle.std.specs.declared.io.ErrorKind.TheVariants.{AlreadyExists};
 ghost use Rattle.gix_ref_file.specs.History.{History};
 ghost use Rattle.gix_ref_file.specs.Tree.{node_at, bytes_of, bytes_at, is_folder, part, overwritten};
-ghost use Rattle.gix_ref_file.specs.Changes.{to_create, to_write, to_append, to_remove_file, to_make_folder, to_remove_folder};
+ghost use Rattle.gix_ref_file.specs.Changes.{to_create, to_write, to_append, to_shorten, to_remove_file, to_make_folder, to_remove_folder};
 ghost use Rattle.gix_ref_folder.specs.Errors.{means_absent};
 ghost use Rattle.gix_ref_folder.specs.Systems.{IsFound, AreNames, AreRootNames, Reads, Performs, Moves, IsShown};
 ghost use Rattle.gix_ref_folder.specs.declared.part.Part.{Part};
@@ -99,6 +99,11 @@ pub trait System {
     fn append(&mut self, place: &str, bytes: &[u8]) -> io::Result<()>
         ensures change { Performs is_honest history self.old self.new place.now
             (λ path. to_append path bytes.now) result };
+
+    /// Takes the end of a file off, so that its first `length` bytes are left; an error if it is shorter.
+    fn shorten(&mut self, place: &str, length: u64) -> io::Result<()>
+        ensures change { Performs is_honest history self.old self.new place.now
+            (λ path. to_shorten path length) result };
 
     /// Gives a file another path, and replaces the file that is there, if there is one.
     fn rename(&mut self, from: &str, to: &str) -> io::Result<()>

@@ -10,7 +10,7 @@ use Rattle.std.proofs.lemmas.List.{append-nil, map-append}
 use Rattle.std.proofs.lemmas.List.Elements.{filter-append}
 use Rattle.std.proofs.lemmas.List.Sorted.{IsPermutation-refl}
 use Rattle.gix_ref_file.specs.Tree.{Tree, Node, file, folder, same_path, is_slash, is_path, parent, node_at, bytes_at, names_at, name_in, IsRooted}
-use Rattle.gix_ref_file.specs.Changes.{Change, to_create, to_write, to_append, to_rename, to_remove_file, to_make_folder, to_remove_folder, paths_of, after, cut, MayLeave}
+use Rattle.gix_ref_file.specs.Changes.{Change, to_create, to_write, to_append, to_shorten, to_rename, to_remove_file, to_make_folder, to_remove_folder, paths_of, after, cut, MayLeave}
 use Rattle.gix_ref_file.specs.History.{History, Adds}
 use Rattle.gix_ref_file.proofs.Ascending.{root_name}
 use Rattle.gix_ref_file.proofs.Rooted.{adds_now}
@@ -48,6 +48,7 @@ own_after : (part : Part) (n : ℕ) (change : Change) (t : Tree) → IsOwn part 
 own_after part n (to_create path bytes) t own of = own_create part t path (take n bytes) (is_some (node_at t path)) own of.0
 own_after part n (to_write path bytes) t own of = own_insert part t path (file (take n bytes)) own of.0
 own_after part n (to_append path bytes) t own of = own_insert part t path (file (bytes_at t path ++ take n bytes)) own of.0
+own_after part n (to_shorten path count) t own of = own_insert part t path (file (take count (bytes_at t path))) own of.0
 own_after part n (to_rename from to) t own of = own_insert part (remove t from) to (file (bytes_at t from)) (own_remove part t from own) of.1.0
 own_after part n (to_remove_file path) t own of = own_remove part t path own
 own_after part n (to_make_folder path) t own of = own_insert part t path folder own of.0

@@ -157,6 +157,14 @@ impl<F: Files> System for OverFiles<F> {
         }
     }
 
+    fn shorten(&mut self, place: &str, length: u64) -> io::Result<()> {
+        let (part, path) = self.spot(place)?;
+        match part {
+            Part::Objects => reported(self.objects.shorten(self.alloc, path, length)),
+            Part::Names => reported(self.names.shorten(self.alloc, path, length)),
+        }
+    }
+
     fn rename(&mut self, from: &str, to: &str) -> io::Result<()> {
         let (part, source) = self.spot(from)?;
         let (_, target) = self.spot(to)?;

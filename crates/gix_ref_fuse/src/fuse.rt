@@ -171,7 +171,7 @@ impl<F: Files> Fuse<F> {
 impl<F: Files> Files for Fuse<F> {
     ghost use Rattle.std.specs.Prelude.{⊤, ◌++◌, length, map, take, option_map, unwrap_or, is_none, IfOk, IfSome, OnOk, OnErr};
     ghost use Rattle.gix_ref_file.specs.Tree.{node_at, place_of, bytes_of, bytes_at, part, overwritten, names_at};
-    ghost use Rattle.gix_ref_file.specs.Changes.{to_create, to_write, to_append, to_rename, to_remove_file, to_make_folder, to_remove_folder, allows};
+    ghost use Rattle.gix_ref_file.specs.Changes.{to_create, to_write, to_append, to_shorten, to_rename, to_remove_file, to_make_folder, to_remove_folder, allows};
     ghost use Rattle.gix_ref_file.specs.History.{Makes, HasCause};
     ghost use Rattle.gix_ref_fuse.specs.Fuse.{failed_in, Reads, Acts};
 
@@ -326,6 +326,31 @@ impl<F: Files> Files for Fuse<F> {
             Turn::Part(kept) => {
                 let kept = kept.min(bytes.len());
                 let part = self.files.append(alloc, path, &bytes[..kept]);
+                Err(self.failed_part(&part))
+            }
+            Turn::Nothing => Err(self.failed()),
+        }
+    }
+
+    fn shorten(&mut self, alloc: Global, path: &[u8], length: u64) -> Result<(), FileError>
+        ensures honest { F.is_honest (inner self.old) → F.is_honest (inner self.new) }
+        ensures change { F.is_honest (inner self.old)
+            → Makes (to_shorten path.now length) (F.history (inner self.old)) (F.history (inner self.new)) result }
+        ensures cause { F.is_honest (inner self.old)
+            → HasCause (allows (F.history (inner self.old)).tree (to_shorten path.now length))
+            (failed_in F.failures self.old) (failed_in F.failures self.new) result }
+        ensures later { failed_in F.failures self.old ≤ failed_in F.failures self.new }
+        ensures unfailed { OnOk result (failed_in F.failures self.new ≡ failed_in F.failures self.old) }
+        ensures memory { IsErrOf result Memory → failed_in F.failures self.new ≡ failed_in F.failures self.old }
+        ensures count { HasRisen (last_change self.old) (last_change self.new) }
+        ensures plan { plan_of self.new ≡ plan_of self.old }
+        ensures turn { F.is_honest (inner self.old) → Acts F.history F.failures
+            (turn_at (plan_of self.old) (last_change self.new)) (to_shorten path.now length) self.old self.new result }
+    {
+        match self.change_turn() {
+            Turn::Whole => self.files.shorten(alloc, path, length),
+            Turn::Part(_) => {
+                let part = self.files.shorten(alloc, path, length);
                 Err(self.failed_part(&part))
             }
             Turn::Nothing => Err(self.failed()),

@@ -91,6 +91,10 @@ impl Files for Watched {
         self.files.append(alloc, path, bytes)
     }
 
+    fn shorten(&mut self, alloc: Global, path: &[u8], length: u64) -> Result<(), FileError> {
+        self.files.shorten(alloc, path, length)
+    }
+
     fn rename(&mut self, alloc: Global, from: &[u8], to: &[u8]) -> Result<(), FileError> {
         self.files.rename(alloc, from, to)
     }

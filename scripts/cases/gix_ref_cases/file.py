@@ -42,6 +42,8 @@ class Tree:
             return place != "folder" and self.has_room(path)
         if change == "rename":
             return place == "file" and self.place(rest) != "folder" and self.has_room(rest)
+        if change == "shorten":
+            return place == "file" and rest <= len(self.at[path])
         if change == "remove":
             return place == "file"
         if change == "folder":
@@ -55,6 +57,8 @@ class Tree:
             self.at[path] = rest
         elif change == "append":
             self.at[path] = self.at.get(path, b"") + rest
+        elif change == "shorten":
+            self.at[path] = self.at[path][:rest]
         elif change == "rename":
             self.at[rest] = self.at.pop(path)
         elif change == "folder":
@@ -81,7 +85,7 @@ class Tree:
                 self.make(change, path, rest)
             return "done" if allowed else "failed"
         if turn == "part" and allowed and self.kept is not None:
-            self.make(change, path, rest if change == "rename" else rest[: self.kept])
+            self.make(change, path, rest if change in ("rename", "shorten") else rest[: self.kept])
         return "failed"
 
     def read(self, reading, path, at):
@@ -162,6 +166,20 @@ def by_hand():
     row(SAMPLE + forbidden + [ALL], ["failed"] * 10 + ["names:a:a-:a0:z"])
     paths()
     fuses()
+    shortenings()
+
+
+def shortenings():
+    """A file keeps its first bytes; no call lengthens one, and a stop leaves all of them or those."""
+    for count, left in [(0, "0:so%20"), (2, "2:so%20la"), (4, "4:so%20last")]:
+        row(SAMPLE + [("shorten", b"z", count), ("read", b"z"), ("append", b"z", b"+"), ("kind", b"z")], ["done", left, "done", f"file:{count + 1}"])
+    forbidden = [("shorten", b"z", 5), ("shorten", b"z", 2 ** 64 - 1), ("shorten", b"none", 0), ("shorten", b"a", 0), ("shorten", b"", 0),
+                 ("shorten", b"z/x", 0), ("shorten", b"a//b", 0)]
+    row(SAMPLE + forbidden + [("read", b"z"), ALL], ["failed"] * 7 + ["4:so%20last", "names:a:a-:a0:z"])
+    for how, kept, after, left in [("stop", None, "failed", "last"), ("stop", 0, "failed", "la"), ("stop", 9, "failed", "la"),
+                                   ("fail", None, "done", "l"), ("fail", 0, "done", "l")]:
+        row(SAMPLE + [(how, 1, kept), ("shorten", b"z", 2), ("shorten", b"z", 1), ("sound",), ("read", b"z")],
+            ["failed", after, f"{len(left)}:so%20{left}"])
 
 
 def paths():
@@ -196,12 +214,17 @@ PATHS = [b"a", b"a/b", b"a/b/c", b"a-", b"a0", b"b", b"b/c", b"b/\xff", b"c", b"
 BYTES = [b"", b"1", b"two", b"a longer text", b"\0\n"]
 
 
-def by_chance(chance):
+NAMES = ["create", "write", "append", "rename", "remove", "folder", "folder", "folder", "remove-folder", "kind", "read", "read-at", "list"]
+WITH_SHORTEN = NAMES + ["shorten"] * 4
+
+
+def by_chance(chance, names):
     """Changes and readings, of which one may fail, and all that is there then."""
     def act():
-        name = chance.choice(["create", "write", "append", "rename", "remove", "folder", "folder", "folder", "remove-folder", "kind",
-                              "read", "read-at", "list"])
+        name = chance.choice(names)
         path = chance.choice(PATHS)
+        if name == "shorten":
+            return (name, path, chance.choice([0, 1, 3, 20]))
         more = {"write": [chance.choice(BYTES)], "append": [chance.choice(BYTES)], "rename": [chance.choice(PATHS)],
                 "read-at": [chance.choice([0, 1, 7, 2 ** 64 - 1])]}
         return (name, path, *more.get(name, []))
@@ -216,5 +239,7 @@ if __name__ == "__main__":
     by_hand()
     chance = random.Random(23)
     for _ in range(500):
-        by_chance(chance)
+        by_chance(chance, NAMES)
+    for _ in range(60):
+        by_chance(chance, WITH_SHORTEN)
     write(__file__, ROWS)

@@ -79,6 +79,17 @@ def by_hand():
         ["failed", "failed", "absent", "absent"])
 
 
+def shortenings():
+    row(BOTH + [("n", "shorten", b"HEAD", 1), ("n", "read", b"HEAD"), ("n", "shorten", b"HEAD", 0), ("n", "append", b"HEAD", b"new"), ("n", "read", b"HEAD")],
+        ["done", "1:so%20r", "done", "done", "3:so%20new"])
+    row(BOTH + [("n", "shorten", b"HEAD", 4), ("n", "shorten", b"none", 0), ("n", "shorten", b"refs", 0), ("n", "shorten", b"", 0),
+                ("o", "shorten", b"HEAD", 0), ("n", "shorten", b"objects/ab/cd", 0), ("o", "shorten", b"objects/ab/cd", 2), ("n", "read", b"HEAD"),
+                ("o", "read", b"objects/ab/cd")], ["failed"] * 6 + ["done", "3:so%20ref", "2:so%20bl"])
+    row(BOTH + [("n", "create", b"refs/m", b""), ("n", "append", b"refs/m", b"2345"), ("n", "shorten", b"refs/m", 2), ("n", "append", b"refs/m", b"6"),
+                ("n", "read", b"refs/m"), ("n", "rename", b"refs/m", b"m"), ("n", "shorten", b"m", 1), ("n", "rename", b"m", b"refs/m"), ("n", "read", b"refs/m")],
+        ["done"] * 4 + ["3:so%20236"] + ["done"] * 3 + ["1:so%202"])
+
+
 def fixed(words, answers):
     """A line whose answers the tree of files doesn't have: links, and what is shown of a failed call."""
     ROWS.append((f"n:folder:refs n:write:kept:1 {words}", f"done done {answers}"))
@@ -122,6 +133,11 @@ def by_hand_alone():
           "done done done done done done 1:so%202 1:so%206")
     fixed("n:create:refs/m n:append:refs/m:2 n:write:refs/m:- n:append:refs/m:34 n:append:refs/m:5 n:read:refs/m", "done done done done done 3:so%20345")
     fixed("n:create:refs/m give:refs/m:refs/n n:write:refs/n:2 n:write:refs/m:3 n:read:refs/n n:read:refs/m", "done given done done 1:so%202 1:so%203")
+    # Nothing is shortened through a link, nor a file that has another path; none is lengthened.
+    fixed("link:refs/l:../kept n:shorten:refs/l:0 n:last n:read:kept", "linked failed refs/l%3a%20not%20a%20file 1:so%201")
+    fixed("hard:refs/l:kept n:shorten:refs/l:0 n:last n:read:kept", "linked failed refs/l%3a%20the%20file%20has%20another%20path%20too 1:so%201")
+    fixed("n:shorten:kept:2 n:last n:read:kept n:shorten:none:0 n:last",
+          "failed kept%3a%20the%20file%20is%20shorter 1:so%201 failed none%3a%20No%20such%20file%20or%20directory")
     # The system takes no path of over 4,095 bytes with the folder's. A look at a lock's is for whoever is to make it.
     deep = "/".join(["w" * 200] * 20) + "/"
     fixed(f"n:kind:{deep}{'x' * 40}.lock n:kind:{deep}{'x' * 67} n:last", "absent absent none")
@@ -153,12 +169,13 @@ def by_hand_alone():
 PATHS = [b"a", b"a/b", b"a/b/c", b"a-", b"b", b"b/c", b"c", b"..", b"a//b", b"", b"objects", b"objects/a", b"objects/a/b", b"objects-"]
 
 
-def by_chance(chance):
+def by_chance(chance, names):
     """Changes and readings, and all that is there then."""
     def call():
-        name = chance.choice(["create", "write", "append", "rename", "remove", "folder", "folder", "folder", "remove-folder", "kind",
-                              "read", "read-at", "list"])
+        name = chance.choice(names)
         path = chance.choice(PATHS)
+        if name == "shorten":
+            return ("o" if path.startswith(b"objects") else "n", name, path, chance.choice([0, 1, 3, 20]))
         more = {"write": [chance.choice(files.BYTES)], "append": [chance.choice(files.BYTES)], "rename": [chance.choice(PATHS)],
                 "read-at": [chance.choice([0, 1, 7, 2 ** 64 - 1])]}
         return (chance.choice("on") if chance.random() < 0.2 else "o" if path.startswith(b"objects") else "n", name, path,
@@ -173,5 +190,8 @@ if __name__ == "__main__":
     by_hand_alone()
     chance = random.Random(41)
     for _ in range(300):
-        by_chance(chance)
+        by_chance(chance, files.NAMES)
+    for _ in range(40):
+        by_chance(chance, files.WITH_SHORTEN)
+    shortenings()
     write(__file__, ROWS)

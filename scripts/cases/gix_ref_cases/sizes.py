@@ -32,15 +32,16 @@ def file():
     yield row("file[ write:f#:x] list:-[ append:f#:y][ read:f#][ rename:f#:g#][ kind:g#][ remove:g#] list:-", words)
     yield row("file[ folder:d#][ create:d#/f:x] list:-[ list:d#][ remove:d#/f][ remove-folder:d#] list:-", lambda size: " ".join(
         ["done"] * (2 * size) + ["names" + numbered(size, ":d{0}")] + ["names:f"] * size + ["done"] * (2 * size) + ["names"]))
-    yield row("file write:f:x*# append:f:y*# read:f read-at:f:#", lambda size:
-              f"done done {2 * size}:so%20{'x' * size}{'y' * size} {min(size, 6)}:{('y' * min(size, 6)).ljust(6, '.')}")
+    yield row("file write:f:x*# append:f:y*# read:f read-at:f:# shorten:f:# read:f", lambda size:
+              f"done done {2 * size}:so%20{'x' * size}{'y' * size} {min(size, 6)}:{('y' * min(size, 6)).ljust(6, '.')} done {size}:so%20{'x' * size}")
     yield row("file write:[x]:y append:[x]:z rename:[x]:a", lambda size: " ".join(["done" if 0 < size <= LONGEST else "failed"] * 3))
 
 
 def folder():
     yield row("folder[ n:write:f#:x] n:list:-[ n:append:f#:y][ n:read:f#][ n:rename:f#:g#][ n:remove:g#] n:list:-", lambda size: " ".join(
         ["done"] * size + ["names" + numbered(size, ":f{0}")] + ["done"] * size + ["2:so%20xy"] * size + ["done"] * (2 * size) + ["names"]))
-    yield row("folder n:write:f:x*# n:append:f:y*# n:read:f", lambda size: f"done done {2 * size}:so%20{'x' * size}{'y' * size}")
+    yield row("folder n:write:f:x*# n:append:f:y*# n:read:f n:shorten:f:# n:read:f", lambda size:
+              f"done done {2 * size}:so%20{'x' * size}{'y' * size} done {size}:so%20{'x' * size}")
     yield row("folder n:folder:d[ n:create:d/f#] n:list:d n:rename:none:a n:last", lambda size: " ".join(
         ["done"] * (size + 1) + ["names" + numbered(size, ":f{0}"), "failed", "none%3a%20No%20such%20file%20or%20directory"]))
 

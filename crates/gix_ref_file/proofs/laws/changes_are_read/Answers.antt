@@ -1,4 +1,4 @@
-use Rattle.gix_ref_file.proofs.Others.{append_read, rename_read, rename_gone}
+use Rattle.gix_ref_file.proofs.Others.{append_read, shorten_read, rename_read, rename_gone}
 use Rattle.gix_ref_file.proofs.Trees.{bytes_at_inserted}
 use Rattle.gix_ref_file.proofs.laws.changes_are_read.Goals as goal
 
@@ -7,6 +7,9 @@ returns-clause-written c tree path bytes may = bytes_at_inserted tree path bytes
 
 pub returns-clause-appended : goal.returns-clause-appended
 returns-clause-appended c = append_read
+
+pub returns-clause-shortened : goal.returns-clause-shortened
+returns-clause-shortened c = shorten_read
 
 pub returns-clause-renamed : goal.returns-clause-renamed
 returns-clause-renamed c = rename_read
