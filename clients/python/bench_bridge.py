@@ -3,8 +3,8 @@
 
     WUNTHAVEL_ENGINE=.. clients/python/bench_bridge.py [--commits N] [--repository FOLDER]
 
-It is a report, no test; `bench.py` has `Repo` and `batch()` without a server. All is done in a temporary folder. Git's own rows are `git cat-file --batch` over the same objects and `git fast-import`
-of the same stream. `--repository` takes the bridge's rows over a git repository of yours, in the place of a made one.
+It is a report, no test; `bench.py` has `Repo` and `batch()` without a server. All is done in a temporary folder. Git's own rows are
+`git cat-file --batch` over the same objects and `git fast-import` of the same stream. `--repository` takes the bridge's rows over a git repository of yours, in the place of a made one.
 """
 import argparse
 import os

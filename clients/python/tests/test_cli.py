@@ -14,7 +14,7 @@ from typing import Any, List, Tuple
 from unittest import mock
 
 import wunthavel
-from wunthavel import cli, protocol, wire, worktree
+from wunthavel import cli, protocol, wire
 from wunthavel.protocol import File
 from wunthavel.worktree import WorkError, WorkTree, refuse_path
 from tests.support import PATIENCE, all_shown
@@ -90,6 +90,29 @@ class Commands(AtATerminal):
         self.assertEqual(self.told("show", first)[0]["id"], first)
         self.assertEqual([it["line"] for it in self.told("blame", "page")], ["one", "two"])
         self.assertEqual(self.told("blame", "page")[0]["commit"], first)
+
+    def test_what_differs_here(self) -> None:
+        first = self.begin()
+        self.assertEqual((self.told("status"), self.does("diff")), ([], ""))
+        self.write("page", "one\ntwo\x1b[2J")
+        os.unlink("notes/a b")
+        self.assertEqual([(it["change"], it["path"]) for it in self.told("status")], [("removed", "notes/a b"), ("changed", "page")])
+        removed = "--- a/notes/a b\n+++ /dev/null\n@@ -1 +0,0 @@\n-two\n"
+        changed = "--- a/page\n+++ b/page\n@@ -1 +1,2 @@\n one\n+two\\x1b[2J\n\\ No newline at end of file\n"
+        self.assertEqual(self.does("diff"), removed + changed)
+        self.assertEqual(self.does("diff", "page"), changed)
+        self.assertEqual(self.does("diff", "notes"), removed)
+        self.assertEqual(self.told("diff", "page")[0]["diff"], {"text": changed.replace("\\x1b", "\x1b")})
+        self.does("save", "Go on")
+        self.assertEqual((self.does("diff"), self.does("diff", "--old", first, "--new", "HEAD")), ("", removed + changed))
+
+    def test_what_is_damaged_is_not_restored(self) -> None:
+        self.begin()
+        os.unlink("page")
+        other = wunthavel.Content("file", "257cc5642cb1a054f08cc83f2d943e56fd3ebe99", b"other\n")
+        with mock.patch.object(wunthavel.Repo, "batch", return_value=iter([other])):
+            self.assertIn("isn't what was stored", self.does("restore", "HEAD", "page", status=1))
+        self.assertFalse(os.path.exists("page"))
 
     def test_changed_files_alone_are_sent(self) -> None:
         self.begin()

@@ -16,7 +16,7 @@ from . import plans, protocol
 from .builder import Builder
 from .errors import EngineDied, Fault, NotExpected, ProtocolError, Refused, Taken
 from .plans import AsOf, Change, Entry, Line, Plan, Texts
-from .protocol import ANY, NEW, Actor, Command, Commit, Content, Expected, File, Ids, LogEntry, Names
+from .protocol import ANY, NEW, Command, Commit, Content, Expected, File, Ids, LogEntry, Names
 from .repo import WINDOW, Who, actor_of
 from .served import LONGEST_WAIT
 from .texts import Text

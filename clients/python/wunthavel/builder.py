@@ -1,7 +1,7 @@
 """A commit that is being made."""
 import warnings
 from types import TracebackType
-from typing import Any, Callable, Generic, Iterable, List, Optional, Sequence, Tuple, Type, TypeVar
+from typing import Any, Callable, Generic, Iterable, List, Optional, Tuple, Type, TypeVar
 
 from . import plans, protocol
 from .protocol import Actor, Command, Expect, Expected

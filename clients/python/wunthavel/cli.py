@@ -13,15 +13,16 @@ import sys
 from typing import Any, Callable, Dict, Iterable, List, Optional, Sequence, Tuple, Union
 
 from . import protocol
-from .engine import act
+from .engine import act, is_sha256
 from .errors import HistoryError, Refused, Unfinished
+from .plans import Change, changes, checked, unified
 from .progress import Progress
 from .protocol import NEW, Commit, File, Names, raw, text
-from .plans import Change, changes
 from .repo import Repo
 from .texts import shown
+from .verify import verify as digest
 from .wire import LARGEST
-from .worktree import IGNORED, Here, WorkError, WorkTree, refuse_path
+from .worktree import IGNORED, OWN, Here, WorkError, WorkTree, refuse_path
 
 # Commands with words of their own, each in its module.
 APART = {"serve": "serve", "git-export": "git_export", "git-import": "git_import", "fast-import": "fast_import", "html": "html"}
@@ -220,13 +221,40 @@ def show(at: Session) -> int:
 
 def diff_names(at: Session) -> int:
     """Lists the paths at which a commit differs from the files here, or two commits do."""
-    asked = at.asked
-    old = at.saved(asked.old or at.tip())
-    new = at.present()[0] if asked.new is None else at.saved(asked.new)
-    for it in changes(old, new):
+    return _list_changes(at, at.asked.old, at.asked.new)
+
+
+def status(at: Session) -> int:
+    """Lists what differs here from what was saved last."""
+    return _list_changes(at, None, None)
+
+
+def _list_changes(at: Session, old: Optional[str], new: Optional[str]) -> int:
+    for it in changes(at.saved(old or at.tip()), at.present()[0] if new is None else at.saved(new)):
         at.out.tell(plain_change(it))
         _say_changes(at.out, [it])
     return 0
+
+
+def diff(at: Session) -> int:
+    """Shows how a commit differs from the files here, or two commits do."""
+    asked = at.asked
+    old = asked.old or at.tip()
+    new, here = at.present() if asked.new is None else (at.saved(asked.new), {})
+    paths = [at.tree.path_of(it) for it in asked.paths] or [""]
+    for it in changes(at.saved(old), new):
+        if any(_is_below(it.path, path) for path in paths):
+            before = at.repo.read(it.path, old) if it.old is not None and old is not None else None
+            after = None if it.new is None else at.tree.read(here[it.path]) if asked.new is None else at.repo.read(it.path, asked.new)
+            _show_diff(at.out, it, unified(before, after, it.path))
+    return 0
+
+
+def _show_diff(out: Output, change: Change, found: bytes) -> None:
+    out.tell({**plain_change(change), "diff": _kept(found)})
+    for line in text(found).splitlines():
+        colour = "bold" if line.startswith(("---", "+++")) else {"-": "red", "+": "green", "@": "blue"}.get(line[:1])
+        out.say(out.paint(colour, shown(line)) if colour else shown(line))
 
 
 def cat(at: Session) -> int:
@@ -286,7 +314,7 @@ def _restore(at: Session, saved: Dict[str, File], wanted: Dict[str, File], force
     with Progress("restoring", len(written)) as bar:
         contents = at.repo.batch(protocol.content(word, it) for it in written)
         for path, content in zip(written, bar.each(contents)):
-            at.tree.write(wanted[path], content.data)
+            at.tree.write(wanted[path], checked(content, path).data)
     at.tree.remember()
     return written, removed
 
@@ -373,8 +401,17 @@ def blame(at: Session) -> int:
 
 
 def verify(asked: argparse.Namespace, out: Output) -> int:
-    """Reads all of the history, and reports whether it is whole."""
-    return _act("check", "whole", asked, out)
+    """Reads all of the history, and reports whether it is whole; with --for digests objects for so long, from where it stopped the last time."""
+    if asked.seconds is None:
+        return _act("check", "whole", asked, out)
+    tree = None if asked.folder else WorkTree.find()
+    beside = asked.socket or (os.path.join(tree.folder, OWN, "store") if tree else asked.folder.rstrip("/"))
+    found = digest(tree.store if tree else asked.folder, asked.seconds, beside + ".verified")
+    for it in found.damaged:
+        out.say(out.paint("red", str(it)))
+    out.say(f"{found.objects:,} objects are digested" + (", and that is all" if found.is_whole else ""))
+    out.tell({"objects": found.objects, "damaged": [{"path": it.path, "id": it.id} for it in found.damaged], "whole": found.is_whole})
+    return 1 if found.damaged else 0
 
 
 def recover(asked: argparse.Namespace, out: Output) -> int:
@@ -383,9 +420,10 @@ def recover(asked: argparse.Namespace, out: Output) -> int:
 
 
 def _act(action: str, done: str, asked: argparse.Namespace, out: Output) -> int:
-    tree = WorkTree.find()
+    folder = getattr(asked, "folder", None)
+    tree = None if folder else WorkTree.find()
     with Progress(action) as bar:
-        act(action, tree.store, tree.sha256, waiting=lambda: bar.step(0))
+        act(action, tree.store if tree else folder, tree.sha256 if tree else is_sha256(folder), waiting=lambda: bar.step(0))
     out.say(done)
     out.tell({done: True})
     return 0
@@ -402,6 +440,14 @@ def _parser() -> argparse.ArgumentParser:
     return parser
 
 
+Adder = Callable[..., None]
+WORD = (["word"], {"nargs": "?", "default": "HEAD", "metavar": "WORD", "help": "a name or an id (HEAD by default)"})
+AUTHOR = (["--author"], {"metavar": "'NAME <EMAIL>'", "help": "who saves this"})
+FORCE = (["--force"], {"action": "store_true", "help": "lose changes that aren't saved"})
+DELETE = (["-d", "--delete"], {"metavar": "NAME", "help": "delete this one"})
+NAME = (["name"], {"nargs": "?", "metavar": "NAME", "help": "make this one"})
+
+
 def _add_commands(commands: Any, common: argparse.ArgumentParser) -> None:
     def add(name: str, does: Callable[..., int], example: str, *arguments: Tuple[Sequence[str], Dict[str, Any]]) -> None:
         about = (does.__doc__ or "").strip()
@@ -410,14 +456,23 @@ def _add_commands(commands: Any, common: argparse.ArgumentParser) -> None:
         for words, options in arguments:
             it.add_argument(*words, **options)
 
-    word = (["word"], {"nargs": "?", "default": "HEAD", "metavar": "WORD", "help": "a name or an id (HEAD by default)"})
-    by = (["--author"], {"metavar": "'NAME <EMAIL>'", "help": "who saves this"})
-    force = (["--force"], {"action": "store_true", "help": "lose changes that aren't saved"})
-    deletes = (["-d", "--delete"], {"metavar": "NAME", "help": "delete this one"})
-    name = (["name"], {"nargs": "?", "metavar": "NAME", "help": "make this one"})
+    _add_saving(add)
+    _add_asking(add)
+    _add_naming(add)
+    _add_keeping(add)
+    for name_apart, module in APART.items():
+        commands.add_parser(name_apart, help=f"see wunthavel {name_apart} --help", add_help=False)
+
+
+def _add_saving(add: Adder) -> None:
     folder = (["folder"], {"nargs": "?", "default": ".", "metavar": "FOLDER"})
     add("init", init, "wunthavel init notes", folder, (["--sha256"], {"action": "store_true", "help": "ids of SHA-256"}))
-    add("save", save, "wunthavel save 'First pages'", (["message"], {"metavar": "MESSAGE", "help": "what was done"}), by)
+    add("save", save, "wunthavel save 'First pages'", (["message"], {"metavar": "MESSAGE", "help": "what was done"}), AUTHOR)
+    restored = (["path"], {"nargs": "?", "metavar": "PATH", "help": "this file, or what is in this folder"})
+    add("restore", restore, "wunthavel restore HEAD notes", (["word"], {"metavar": "WORD"}), restored, FORCE)
+
+
+def _add_asking(add: Adder) -> None:
     add(
         "log",
         log,
@@ -426,19 +481,39 @@ def _add_commands(commands: Any, common: argparse.ArgumentParser) -> None:
         (["-n", "--number"], {"type": _count, "metavar": "N", "help": "so many at most"}),
         (["--word"], {"default": "HEAD", "metavar": "WORD", "help": "begin at this commit"}),
     )
-    add("show", show, "wunthavel show v1", word)
+    add("show", show, "wunthavel show v1", WORD)
     add("diff-names", diff_names, "wunthavel diff-names v1 main", (["old"], {"nargs": "?", "metavar": "OLD"}), (["new"], {"nargs": "?", "metavar": "NEW"}))
+    add("status", status, "wunthavel status")
+    add(
+        "diff",
+        diff,
+        "wunthavel diff notes",
+        (["paths"], {"nargs": "*", "metavar": "PATH", "help": "this file, or what is in this folder"}),
+        (["--old"], {"metavar": "WORD", "help": "the commit before (HEAD)"}),
+        (["--new"], {"metavar": "WORD", "help": "the commit after (the files here)"}),
+    )
     add("cat", cat, "wunthavel cat v1:notes/page", (["path"], {"metavar": "[WORD:]PATH"}))
-    restored = (["path"], {"nargs": "?", "metavar": "PATH", "help": "this file, or what is in this folder"})
-    add("restore", restore, "wunthavel restore HEAD notes", (["word"], {"metavar": "WORD"}), restored, force)
-    add("branch", branch, "wunthavel branch idea v1", name, word, deletes)
-    add("switch", switch, "wunthavel switch idea", (["name"], {"metavar": "NAME"}), (["-c", "--create"], {"action": "store_true", "help": "make the branch here"}), force)
-    add("tag", tag, "wunthavel tag v1 -m 'First release'", name, word, deletes, (["-m", "--message"], {"metavar": "MESSAGE", "help": "make an annotated tag"}), by)
-    add("blame", blame, "wunthavel blame notes/page", (["path"], {"metavar": "PATH"}), word)
-    add("verify", verify, "wunthavel verify")
+    add("blame", blame, "wunthavel blame notes/page", (["path"], {"metavar": "PATH"}), WORD)
+
+
+def _add_naming(add: Adder) -> None:
+    add("branch", branch, "wunthavel branch idea v1", NAME, WORD, DELETE)
+    create = (["-c", "--create"], {"action": "store_true", "help": "make the branch here"})
+    add("switch", switch, "wunthavel switch idea", (["name"], {"metavar": "NAME"}), create, FORCE)
+    message = (["-m", "--message"], {"metavar": "MESSAGE", "help": "make an annotated tag"})
+    add("tag", tag, "wunthavel tag v1 -m 'First release'", NAME, WORD, DELETE, message, AUTHOR)
+
+
+def _add_keeping(add: Adder) -> None:
+    add(
+        "verify",
+        verify,
+        "wunthavel verify --for 60",
+        (["folder"], {"nargs": "?", "metavar": "FOLDER", "help": "a history's own folder, as a server has it (that of the folder here)"}),
+        (["--for"], {"dest": "seconds", "type": float, "metavar": "SECONDS", "help": "digest objects for so long, from where this stopped the last time"}),
+        (["--socket"], {"metavar": "SOCKET", "help": "keep the place where it stops in SOCKET.verified (beside the folder)"}),
+    )
     add("recover", recover, "wunthavel recover")
-    for name_apart, module in APART.items():
-        commands.add_parser(name_apart, help=f"see wunthavel {name_apart} --help", add_help=False)
 
 
 def _count(word: str) -> int:

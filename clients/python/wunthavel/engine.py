@@ -9,8 +9,9 @@ import shutil
 import signal
 import subprocess
 import threading
+import time
 from collections import deque
-from typing import Any, Callable, Deque, Generic, Iterator, List, Optional, Sequence, TypeVar, Union
+from typing import Any, Callable, Deque, Generic, Iterator, List, Optional, Tuple, Type, TypeVar, Union
 
 from .errors import Busy, EngineDied, EngineError, Fault, HistoryError, ProtocolError, Refused, Unfinished
 from .protocol import Command, raw, text
@@ -44,12 +45,10 @@ def find_engine() -> str:
 
 def is_sha256(folder: Folder) -> bool:
     """Returns whether the folder has an object whose id is one of SHA-256. A folder without objects has not."""
+    objects = os.path.join(os.fspath(folder), "objects")
     with contextlib.suppress(OSError):
-        objects = os.path.join(os.fspath(folder), "objects")
-        for beginning in os.listdir(objects):
-            for it in os.listdir(os.path.join(objects, beginning)):
-                if len(beginning) == 2 and len(it) in (38, 62):
-                    return len(it) == 62
+        names = (it for beginning in os.listdir(objects) if len(beginning) == 2 for it in os.listdir(os.path.join(objects, beginning)))
+        return len(next((it for it in names if len(it) in (38, 62)), "")) == 62
     return False
 
 
@@ -85,18 +84,36 @@ def act(
     except OSError as error:
         raise EngineError(f"{words[0]} doesn't start: {error.strerror}") from error
     with process:
-        while True:
-            try:
-                said = process.communicate(timeout=0.2 if waiting else None)[1]
-                break
-            except subprocess.TimeoutExpired:
-                if waiting:
-                    waiting()
-            except BaseException:
-                process.kill()
-                raise
+        try:
+            said = _said(process, waiting)
+        except BaseException:
+            process.kill()
+            raise
     if process.returncode:
         raise refusal(text(said), process.returncode, folder, sha256, engine)
+
+
+def _said(process: "subprocess.Popen[bytes]", waiting: Optional[Callable[[], None]]) -> bytes:
+    """Returns what a process says on standard error until its end."""
+    while True:
+        try:
+            return process.communicate(timeout=0.2 if waiting else None)[1]
+        except subprocess.TimeoutExpired:
+            if waiting:
+                waiting()
+
+
+def patiently(call: Callable[[], T], seconds: float, while_raised: Union[Type[Exception], Tuple[Type[Exception], ...]]) -> T:
+    """Returns what a call returns, which is made again and again while it raises this, for so many seconds at most."""
+    end, pause = time.monotonic() + seconds, 0.01
+    while True:
+        try:
+            return call()
+        except while_raised:
+            if time.monotonic() + pause > end:
+                raise
+        time.sleep(pause)
+        pause = min(2 * pause, 0.2)
 
 
 class Pending(Generic[T]):

@@ -7,18 +7,17 @@
 b'Hello.'
 """
 import os
-import time
 from collections import deque
 from types import TracebackType
 from typing import Any, Callable, Deque, Iterable, Iterator, List, Mapping, Optional, Tuple, Type, TypeVar, Union
 
 from . import plans, protocol
 from .builder import CommitBuilder
-from .engine import Engine, Folder, Pending, act, command_line, find_engine, is_sha256, refusal
+from .engine import Engine, Folder, Pending, act, command_line, find_engine, is_sha256, patiently, refusal
 from .errors import Busy, EngineDied, Fault, HistoryError, NotExpected, Refused, Taken, Unfinished
 from .plans import AsOf, Change, Entry, Line, Plan, Texts
 from .protocol import ANY, NEW, Actor, Command, Commit, Content, Expected, File, Ids, LogEntry, Names
-from .texts import Text, raw
+from .texts import Text
 from .transport import Process
 
 T = TypeVar("T")
@@ -79,21 +78,14 @@ class Repo:
         act("recover", folder, is_sha256(folder) if sha256 is None else sha256, engine)
 
     def _open(self, recover: bool) -> Engine:
-        """Starts the engine; if another process works in the folder, again and again until it doesn't, and if it is to be recovered, once more."""
-        until, pause = time.monotonic() + self._wait, 0.01
-        while True:
-            try:
-                return self._start()
-            except Busy:
-                if time.monotonic() + pause > until:
-                    raise
-                time.sleep(pause)
-                pause = min(2 * pause, 0.2)
-            except Unfinished as error:
-                if not recover:
-                    raise
-                error.recover()
-                recover = False
+        """Starts the engine, once no other process works in the folder; if it is to be recovered, once more after that."""
+        try:
+            return patiently(self._start, self._wait, Busy)
+        except Unfinished as error:
+            if not recover:
+                raise
+            patiently(error.recover, self._wait, Busy)
+            return patiently(self._start, self._wait, Busy)
 
     def _start(self) -> Engine:
         engine = Engine(Process(command_line("run", self.folder, self.sha256, self._program)), self._timeout)
@@ -115,9 +107,9 @@ class Repo:
         self._engine.close()
         self._engine = self._open(recover)
 
-    def close(self) -> None:
-        """Sends what waits to be sent, and ends the engine."""
-        self._engine.close()
+    def close(self, *, send: bool = True) -> None:
+        """Sends what waits to be sent, unless that isn't wanted, and ends the engine."""
+        self._engine.close(send)
 
     def kill(self) -> None:
         """Ends the engine at once; `Repo(folder, recover=True)` opens what is left."""
@@ -138,7 +130,7 @@ class Repo:
 
     def __exit__(self, kind: Optional[Type[BaseException]], error: Optional[BaseException], trace: Optional[TracebackType]) -> None:
         # After an error what isn't sent yet isn't done any more.
-        self._engine.close(send=kind is None)
+        self.close(send=kind is None)
 
     def __repr__(self) -> str:
         return f"<Repo {self.folder!r}{' closed' if self.closed else ''}>"

@@ -14,10 +14,9 @@ import signal
 import socket
 import stat
 import sys
-import time
 from typing import Any, Callable, Dict, List, Optional, Sequence, Tuple
 
-from .engine import find_engine, is_sha256
+from .engine import find_engine, is_sha256, patiently
 from .errors import HistoryError
 from .keeper import Keeper, ServeError
 from .server import Limits, Server
@@ -74,16 +73,12 @@ def listen_tcp(address: Tuple[str, int]) -> socket.socket:
 def lock_beside(path: str, wait: float) -> int:
     """Keeps other servers from a socket's path, and returns what keeps them while it is open: here, or in an engine of a server that was killed."""
     at = os.open(path + ".lock", os.O_RDWR | os.O_CREAT | os.O_NOFOLLOW, 0o600)
-    end = time.monotonic() + wait
-    while True:
-        try:
-            fcntl.flock(at, fcntl.LOCK_EX | fcntl.LOCK_NB)
-            return at
-        except OSError:
-            if time.monotonic() > end:
-                os.close(at)
-                raise ServeError(f"{path}: a server listens there, or the engine of one still works") from None
-            time.sleep(0.02)
+    try:
+        patiently(lambda: fcntl.flock(at, fcntl.LOCK_EX | fcntl.LOCK_NB), wait, BlockingIOError)
+    except BlockingIOError:
+        os.close(at)
+        raise ServeError(f"{path}: a server listens there, or the engine of one still works") from None
+    return at
 
 
 # The command.

@@ -9,8 +9,8 @@ from collections import deque
 from typing import Any, Deque, Optional, TypeVar
 
 from . import plans, protocol
-from .engine import Engine, Pending
-from .errors import EngineDied, EngineError, NoSuchName, NotExpected, Refused, Taken
+from .engine import Engine, Pending, patiently
+from .errors import Busy, EngineDied, EngineError, NoSuchName, NotExpected, Refused, Taken
 from .protocol import Command, Commit
 from .repo import Repo, Who
 from .texts import Text, raw
@@ -57,10 +57,15 @@ class ServedRepo(Repo):
             self._connect_again(self._engine, over)
         return self._engine
 
-    def close(self) -> None:
-        """Sends what waits to be sent, and ends the connection."""
+    def reopen(self, recover: bool = True) -> None:
+        """Connects again."""
+        super().reopen(recover)
+        self._is_closed = False
+
+    def close(self, *, send: bool = True) -> None:
+        """Sends what waits to be sent, unless that isn't wanted, and ends the connection."""
         self._is_closed = True
-        super().close()
+        super().close(send=send)
 
     def kill(self) -> None:
         """Ends the connection at once."""
@@ -82,15 +87,12 @@ class ServedRepo(Repo):
 
     def _connect_again(self, engine: Engine, died: EngineDied) -> None:
         """Connects again, unless another thread did."""
-        end = time.monotonic() + self._wait
         with self._connecting:
-            while self._engine is engine:
+            if self._engine is engine:
                 try:
-                    self._engine = self._open(False)
-                except EngineError:
-                    if time.monotonic() > end:
-                        raise died from None
-                    time.sleep(0.05)
+                    self._engine = patiently(lambda: self._open(False), self._wait, (EngineError, Busy))
+                except (EngineError, Busy):
+                    raise died from None
 
     def _look_whether_done(self, pending: "Pending[Any]", died: EngineDied) -> None:
         """Finds the commit of a command that was done, if what it expects doesn't hold for that reason."""
