@@ -572,6 +572,8 @@ class WithTheEngine(Served):
             began = time.monotonic()
             self.assertEqual(repo.wait("main", first, timeout=0.5), first)
             self.assertGreaterEqual(time.monotonic() - began, 0.5)
+        # Replies come in order, and before the end.
+        self.assertEqual(self.ask(b"wait refs/heads/main 2 300\nnames refs/none\n"), b"ok wait 2\nok names 0 refs/heads/main\n")
 
     def test_a_socket_for_reading_alone(self) -> None:
         readers = os.path.join(self.room, "readers")

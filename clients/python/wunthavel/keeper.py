@@ -43,7 +43,8 @@ class Flight:
 
 
 class Keeper:
-    """Has an engine do commands in their order. A client has a `take` for each reply, which says whether it is the last one of a run, and a `cut` if none will come."""
+    """Has an engine do commands in their order. A client has a `take` for each reply, which is given whether that is the last one of its run, and a `lose` for a
+    command to which no reply will come."""
 
     def __init__(self, folder: str, sha256: bool, engine: str, wait: float, kept: Sequence[int], say: Callable[[str], None]) -> None:
         self.folder, self._place, self._wait, self._kept, self._say = folder, (folder, sha256, engine), wait, kept, say
@@ -166,7 +167,7 @@ class Keeper:
             first.tries += 1
             if first.changes or first.tries > 1:
                 # Whether it was done isn't known, or it ends engines.
-                first.client.cut()
+                first.client.lose(first)
         self.flying = deque(it for it in self.flying if it.client is None or it.client.waits)
 
     async def _mend(self, end: End) -> None:

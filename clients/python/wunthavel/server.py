@@ -26,9 +26,9 @@ class Limits(NamedTuple):
     # Bytes of one command, whole commands of one client that wait, and commands of one client that the engine has.
     command: int = 64 << 20
     waiting: int = 64
+    ahead: int = 16
     # Bytes of the commands of all clients that aren't whole or wait.
     held: int = 256 << 20
-    ahead: int = 16
     # Bytes of replies that wait for a client to read them, above which it gets no further ones.
     unread: int = 1 << 20
     # How long a client may stop inside a command, or not read its replies; how long it may say nothing; how long the engine may think.
@@ -168,7 +168,7 @@ class Client(asyncio.Protocol):
         is_room = self.transport.get_write_buffer_size() + self.flying * self._usual < self.limits.unread
         return is_room and self.ready[0].is_passed_on and self.flying < self.limits.ahead
 
-    def next(self) -> Optional[Flight]:
+    def next_flight(self) -> Optional[Flight]:
         """Returns its next command, or None if that is replied to here."""
         it = self.ready.popleft()
         self._ready_bytes -= len(it.data)
@@ -209,6 +209,12 @@ class Client(asyncio.Protocol):
             self.cut()
         self.server.has_replies(self)
 
+    def lose(self, flight: Flight) -> None:
+        """Gives up what it waits for, since no reply to a command will come. It may have been done."""
+        if flight.changes:
+            self.server.moved(flight.names)
+        self.cut()
+
     def finish(self, last: bytes) -> None:
         """Reads nothing more; what it waits for is still sent, and then this line."""
         self.last = last
@@ -217,9 +223,6 @@ class Client(asyncio.Protocol):
 
     def cut(self) -> None:
         """Gives up what it waits for. The replies that are there are still sent."""
-        if self.flying:
-            # Whether something was changed isn't known.
-            self.server.moved([b"HEAD"])
         self.server.end_wait(self)
         self._is_cut, self.flying, self._ready_bytes = True, 0, 0
         self.ready.clear()
@@ -235,7 +238,7 @@ class Client(asyncio.Protocol):
         if self._replies:
             self.transport.write(b"".join(self._replies))
             self._replies.clear()
-        if self.last is not None and not self.ready and not self.flying:
+        if self.last is not None and not self.ready and not self.flying and not self.server.has_wait(self):
             self.transport.write(self.last)
             self.transport.close()
 
@@ -396,7 +399,7 @@ class Server:
             client = self._turns.popleft()
             client.in_turn = False
             if client.may_send:
-                flight = client.next()
+                flight = client.next_flight()
                 if flight is not None:
                     self.keeper.send(flight)
                 self._line_up(client)
