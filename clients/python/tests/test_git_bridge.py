@@ -19,6 +19,7 @@ sys.path.insert(0, os.path.dirname(os.path.dirname(os.path.abspath(__file__))))
 from wunthavel import bridge_folder, bridge_git, git_export, git_import
 from wunthavel.bridge_forms import Patterns, is_full_name
 from wunthavel.engine import EngineError, act, find_engine
+from wunthavel.progress import Progress
 from tests.support import running, wait_until
 
 PACKAGE = os.path.dirname(os.path.dirname(os.path.abspath(__file__)))
@@ -109,6 +110,12 @@ class Case(unittest.TestCase):
         git(self.source, "init", "-q", "-b", "main", *flags)
         return self.source
 
+    def init_other(self) -> str:
+        """Makes another source, without commits."""
+        other = os.path.join(self.room, "other")
+        git(self.room, "init", "-q", "-b", "main", other)
+        return other
+
     def commit(self, message: str, **files: Optional[str]) -> str:
         for name, text in files.items():
             path = os.path.join(self.source, name.replace("__", "/"))
@@ -157,8 +164,8 @@ class Case(unittest.TestCase):
         return self.call(git_export, self.store, self.dest, *words, status=status)
 
     def both_ways(self, *words: str) -> None:
-        """Brings the source into a history and gives it to git again: all is the same."""
-        self.bring(*words)
+        """Brings the source into a history and gives it to git again: all is the same, what nothing reaches too."""
+        self.bring("--unreached", *words)
         said = self.give(*words)
         self.assertEqual((said["fsck"], said["check"]), ("whole", "whole"))
         self.assertEqual(all_of(self.dest), all_of(self.source))
@@ -185,9 +192,10 @@ class Histories(Case):
 
     def test_sha256(self) -> None:
         self.merges("--object-format=sha256")
-        said = self.bring(status=1)
-        self.assertIn("--sha256", said["error"])
-        self.both_ways("--sha256")
+        self.both_ways()
+        self.assertEqual(len(git(self.dest, "rev-parse", "HEAD")), 64)
+        self.source = self.init_other()
+        self.assertIn("leave out --sha256", self.bring("--sha256", status=1)["error"])
 
     def test_packed_names_and_packed_objects(self) -> None:
         self.merges()
@@ -240,7 +248,7 @@ class Histories(Case):
         self.give()
         self.source, first = self.dest, self.store
         self.store = os.path.join(self.room, "again")
-        self.bring()
+        self.bring("--unreached")
         for part in ("objects", "logs", "packed-refs", "HEAD"):
             self.assertEqual(subprocess.call(["diff", "-r", os.path.join(first, part), os.path.join(self.store, part)]), 0)
 
@@ -361,7 +369,7 @@ class Increments(Case):
         def store_is_whole() -> None:
             if os.path.exists(os.path.join(self.store, "HEAD")):
                 # It recovers, and checks.
-                git_import.Store(self.store, False, None).make()
+                git_import.Store(self.store, False, None).make(Progress("opening", quiet=True))
 
         def dest_is_whole() -> None:
             if os.path.exists(os.path.join(self.dest, "HEAD")):
@@ -551,7 +559,6 @@ class NotHeldByAHistory(Case):
         with open(log, "rb") as it:
             line = it.read()
         for text, why in (
-            (line.partition(b"\t")[0] + b"\n", "no tab"),
             (line.rstrip(b"\n"), "no line feed"),
             (line[1:], "doesn't begin with two ids"),
             (line.rstrip(b"\n") + b"x" * 1025 + b"\n", "over 1024 bytes"),
@@ -562,10 +569,12 @@ class NotHeldByAHistory(Case):
                     it.write(text)
                 self.refused(why, "log of refs/heads/main")
 
-    def test_what_no_name_reaches_can_be_left_out(self) -> None:
+    def test_what_no_name_reaches_is_brought_if_it_is_asked_for(self) -> None:
         id = self.object("commit", commit_text(self.tree, b"encoding x"))
-        self.refused("no name and no log reaches it", id)
-        self.assertEqual(self.bring("--skip-refs", "nothing")["objects"], 3)
+        self.refused("an encoding", id, "--unreached")
+        said = self.bring("--unreached", status=1)["cannot_hold"]
+        self.assertEqual([(it["by"], "leave out --unreached" in it["hint"]) for it in said], [("no name and no log reaches it", True)])
+        self.assertEqual(self.bring()["objects"], 3)
 
     def test_a_shallow_clone(self) -> None:
         self.commit("two", b="b")

@@ -2,12 +2,15 @@
 import contextlib
 import fcntl
 import os
+import re
 import time
-from typing import ContextManager, Dict, Iterator, List, Optional, Set, Tuple
+from typing import ContextManager, Dict, Iterator, Optional, Set, Tuple
 
-from .bridge_forms import SHA1, SHA256, BridgeError, Hashing, Patterns, read_tag, shown
+from .bridge import Side
+from .bridge_forms import SHA1, SHA256, BridgeError, Hashing, read_tag, shown
 from .engine import act
 from .errors import Busy, Unfinished
+from .progress import Progress
 
 # How many seconds to wait for another process that works in a folder.
 WAIT = 5.0
@@ -45,11 +48,33 @@ def read_packed(text: bytes) -> Dict[bytes, bytes]:
 
 
 def read_names(folder: bytes) -> Dict[bytes, bytes]:
-    """Returns the ids by the names of a history's folder."""
+    """Returns the ids by the names of a history's folder. A lock is none."""
     names = read_packed(read_file(os.path.join(folder, b"packed-refs")) or b"")
     for name in files_below(folder, b"refs"):
-        names[name] = (read_file(os.path.join(folder, name)) or b"").strip()
+        if not name.endswith(b".lock"):
+            names[name] = (read_file(os.path.join(folder, name)) or b"").strip()
+    for name, digits in names.items():
+        if not re.fullmatch(rb"(?:[0-9a-f]{40}|[0-9a-f]{64})", digits):
+            raise BridgeError(f"{shown(folder)}: the name {shown(name)} holds no id")
     return {name: bytes.fromhex(digits.decode()) for name, digits in names.items()}
+
+
+def loose_objects(objects: bytes) -> Iterator[bytes]:
+    """Returns the digits of the ids of the objects that have files in a folder of objects."""
+    with contextlib.suppress(FileNotFoundError, NotADirectoryError):
+        for beginning in sorted(os.listdir(objects)):
+            if len(beginning) == 2:
+                for rest in os.listdir(os.path.join(objects, beginning)):
+                    yield beginning + rest
+
+
+def is_history(folder: bytes) -> bool:
+    """Returns whether the folder's objects are a history's. Git's are compressed, and none begins like these."""
+    objects = os.path.join(folder, b"objects")
+    for digits in loose_objects(objects):
+        with open(os.path.join(objects, digits[:2], digits[2:]), "rb", 0) as it:
+            return re.match(rb"(?:blob|tree|commit|tag) [0-9]+\0", it.read(40)) is not None
+    return False
 
 
 def read_logs(folder: bytes) -> Dict[bytes, bytes]:
@@ -58,13 +83,20 @@ def read_logs(folder: bytes) -> Dict[bytes, bytes]:
     return {it[5:]: read_file(os.path.join(folder, it)) or b"" for it in logs}
 
 
+def remove_empty_folders(path: bytes) -> None:
+    """Removes the folders at and below a path that no file is in. Git and the engine leave them where names were, and a name can come there."""
+    for at, _, _ in os.walk(path, topdown=False):
+        with contextlib.suppress(OSError):
+            os.rmdir(at)
+
+
 @contextlib.contextmanager
-def held(folder: bytes, alone: bool) -> Iterator[None]:
-    """Holds a folder by the system's lock: alone, or with others that only read it. It goes with the process."""
+def held(folder: bytes, alone: bool) -> Iterator[int]:
+    """Holds a folder, which it opens, by the system's lock: alone, or with others that only read it. It goes with the process."""
     at = os.open(folder, os.O_RDONLY)
     try:
         _lock(folder, at, fcntl.LOCK_EX if alone else fcntl.LOCK_SH)
-        yield
+        yield at
     finally:
         os.close(at)
 
@@ -93,37 +125,46 @@ class Store:
 
     # The whole folder.
 
-    def held(self, alone: bool) -> ContextManager[None]:
+    def held(self, alone: bool) -> ContextManager[int]:
         """Holds the folder by the lock that engines take too: alone, or with others that only read it."""
         return held(self.path, alone)
 
-    def check(self) -> None:
-        """Has the engine say whether the folder is whole; `Refused` and `Fault` say why it isn't."""
-        self._act("check")
+    def exists(self) -> bool:
+        """Returns whether there is a history."""
+        return os.path.exists(os.path.join(self.path, b"HEAD"))
 
-    def _act(self, action: str) -> None:
+    def is_stopped(self) -> bool:
+        """Returns whether there is a file that a stopped run left."""
+        files = [*os.listdir(self.path), *files_below(self.path, b"refs"), *files_below(self.path, b"logs")]
+        return any(it.endswith(b".lock") for it in files) or os.path.exists(os.path.join(self._objects, b"unfinished"))
+
+    def check(self, bar: Progress) -> None:
+        """Has the engine say whether the folder is whole; `Refused` and `Fault` say why it isn't."""
+        self._act("check", bar)
+
+    def _act(self, action: str, bar: Progress) -> None:
         """Has the engine do something, once nobody else works in the folder."""
         end = time.monotonic() + WAIT
         while True:
             try:
-                act(action, self.folder, self.sha256, self.engine)
+                act(action, self.folder, self.sha256, self.engine, lambda: bar.step(0))
                 return
             except Busy:
                 if time.monotonic() > end:
                     raise
                 time.sleep(0.02)
 
-    def make(self) -> None:
+    def make(self, bar: Progress) -> None:
         """Makes the folder, and a history in it, if none is there, and takes away what a stop left; else it must be whole."""
         os.makedirs(self.folder, exist_ok=True)
-        if read_file(os.path.join(self.path, b"HEAD")) is None:
-            self._act("create")
+        if not self.exists():
+            self._act("create", bar)
             return
         try:
-            self.check()
+            self.check(bar)
         except Unfinished:
-            self._act("recover")
-            self.check()
+            self._act("recover", bar)
+            self.check(bar)
 
     # Names.
 
@@ -131,27 +172,23 @@ class Store:
         """Returns the branch that HEAD names."""
         return (read_file(os.path.join(self.path, b"HEAD")) or b"").strip()[5:]
 
-    def names(self) -> Dict[bytes, bytes]:
-        """Returns the ids by the names."""
-        return read_names(self.path)
+    def side(self) -> Side:
+        """Returns the names and logs."""
+        return Side(read_names(self.path), read_logs(self.path))
 
-    def logs(self) -> Dict[bytes, bytes]:
-        """Returns the logs by the names."""
-        return read_logs(self.path)
-
-    def write_names(self, names: Dict[bytes, bytes], gone: Set[bytes], peeled: Dict[bytes, bytes]) -> None:
+    def write_names(self, names: Dict[bytes, bytes], gone: Set[bytes]) -> None:
         """Deletes names with their logs, and gives others these ids: all at once if none of them has a file of its own."""
         for name in gone:
             self._remove(b"logs/" + name)
         if gone:
-            self._repack({name: id for name, id in self.names().items() if name not in gone}, gone, peeled)
-        self._repack({**self.names(), **names}, set(names), peeled)
+            self._repack({name: id for name, id in read_names(self.path).items() if name not in gone}, gone)
+        self._repack({**read_names(self.path), **names}, set(names))
 
-    def _repack(self, names: Dict[bytes, bytes], own: Set[bytes], peeled: Dict[bytes, bytes]) -> None:
+    def _repack(self, names: Dict[bytes, bytes], own: Set[bytes]) -> None:
         lines = []
         for name, id in sorted(names.items()):
             lines.append(b"%s %s\n" % (id.hex().encode(), name))
-            commit = peeled.get(id) or self._peeled(id)
+            commit = self._peeled(id)
             if commit:
                 lines.append(b"^%s\n" % commit.hex().encode())
         write_file(os.path.join(self.path, b"packed-refs"), HEADER + b"".join(lines))
@@ -168,7 +205,9 @@ class Store:
 
     def write_log(self, name: bytes, log: bytes) -> None:
         """Writes a name's log."""
-        write_file(os.path.join(self.path, b"logs", name), log)
+        path = os.path.join(self.path, b"logs", name)
+        remove_empty_folders(path)
+        write_file(path, log)
 
     def write_head(self, branch: bytes) -> None:
         """Has HEAD name the branch."""
@@ -176,23 +215,13 @@ class Store:
 
     # Objects.
 
-    def ids(self) -> List[bytes]:
+    def ids(self) -> Iterator[bytes]:
         """Returns the ids of all objects."""
-        found = []
-        with contextlib.suppress(FileNotFoundError):
-            for beginning in sorted(os.listdir(self._objects)):
-                if len(beginning) == 2:
-                    for rest in os.listdir(os.path.join(self._objects, beginning)):
-                        found.append(bytes.fromhex((beginning + rest).decode()))
-        return found
+        return (bytes.fromhex(it.decode()) for it in loose_objects(self._objects) if len(it) == 2 * self.hashing.width)
 
     def _place(self, id: bytes) -> bytes:
         digits = id.hex().encode()
         return os.path.join(self._objects, digits[:2], digits[2:])
-
-    def has(self, id: bytes) -> bool:
-        """Returns whether the object is there."""
-        return os.path.exists(self._place(id))
 
     def read(self, id: bytes) -> Tuple[str, bytes]:
         """Returns an object's kind and content."""
@@ -224,10 +253,3 @@ class Store:
         finally:
             os.close(at)
         os.rename(unfinished, place)
-
-
-def left_out(names: Dict[bytes, bytes], logs: Dict[bytes, bytes], skip: Patterns) -> Tuple[Dict[bytes, bytes], Dict[bytes, bytes], List[str]]:
-    """Returns the names and logs without those that the patterns leave out, and these names."""
-    out = {it for it in names if skip.has(it)}
-    kept = {name: id for name, id in names.items() if name not in out}
-    return kept, {name: log for name, log in logs.items() if name in kept}, sorted(map(shown, out))

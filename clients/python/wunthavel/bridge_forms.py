@@ -15,6 +15,9 @@ FOLDER, LINK, COMMIT = b"40000", b"120000", b"160000"
 MODES = (FOLDER, b"100644", b"100755", LINK)
 
 
+_DIGESTS = {"sha1": hashlib.sha1, "sha256": hashlib.sha256}
+
+
 @dataclass(frozen=True)
 class Hashing:
     """A kind of ids: its name in git and how many bytes an id has."""
@@ -24,7 +27,7 @@ class Hashing:
 
     def id_of(self, kind: str, content: bytes) -> bytes:
         """Returns the object's id."""
-        digest = hashlib.new(self.name, b"%s %d\0" % (kind.encode(), len(content)))
+        digest = _DIGESTS[self.name](b"%s %d\0" % (kind.encode(), len(content)))
         digest.update(content)
         return digest.digest()
 
@@ -43,13 +46,15 @@ SHA1, SHA256 = Hashing("sha1", 20), Hashing("sha256", 32)
 
 
 class Problem(NamedTuple):
-    """What one side can't hold: the object, name or line, and the reason."""
+    """What one side can't hold: the object, name or line, the reason, what reaches the object, and what to do."""
 
     where: str
     why: str
+    by: str = ""
+    hint: str = ""
 
     def __str__(self) -> str:
-        return f"{self.where}: {self.why}"
+        return f"{self.where}{self.by and ' (' + self.by + ')'}: {self.why}"
 
 
 class CannotHold(HistoryError):
@@ -58,6 +63,17 @@ class CannotHold(HistoryError):
     def __init__(self, problems: Sequence[Problem]) -> None:
         self.problems = list(problems)
         super().__init__("\n".join(map(str, self.problems)))
+
+    def lines(self) -> Iterator[str]:
+        """Returns the problems as a person reads them: those with one reason together, as their count and the first of them."""
+        alike: Dict[Tuple[str, str], List[Problem]] = {}
+        for it in self.problems:
+            alike.setdefault((it.why, it.hint), []).append(it)
+        for (_, hint), them in alike.items():
+            more = f" (and {len(them) - 1:,} more like it)" if len(them) > 1 else ""
+            yield f"  {them[0]}{more}"
+            if hint:
+                yield f"    {hint}"
 
 
 class BridgeError(HistoryError):
@@ -108,18 +124,18 @@ class Patterns:
         for it in patterns:
             parts = "".join(".*" if c == "*" else "." if c == "?" else re.escape(c) for c in it.rstrip("/"))
             self._tests.append((it, re.compile(parts.encode("utf-8", "surrogateescape") + rb"(?:/.*)?\Z", re.S)))
-        self.used: Dict[str, int] = {it: 0 for it, _ in self._tests}
+        self._unused = {it for it, _ in self._tests}
 
     def has(self, name: bytes) -> bool:
         """Returns whether the name is left out."""
-        for it, test in self._tests:
-            if test.match(name):
-                self.used[it] += 1
-                return True
-        return False
+        found = {it for it, test in self._tests if test.match(name)}
+        self._unused -= found
+        return bool(found)
 
-    def __bool__(self) -> bool:
-        return bool(self._tests)
+    def test_use(self) -> None:
+        """Refuses patterns that left out no name."""
+        if self._unused:
+            raise BridgeError(f"--skip-refs leaves out no name: {', '.join(sorted(self._unused))}")
 
 
 # Actors.
@@ -150,9 +166,9 @@ def actor_problem(text: bytes) -> Optional[str]:
     if problem:
         return problem
     if seconds.startswith(b"-"):
-        return f"the time is negative ({seconds.decode()})"
-    if len(seconds) > 1 and seconds.startswith(b"0") or int(seconds) > MAX_SECONDS:
-        return f"the seconds {seconds.decode()} have a leading zero or are over {MAX_SECONDS}"
+        return f"the time is negative ({shown(seconds[:20])})"
+    if len(seconds) > 1 and seconds.startswith(b"0") or len(seconds) > 19 or int(seconds) > MAX_SECONDS:
+        return f"the seconds {shown(seconds[:20])} have a leading zero or are over {MAX_SECONDS}"
     if offset == b"-0000" or offset[3:4] > b"5":
         return f"the offset {offset.decode()} is none"
     return None
@@ -165,6 +181,13 @@ def git_time_problem(actor: bytes) -> Optional[str]:
     if 0 <= int(seconds) + shift <= MAX_SECONDS:
         return None
     return f"the seconds {seconds.decode()} with the offset {offset.decode()} are outside git's range"
+
+
+def git_commit_problem(commit: "Commit") -> Optional[str]:
+    """Returns why git can't hold a commit that a history holds."""
+    if b"\0" in commit.message:
+        return "its message holds a zero byte"
+    return git_time_problem(commit.author) or git_time_problem(commit.committer)
 
 
 # Objects.
@@ -193,11 +216,11 @@ class Tag(NamedTuple):
 
 
 def _header_lines(content: bytes) -> Tuple[List[bytes], bytes]:
-    """Returns the lines before the empty one, continuation lines left out, and what follows it."""
+    """Returns the lines before the empty one, and what follows it. A line that begins with a space goes on with a header that no history has."""
     head, found, message = content.partition(b"\n\n")
     if not found:
         raise ValueError("it has no empty line before a message")
-    return [it for it in head.split(b"\n") if not it.startswith(b" ")], message
+    return head.split(b"\n"), message
 
 
 def _id_in(line: bytes, word: bytes, hashing: Hashing) -> bytes:
@@ -341,9 +364,7 @@ def log_lines(log: bytes) -> List[bytes]:
 
 
 def _log_line_problem(line: bytes, hashing: Hashing) -> Optional[str]:
-    moved, found, message = line[:-1].partition(b"\t")
-    if not found:
-        return "it has no tab, as git writes a move without a message"
+    moved, _, message = line[:-1].partition(b"\t")
     width = 2 * hashing.width
     ids = moved[:width] + moved[width + 1 : 2 * width + 1]
     if len(ids) != 2 * width or ids.strip(b"0123456789abcdef") or moved[width : width + 1] != b" " or moved[2 * width + 1 : 2 * width + 2] != b" ":
@@ -361,6 +382,11 @@ def log_problems(name: bytes, log: bytes, hashing: Hashing) -> Iterator[Problem]
         problem = _log_line_problem(line, hashing)
         if problem:
             yield Problem(f"log of {shown(name)}, line {number}", problem)
+
+
+def with_titles(log: bytes) -> bytes:
+    """Returns a log as a history has it: git reads a line without a tab, as it writes for a move without a message, as one with an empty title."""
+    return re.sub(rb"(?m)^([^\t\n]*)\n", rb"\1\t\n", log)
 
 
 def log_ids(log: bytes, hashing: Hashing) -> Iterator[bytes]:

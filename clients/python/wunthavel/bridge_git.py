@@ -1,21 +1,29 @@
 """A git repository, read and written by git itself."""
 import contextlib
 import hashlib
+import io
 import os
 import re
 import subprocess
+import tempfile
 import threading
 import zlib
-from typing import ContextManager, Dict, Iterable, Iterator, List, Optional, Tuple
+from typing import IO, Dict, Iterable, Iterator, List, Tuple
 
-from .bridge_folder import files_below, held, read_logs
-from .bridge_forms import SHA1, SHA256, BridgeError, Hashing, Problem, shown
+from .bridge import Bars
+from .bridge_folder import files_below, is_history, read_logs, remove_empty_folders
+from .bridge_forms import SHA1, SHA256, BridgeError, Hashing, shown
+from .progress import Progress
 
-# What would have git look elsewhere than at the repository that is named.
-OWN = ("GIT_DIR", "GIT_WORK_TREE", "GIT_INDEX_FILE", "GIT_OBJECT_DIRECTORY", "GIT_ALTERNATE_OBJECT_DIRECTORIES", "GIT_COMMON_DIR", "GIT_NAMESPACE")
+# What would have git look elsewhere than at the repository that is named, or make another one than is asked for.
+OWN = (
+    *("GIT_DIR", "GIT_WORK_TREE", "GIT_INDEX_FILE", "GIT_OBJECT_DIRECTORY", "GIT_ALTERNATE_OBJECT_DIRECTORIES", "GIT_COMMON_DIR", "GIT_NAMESPACE"),
+    *("GIT_SHALLOW_FILE", "GIT_GRAFT_FILE", "GIT_REPLACE_REF_BASE", "GIT_DEFAULT_HASH", "GIT_DEFAULT_REF_FORMAT"),
+)
 KINDS = {"commit": 1, "tree": 2, "blob": 3, "tag": 4}
 # Git itself keeps fewer objects than these as files of their own.
 FEW = 100
+PIPE = 1 << 18
 # What an export's lock of a log is a link to. Git's own locks are files.
 MARK = b"wunthavel git-export"
 
@@ -44,8 +52,13 @@ class Git:
         self._env = {**{name: it for name, it in os.environ.items() if name not in OWN}, "LC_ALL": "C", "GIT_NO_REPLACE_OBJECTS": "1"}
         self._env["GIT_OPTIONAL_LOCKS"] = "0"
         fixed = ["-c", "gc.auto=0", "-c", "core.logAllRefUpdates=false", "-c", "core.hooksPath=/dev/null", "-c", "core.quotePath=false"]
-        self._words = ["git", *fixed, "-C", folder]
+        self._fixed = ["git", *fixed]
         self.broken: List[bytes] = []
+        self.is_open = False
+
+    @property
+    def _words(self) -> List[str]:
+        return [*self._fixed, "-C", self.folder]
 
     def run(self, *words: str, given: bytes = b"") -> bytes:
         """Returns what git writes; a BridgeError says what it complains of."""
@@ -64,7 +77,10 @@ class Git:
     def _process(self, words: List[str]) -> Iterator["subprocess.Popen[bytes]"]:
         """Runs git beside this process, and ends it with the block."""
         pipe = subprocess.PIPE
-        process = subprocess.Popen([*self._words, *words], stdin=pipe, stdout=pipe, stderr=pipe, env=self._env)
+        try:
+            process = subprocess.Popen(words, stdin=pipe, stdout=pipe, stderr=pipe, env=self._env, bufsize=PIPE)
+        except FileNotFoundError:
+            raise BridgeError("there is no git on PATH") from None
         try:
             yield process
         finally:
@@ -83,24 +99,45 @@ class Git:
         # A git that knows one kind alone gives the question back.
         self.hashing: Hashing = SHA256 if kind == "sha256" else SHA1
         self.path = os.path.join(os.fsencode(self.folder), self.run("rev-parse", "--git-common-dir").rstrip(b"\n"))
+        if is_history(self.path):
+            raise BridgeError(f"{self.folder} is a history's folder, and no git repository")
         self.is_bare = self.run("rev-parse", "--is-bare-repository").strip() == b"true"
+        self.is_shallow = os.path.exists(os.path.join(self.path, b"shallow"))
+        self.is_open = True
 
     def make(self, hashing: Hashing) -> None:
-        """Makes a bare repository."""
+        """Makes a bare repository, and opens it."""
         os.makedirs(self.folder, exist_ok=True)
         self.run("init", "--quiet", "--bare", "--template=", *(["--object-format=sha256"] if hashing == SHA256 else []), ".")
+        self.open()
 
-    def held(self) -> ContextManager[None]:
-        """Holds the folder against other exports."""
-        return held(self.path, True)
-
-    def fsck(self) -> List[str]:
+    def fsck(self, bar: Progress) -> List[str]:
         """Returns what `git fsck --strict` complains of; nothing if the repository is whole."""
-        done = self._start(["fsck", "--strict", "--no-dangling", "--no-progress"])
-        if not done.returncode:
-            return []
-        lines = (done.stderr + done.stdout).decode(errors="replace").splitlines()
-        return [it for it in lines if not it.startswith("notice: ")] or [f"git fsck ended with status {done.returncode}"]
+        status, said = self._told([*self._words, "fsck", "--strict", "--no-dangling", "--progress"], (), bar)
+        lines = [it for it in said.splitlines() if not it.startswith("notice: ")]
+        return lines or [f"git fsck ended with status {status}"] if status else []
+
+    def clone(self, source: str, bar: Progress) -> None:
+        """Makes the folder, which must be empty, a mirror of what git can clone."""
+        status, said = self._told([*self._fixed, "clone", "--mirror", "--progress", "--", source, self.folder], (), bar)
+        if status:
+            raise BridgeError(f"git clone {source}: {said}")
+
+    def _told(self, words: List[str], given: Iterable[bytes], bar: Progress) -> Tuple[int, str]:
+        """Gives git these parts, and returns its status and what it says. The bar shows its progress."""
+        with self._process(words) as process:
+            assert process.stdin and process.stdout and process.stderr
+            said: List[str] = []
+            listening = [threading.Thread(target=_listen, args=(it, said, bar), daemon=True) for it in (process.stdout, process.stderr)]
+            for it in listening:
+                it.start()
+            with contextlib.suppress(BrokenPipeError), process.stdin:
+                for part in given:
+                    process.stdin.write(part)
+            status = process.wait()
+            for it in listening:
+                it.join()
+            return status, "\n".join(said)
 
     # Names.
 
@@ -143,6 +180,7 @@ class Git:
     def write_log(self, name: bytes, log: bytes) -> None:
         """Writes a name's log, under the lock under which git rewrites one. Other exports are kept away by `held`."""
         path, new = os.path.join(self.path, b"logs", name), os.path.join(self.path, b"wunthavel-log")
+        remove_empty_folders(path)
         os.makedirs(os.path.dirname(path), exist_ok=True)
         with locked(path + b".lock"):
             with open(new, "wb") as it:
@@ -155,21 +193,28 @@ class Git:
 
     # Objects.
 
+    def count(self) -> int:
+        """Returns how many objects there are, if none is there twice."""
+        said = dict(it.split(b": ") for it in self.run("count-objects", "-v").splitlines() if b": " in it)
+        return int(said[b"count"]) + int(said[b"in-pack"])
+
     def objects(self) -> Iterator[Tuple[bytes, str, int]]:
         """Returns id, kind and length of each object."""
         words = ["cat-file", "--batch-all-objects", "--unordered", "--batch-check=%(objectname) %(objecttype) %(objectsize)"]
-        with self._process(words) as process:
+        with self._process([*self._words, *words]) as process:
             assert process.stdin and process.stdout and process.stderr
             process.stdin.close()
             for line in process.stdout:
-                id, kind, length = line.split()
-                yield bytes.fromhex(id.decode()), kind.decode(), int(length)
+                id, kind, *length = line.split()
+                # Git says `missing` of a file that holds no object.
+                if length:
+                    yield bytes.fromhex(id.decode()), kind.decode(), int(length[0])
             if process.wait():
                 raise BridgeError(f"git cat-file in {self.folder}: {process.stderr.read().decode(errors='replace').strip()}")
 
     def read(self, ids: Iterable[bytes]) -> Iterator[Tuple[bytes, str, bytes]]:
         """Returns id, kind and content of these objects, in their order. A BridgeError names an object whose bytes have another id."""
-        with self._process(["cat-file", "--batch", "--buffer"]) as process:
+        with self._process([*self._words, "cat-file", "--batch", "--buffer"]) as process:
             assert process.stdin and process.stdout
             given, out = process.stdin, process.stdout
 
@@ -193,26 +238,26 @@ class Git:
             if process.wait():
                 raise BridgeError(f"git cat-file in {self.folder} ended with status {process.returncode}")
 
-    def add(self, count: int, objects: Iterable[Tuple[str, bytes]]) -> None:
+    def add(self, count: int, objects: Iterable[Tuple[str, bytes]], bar: Progress) -> None:
         """Adds so many objects: git tests all of them, and then takes all or none, as one pack, or as files if they are few."""
-        words = ["unpack-objects", "-q", "--strict"] if count < FEW else ["index-pack", "--stdin", "--strict", "--fix-thin"]
-        with self._process(words) as process:
-            assert process.stdin and process.stdout and process.stderr
-            said: List[bytes] = []
-            listening = [threading.Thread(target=lambda it=it: said.append(it.read()), daemon=True) for it in (process.stdout, process.stderr)]
-            for it in listening:
-                it.start()
-            try:
-                for part in packed(count, objects, self.hashing):
-                    process.stdin.write(part)
-                process.stdin.close()
-            except BrokenPipeError:
-                pass
-            status = process.wait()
-            for it in listening:
-                it.join()
-            if status:
-                raise BridgeError(f"git {words[0]} in {self.folder}: {b''.join(said).decode(errors='replace').strip()}")
+        words = ["unpack-objects", "-q", "--strict"] if count < FEW else ["index-pack", "-v", "--stdin", "--strict", "--fix-thin"]
+        status, said = self._told([*self._words, *words], packed(count, objects, self.hashing), bar)
+        if status:
+            raise BridgeError(f"git {words[0]} in {self.folder}: {said}")
+
+
+# What git says of its progress.
+_PART = re.compile(r"(?:remote: )?([A-Z][a-z ]+): +[0-9]+% \(([0-9]+)/([0-9]+)\)")
+
+
+def _listen(stream: IO[bytes], said: List[str], bar: Progress) -> None:
+    """Takes the lines that git writes, and has the bar show those that say how far it is."""
+    for line in io.TextIOWrapper(stream, encoding="utf-8", errors="replace"):
+        found = _PART.match(line)
+        if found:
+            bar.show(found[1].lower(), int(found[2]), int(found[3]))
+        elif line.strip():
+            said.append(line.rstrip("\n"))
 
 
 def packed(count: int, objects: Iterable[Tuple[str, bytes]], hashing: Hashing) -> Iterator[bytes]:
@@ -239,7 +284,14 @@ def entry_head(kind: int, length: int) -> bytes:
     return bytes(head)
 
 
-def symbolic_problems(symbolic: Dict[bytes, bytes]) -> Iterator[Problem]:
-    """Names each symbolic name."""
-    for name, target in sorted(symbolic.items()):
-        yield Problem(shown(name), f"the name is symbolic, for {shown(target)}")
+@contextlib.contextmanager
+def source(place: str, bars: Bars) -> Iterator[Git]:
+    """Opens a git repository to read it. What is no folder here, as a URL or a bundle, git clones into a mirror, which goes at the end."""
+    with contextlib.ExitStack() as room:
+        git = Git(place)
+        if not os.path.isdir(place):
+            git = Git(room.enter_context(tempfile.TemporaryDirectory(prefix="wunthavel-mirror-")))
+            with bars.during("cloning") as bar:
+                git.clone(place, bar)
+        git.open()
+        yield git

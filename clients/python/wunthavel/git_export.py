@@ -6,35 +6,41 @@ it, then names move in one transaction, then logs are written: a command that wa
 import contextlib
 import os
 import shutil
-from typing import Any, Dict, Iterator, List, Optional, Sequence, Set, Tuple
+from typing import Any, Dict, Iterator, List, Optional, Sequence
 
-from .bridge import Bars, Changes, Links, Side, changes, is_reached, links_of, reached, report, words_of
-from .bridge_folder import Store, left_out
-from .bridge_forms import BridgeError, CannotHold, Patterns, Problem, git_entry_problem, git_time_problem, log_ids, log_lines
+from .bridge import Bars, Changes, Options, Side, compared, is_reached, links_of, options_of, reached, report, test_changes, words_of
+from .bridge_folder import Store, held
+from .bridge_forms import BridgeError, CannotHold, Hashing, Patterns, Problem, git_commit_problem, git_entry_problem, git_time_problem, log_ids, log_lines
 from .bridge_forms import read_commit, read_tag, read_tree, shown
 from .bridge_git import Git
+from .engine import is_sha256
 
 
 class Export:
     """One export."""
 
-    def __init__(self, store: Store, skip: Patterns, bars: Bars) -> None:
-        self.store, self.skip, self.bars = store, skip, bars
+    def __init__(self, store: Store, asked: Options, bars: Bars) -> None:
+        self.store, self.asked, self.bars = store, asked, bars
         self.hashing = store.hashing
+        self.skip = Patterns(asked.skip_refs)
         self.problems: List[Problem] = []
-        self.kinds: Dict[bytes, str] = {}
-        self.links: Dict[bytes, Links] = {}
+        self.count = {"commit": 0, "tree": 0, "blob": 0, "tag": 0}
 
     def read_names(self) -> None:
         """Reads HEAD, names and logs, without those that are left out."""
-        names, logs, self.skipped = left_out(self.store.names(), self.store.logs(), self.skip)
-        self.side = Side(names, logs)
+        both = self.store.side()
+        self.side = both.without(self.skip, logs=not self.asked.no_logs)
+        self.skipped = sorted(map(shown, both.names.keys() - self.side.names.keys()))
         self.head = None if self.skip.has(b"HEAD") else self.store.head()
+        self.skip.test_use()
         self.ids = set(self.store.ids())
-        for name, id in sorted(names.items()):
+
+    def test_names(self) -> None:
+        """Names the branches and logs that git can't hold."""
+        for name, id in sorted(self.side.names.items()):
             if name.startswith(b"refs/heads/") and self.store.kind_of(id)[0] == "tag":
                 self.problems.append(Problem(shown(name), f"the branch holds a tag, {id.hex()}"))
-        for name, log in sorted(logs.items()):
+        for name, log in sorted(self.side.logs.items()):
             self._test_log(name, log)
 
     def _test_log(self, name: bytes, log: bytes) -> None:
@@ -46,35 +52,26 @@ class Export:
 
     # What is brought.
 
-    def choose(self, there: Set[bytes]) -> List[bytes]:
-        """Returns the objects that git lacks, and tests them."""
-        wanted = self.ids
-        if self.skip:
-            tips = {*self.side.names.values(), *(id for log in self.side.logs.values() for id in log_ids(log, self.hashing))}
-            wanted = reached(tips, self._links)
-        missing = sorted(wanted - there)
+    def missing(self, git: Git) -> List[bytes]:
+        """Returns the objects that git lacks."""
+        lacking = self.ids - {id for id, _, _ in git.objects()} if git.is_open else self.ids
+        if lacking and self.asked.skip_refs:
+            lacking = lacking & reached(self.side.tips(self.hashing), self._links)
+        return sorted(lacking)
+
+    def test_objects(self, missing: Sequence[bytes]) -> None:
+        """Names the objects that git can't hold."""
         for id in self.bars.over(missing, "reading objects", len(missing)):
-            self._test(id)
+            kind, content = self.store.read(id)
+            self.count[kind] += 1
+            why = self._problem(kind, content)
+            if why:
+                self.problems.append(Problem(f"{kind} {id.hex()}", why))
         if self.problems:
             raise CannotHold(sorted(self.problems))
-        return missing
 
-    def _kind(self, id: bytes) -> str:
-        if id not in self.kinds:
-            self.kinds[id] = self.store.kind_of(id)[0]
-        return self.kinds[id]
-
-    def _links(self, id: bytes) -> Links:
-        if id not in self.links:
-            kind, content = self.store.read(id)
-            self.links[id] = links_of(kind, content, self.hashing)
-        return self.links[id]
-
-    def _test(self, id: bytes) -> None:
-        kind = self._kind(id)
-        why = None if kind == "blob" else self._problem(kind, self.store.read(id)[1])
-        if why:
-            self.problems.append(Problem(f"{kind} {id.hex()}", why))
+    def _links(self, id: bytes) -> Sequence[bytes]:
+        return [] if self.store.kind_of(id)[0] == "blob" else links_of(*self.store.read(id), self.hashing)
 
     def _problem(self, kind: str, content: bytes) -> Optional[str]:
         if kind == "tree":
@@ -82,102 +79,123 @@ class Export:
             return next(filter(None, found), None)
         if kind == "tag":
             return git_time_problem(read_tag(content, self.hashing).tagger or b"  0 +0000")
-        commit = read_commit(content, self.hashing)
-        if b"\0" in commit.message:
-            return "its message holds a zero byte"
-        return git_time_problem(commit.author) or git_time_problem(commit.committer)
+        return git_commit_problem(read_commit(content, self.hashing)) if kind == "commit" else None
 
-    def follows(self, old: bytes, new: bytes) -> bool:
-        """Returns whether a commit comes after another one."""
-        both = old in self.ids and self._kind(old) == self._kind(new) == "commit"
-        return both and is_reached(old, new, lambda id: self._links(id).commits)
+    def compare(self, old: Side, where: str) -> Changes:
+        """Returns what is to be written over what git has."""
+        now = compared(self.side, old, self.asked.prune)
+        test_changes(now, old, self._follows, self.asked, where)
+        return now
+
+    def _follows(self, old: bytes, new: bytes) -> bool:
+        both = old in self.ids and self.store.kind_of(old)[0] == self.store.kind_of(new)[0] == "commit"
+        return both and is_reached(old, new, lambda id: read_commit(self.store.read(id)[1], self.hashing).parents)
 
     # What is written.
 
-    def objects(self, ids: Sequence[bytes]) -> Iterator[Tuple[str, bytes]]:
-        """Returns kind and content of these objects."""
-        for id in self.bars.over(ids, "writing objects", len(ids)):
-            yield self.store.read(id)
-
-    def write(self, git: Git, missing: Sequence[bytes], now: Changes, old: Dict[bytes, bytes]) -> None:
-        """Gives git objects, then names, then logs, then HEAD."""
-        with git.held():
-            if missing:
-                git.add(len(missing), self.objects(missing))
-            git.move_names(now.names, old, now.gone)
-            for name, log in now.logs.items():
-                git.write_log(name, log)
-            if self.head is not None and git.head() != (self.head, True):
-                git.write_head(self.head)
+    def write(self, git: Git, missing: Sequence[bytes], now: Changes, old: Side) -> None:
+        """Gives git objects, then names, then logs, then HEAD; and has git look at all of it."""
+        if not git.is_open:
+            git.make(self.hashing)
+        if missing:
+            with self.bars.during("writing objects") as bar:
+                git.add(len(missing), (self.store.read(id) for id in missing), bar)
+        git.move_names(now.names, old.names, now.gone)
+        for name, log in now.logs.items():
+            git.write_log(name, log)
+        if self.head is not None and git.head() != (self.head, True):
+            git.write_head(self.head)
+        with self.bars.during("git fsck --strict") as bar:
+            complaints = git.fsck(bar)
+        if complaints:
+            raise BridgeError(f"git fsck --strict in {git.folder}: {'; '.join(complaints[:20])}")
 
     def summary(self, missing: Sequence[bytes], now: Changes) -> Dict[str, Any]:
         """Returns what was done."""
-        count = {kind: sum(self._kind(id) == kind for id in missing) for kind in ("commit", "tree", "blob", "tag")}
         rest = {"skipped": self.skipped, "only_in_git": now.left}
-        return {"done": True, "objects": len(missing), "kinds": count, "names": len(now.names), "deleted": len(now.gone), "logs": len(now.logs), **rest}
+        kinds = {"objects": len(missing), "kinds": self.count}
+        return {"done": True, **kinds, "names": len(now.names), "deleted": len(now.gone), "logs": len(now.logs), **rest}
 
 
-def _is_new(dest: str) -> bool:
-    return not os.path.exists(dest) or os.path.isdir(dest) and not os.listdir(dest)
-
-
-def _clear(folder: str) -> None:
-    with contextlib.suppress(OSError):
-        for it in os.listdir(folder):
-            shutil.rmtree(os.path.join(folder, it), ignore_errors=True)
-            with contextlib.suppress(OSError):
-                os.remove(os.path.join(folder, it))
-        os.rmdir(folder)
-
-
-def _open(dest: str, store: Store) -> Git:
-    git = Git(dest)
-    git.open()
-    if not git.is_bare:
-        raise BridgeError(f"{dest} isn't bare: an export would move the branch under its files")
-    if git.hashing != store.hashing:
-        raise BridgeError(f"{dest} has ids of {git.hashing.name}, and {store.folder} has others")
+def _opened(folder: str, hashing: Hashing) -> Git:
+    """Opens the repository to write to; a folder without files is one that isn't made yet."""
+    git = Git(folder)
+    if os.listdir(folder):
+        git.open()
+        if not git.is_bare:
+            raise BridgeError(f"{folder} isn't bare: an export would move the branch under its files")
+        if git.is_shallow:
+            raise BridgeError(f"{folder} is shallow: git would show only a part of what it is given (git fetch --unshallow makes it whole)")
+        if git.hashing != hashing:
+            raise BridgeError(f"{folder} has ids of {git.hashing.name}, and the history has others")
     return git
 
 
-def git_export(
-    folder: str,
-    dest: str,
-    sha256: bool = False,
-    skip_refs: Sequence[str] = (),
-    force: bool = False,
-    prune: bool = False,
-    dry_run: bool = False,
-    engine: Optional[str] = None,
-    bars: Optional[Bars] = None,
-) -> Dict[str, Any]:
-    """Exports a history, and returns a summary. `CannotHold` names what git can't hold; then nothing was written."""
-    store, bars = Store(folder, sha256, engine), bars or Bars(quiet=True)
-    with store.held(alone=False):
-        with bars.during("checking the folder"):
-            store.check()
-        work, is_new = Export(store, Patterns(skip_refs), bars), _is_new(dest)
+@contextlib.contextmanager
+def destination(dest: str, hashing: Hashing) -> Iterator[Git]:
+    """Opens the repository to write to, and keeps other exports away. A new one is made beside its place, and comes there whole: if the block fails,
+    what was made goes, and nothing else does."""
+    place = os.path.realpath(dest)
+    beside = place + ".unfinished"
+    while not os.path.lexists(place):
+        os.makedirs(beside, exist_ok=True)
+        with held(os.fsencode(beside), True) as at:
+            # Another export may have brought it to the place, or removed it, while it was waited for.
+            if not _is_at(at, beside):
+                continue
+            try:
+                _clear(beside)
+                yield _opened(beside, hashing)
+                os.rename(beside, place)
+            except BaseException:
+                shutil.rmtree(beside, ignore_errors=True)
+                raise
+            return
+    with held(os.fsencode(place), True):
+        yield _opened(place, hashing)
+
+
+def _is_at(at: int, path: str) -> bool:
+    with contextlib.suppress(FileNotFoundError):
+        return os.path.samestat(os.fstat(at), os.stat(path))
+    return False
+
+
+def _clear(folder: str) -> None:
+    """Removes what a stopped export left."""
+    for it in os.scandir(folder):
+        if it.is_dir(follow_symlinks=False):
+            shutil.rmtree(it.path)
+        else:
+            os.remove(it.path)
+
+
+@contextlib.contextmanager
+def _looked_at(dest: str, hashing: Hashing) -> Iterator[Git]:
+    """Opens the repository to say what would be written; nothing is there yet if it isn't made."""
+    yield _opened(dest, hashing) if os.path.exists(dest) else Git(dest)
+
+
+def git_export(folder: str, dest: str, sha256: bool = False, engine: Optional[str] = None, bars: Optional[Bars] = None, **options: Any) -> Dict[str, Any]:
+    """Exports a history, and returns a summary. `CannotHold` names what git can't hold; then nothing was written. The options are those of `Options`."""
+    store, asked = Store(folder, sha256 or is_sha256(folder), engine), Options(**options)
+    work = Export(store, asked, bars or Bars(quiet=True))
+    opened = _looked_at if asked.dry_run else destination
+    with store.held(alone=False), opened(dest, store.hashing) as git:
         work.read_names()
-        git = None if is_new else _open(dest, store)
-        old = Side(git.names()[0], git.logs()) if git else Side({}, {})
-        missing = work.choose({id for id, _, _ in git.objects()} if git else set())
-        now = changes(work.side, old, work.follows, force, prune, dest)
-        if dry_run:
+        old = Side(git.names()[0], git.logs()) if git.is_open else Side({}, {})
+        missing = work.missing(git)
+        now = compared(work.side, old, asked.prune)
+        if git.is_open and not missing and not now and work.head in (None, git.head()[0]):
+            return work.summary(missing, now)
+        with work.bars.during("checking the folder") as bar:
+            store.check(bar)
+        work.test_names()
+        work.test_objects(missing)
+        now = work.compare(old, dest)
+        if asked.dry_run:
             return {**work.summary(missing, now), "dry_run": True}
-        try:
-            if git is None:
-                Git(dest).make(store.hashing)
-                git = _open(dest, store)
-            work.write(git, missing, now, old.names)
-        except BaseException:
-            # What git refused is nowhere then.
-            if is_new:
-                _clear(dest)
-            raise
-        with bars.during("git fsck --strict"):
-            complaints = git.fsck()
-        if complaints:
-            raise BridgeError("git fsck --strict in " + dest + ": " + "; ".join(complaints[:20]))
+        work.write(git, missing, now, old)
         return {**work.summary(missing, now), "fsck": "whole", "check": "whole"}
 
 
@@ -189,5 +207,4 @@ def main(argv: Sequence[str]) -> int:
     """Does what the words say."""
     places = (("FOLDER", "the history's folder"), ("DEST.git", "the git repository"))
     asked = words_of("git-export", TEXT, "wunthavel git-export store project.git", places).parse_args(argv)
-    given = (asked.sha256, asked.skip_refs, asked.force, asked.prune, asked.dry_run, asked.engine)
-    return report(lambda bars: git_export(asked.folder, asked.dest, *given, bars), asked)
+    return report(lambda bars: git_export(asked.folder, asked.dest, asked.sha256, asked.engine, bars, **options_of(asked)), asked)

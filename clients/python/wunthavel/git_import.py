@@ -1,226 +1,311 @@
 """`wunthavel git-import SRC.git FOLDER`: brings a git repository's objects, names and logs into a history's folder, with their ids.
 
 All is read and tested first, and what a history can't hold is named with its object. Then objects are written, each after those that it names,
-then all names, then the logs: after a stop anywhere the folder is whole, once recovered, and the command, given again, goes on.
+then all names, then the logs: after a stop anywhere the folder is whole, once recovered, and the command, given again, goes on. What the folder
+has already is whole, so it isn't brought again.
 """
+import contextlib
 import os
-from typing import Any, Dict, List, Optional, Sequence, Set, Tuple
+from array import array
+from typing import Any, Dict, Iterable, Iterator, List, Optional, Sequence, Set, Tuple
 
-from .bridge import Bars, Changes, Links, Side, changes, in_order, is_reached, links_of, reached, report, words_of
-from .bridge_folder import Store, left_out
-from .bridge_forms import MAX_CONTENT, MAX_PATH, BridgeError, CannotHold, Patterns, Problem, collisions, commit_problem, is_full_name
-from .bridge_forms import log_ids, log_problems, name_problem, read_commit, read_tag, read_tree, shown, tag_problem, tree_problem
-from .bridge_git import Git, symbolic_problems
+from .bridge import Bars, Changes, Options, Side, compared, is_reached, options_of, report, test_changes, words_of
+from .bridge_folder import Store
+from .bridge_forms import FOLDER, MAX_CONTENT, MAX_PATH, BridgeError, CannotHold, Patterns, Problem, collisions, commit_problem, git_commit_problem
+from .bridge_forms import is_full_name, log_problems, name_problem, read_commit, read_tag, read_tree, shown, tag_problem, tree_problem, with_titles
+from .bridge_git import Git, source
+from .bridge_graph import BLOB, COMMIT, KINDS, TAG, TREE, Graph
+from .bridge_trails import NOBODY, Trails
 
-PARTS = 10_000
+MIRROR = "git clone --mirror brings the repository without such names; --as-clone leaves them out"
+NEW_IDS = "wunthavel fast-import --new-ids makes the commits without it, so with other ids"
+UNREACHED = "leave out --unreached, and only what names and logs reach is brought"
+
+
+def _hint(why: str, by: str) -> str:
+    """Returns what to do about an object that a history can't hold."""
+    if by == NOBODY:
+        return UNREACHED
+    return NEW_IDS if why.startswith(("it has a signature", "it has a merged tag", "it has a further header", "it has an encoding")) else ""
 
 
 class Import:
     """One import. `git` is open."""
 
-    def __init__(self, git: Git, store: Store, skip: Patterns, bars: Bars) -> None:
-        self.git, self.store, self.skip, self.bars = git, store, skip, bars
+    def __init__(self, git: Git, store: Store, asked: Options, bars: Bars) -> None:
+        self.git, self.store, self.asked, self.bars = git, store, asked, bars
         self.hashing = git.hashing
+        self.skip = Patterns(asked.skip_refs)
         self.problems: List[Problem] = []
         self.notes: List[str] = []
-        self.kinds: Dict[bytes, Tuple[str, int]] = {}
-        self.links: Dict[bytes, Links] = {}
-        self.faults: Dict[bytes, str] = {}
-        self.longest: Dict[bytes, int] = {}
-        self._parts: Dict[bytes, List[Tuple[int, Optional[bytes]]]] = {}
+        self.graph = Graph()
+        self._large: Dict[int, int] = {}
+        self._faults: Dict[int, str] = {}
+        self._odd: Dict[int, str] = {}
 
-    # What there is.
+    # Names.
 
     def read_names(self) -> None:
         """Reads HEAD, names and logs, without those that are left out."""
         names, symbolic = self.git.names()
-        names, logs, self.skipped = left_out(names, self.git.logs(), self.skip)
-        self.side = Side(names, logs)
+        logs = {name: with_titles(log) for name, log in self.git.logs().items()}
+        kept = Side({name: id for name, id in names.items() if not (self.asked.as_clone and name in symbolic)}, logs)
+        self.side = kept.without(self.skip, logs=not self.asked.no_logs)
+        self.skipped = sorted(map(shown, names.keys() - self.side.names.keys()))
         self.problems += [Problem(shown(it), "git can't read the name") for it in self.git.broken if not self.skip.has(it)]
-        self.problems += symbolic_problems({name: it for name, it in symbolic.items() if name in names})
-        for name in sorted(names):
+        for name in sorted(self.side.names):
+            if name in symbolic:
+                self.problems.append(Problem(shown(name), f"the name is symbolic, for {shown(symbolic[name])}", hint=MIRROR))
             problem = name_problem(name)
             if problem:
                 self.problems.append(Problem(shown(name), problem))
-            self.problems += log_problems(name, logs.get(name, b""), self.hashing)
-        self.problems += collisions(names)
+            self.problems += log_problems(name, self.side.logs.get(name, b""), self.hashing)
+        self.problems += collisions(self.side.names)
         self.head = self._head()
-        if os.path.exists(os.path.join(self.git.path, b"logs", b"HEAD")):
+        self.skip.test_use()
+        if not self.asked.as_clone and os.path.exists(os.path.join(self.git.path, b"logs", b"HEAD")):
             self.notes.append("HEAD's own log is left out: a history has none")
 
     def _head(self) -> Optional[bytes]:
         if self.skip.has(b"HEAD"):
             return None
         head, is_name = self.git.head()
+        hint = "--skip-refs HEAD leaves it out"
         if not is_name:
-            self.problems.append(Problem("HEAD", f"it is detached, at {shown(head)} (--skip-refs HEAD leaves it out)"))
+            self.problems.append(Problem("HEAD", f"it is detached, at {shown(head)}", hint=hint))
         elif not head.startswith(b"refs/heads/") or not is_full_name(head):
-            self.problems.append(Problem("HEAD", f"it names {shown(head)}, which is no branch (--skip-refs HEAD leaves it out)"))
+            self.problems.append(Problem("HEAD", f"it names {shown(head)}, which is no branch", hint=hint))
         return head
 
+    def unchanged(self) -> Optional[Changes]:
+        """Returns the names that the folder alone has, if all that is wanted is as it is there. Then the folder needn't be opened."""
+        if self.problems or self.asked.unreached or not self.store.exists():
+            return None
+        with self.store.held(alone=False):
+            now = compared(self.side, self.store.side(), self.asked.prune)
+            differs = now or self.head not in (None, self.store.head()) or self.store.is_stopped()
+            return None if differs else now
+
+    # What there is.
+
     def read_objects(self) -> None:
-        """Reads all objects but files' contents, and finds which ones are to be brought."""
-        for id, kind, length in self.bars.over(self.git.objects(), "listing objects"):
-            self.kinds[id] = (kind, length)
-        small = [id for id, (kind, length) in self.kinds.items() if kind != "blob" and length <= MAX_CONTENT]
-        for id, kind, content in self.bars.over(self.git.read(small), "reading folders, commits and tags", len(small)):
-            self._read(id, kind, content)
-        if not self.skip:
-            self.wanted = set(self.kinds)
-        else:
-            self.wanted = {id for id in reached(self._tips(), self.links.get) if id in self.kinds}
-        empty = self.hashing.empty_tree
-        if empty not in self.kinds and any(empty in it.trees for id, it in self.links.items() if id in self.wanted):
-            # Git knows this one without keeping it.
-            self.kinds[empty] = ("tree", 0)
-            self.wanted.add(empty)
+        """Reads what names and logs reach, or all, of what the folder lacks, but files' contents; and tests it."""
+        for id, kind, length in self.bars.over(self.git.objects(), "listing objects", self.git.count()):
+            number = self.graph.add(id, kind)
+            if length > MAX_CONTENT:
+                self._large[number] = length
+        self.there = bytearray(len(self.graph.ids))
+        for id in self.store.ids():
+            if id in self.graph.number:
+                self.there[self.graph.number[id]] = 1
+        new = bytearray(not it for it in self.there)
+        self._read([*self.graph.of_kind(COMMIT, new), *self.graph.of_kind(TAG, new)], "reading commits and tags")
+        self._choose()
+        self._read_trees()
+        self.order = array("I", self.graph.in_order(self.wanted))
+        self._test_paths()
 
-    def _tips(self) -> Set[bytes]:
-        tips = set(self.side.names.values())
-        for log in self.side.logs.values():
-            tips.update(log_ids(log, self.hashing))
-        return tips
+    def _choose(self) -> None:
+        """Marks what is wanted, of folders and files only those that a commit or a name has itself."""
+        size = len(self.graph.ids)
+        # Git knows the empty folder without keeping it, so reading commits may have added it.
+        self.there += bytes(size - len(self.there))
+        self.longest = array("I", bytes(4 * size))
+        self.wanted = bytearray(size)
+        tips = (self.graph.number[id] for id in self.side.tips(self.hashing) if id in self.graph.number)
+        if self.asked.unreached:
+            tips = iter(range(size))
+        for _ in self.graph.reach(tips, self.wanted, self.there):
+            pass
 
-    def _read(self, id: bytes, kind: str, content: bytes) -> None:
-        try:
-            self.links[id] = links_of(kind, content, self.hashing)
-            problem = self._problem(id, kind, content)
-        except ValueError as error:
-            problem = str(error)
-        if problem:
-            self.faults[id] = problem
+    def _read_trees(self) -> None:
+        """Reads the folders that are wanted, a level of folders at a time, and marks what they have."""
+        left = self.graph.of_kind(TREE, self.wanted)
+        seen = bytearray(len(self.wanted))
+        while left:
+            self._read(left, "reading folders")
+            for number in left:
+                seen[number] = 1
+            below = {it for number in left for it in self.graph.links(number) if not seen[it]}
+            left = sorted(below)
 
-    def _problem(self, id: bytes, kind: str, content: bytes) -> Optional[str]:
-        if kind == "commit":
-            return commit_problem(read_commit(content, self.hashing))
+    def _read(self, numbers: Sequence[int], title: str) -> None:
+        small = [it for it in numbers if it not in self._large]
+        contents = self.git.read(self.graph.ids[it] for it in small)
+        for number, (_, kind, content) in zip(small, self.bars.over(contents, title, len(small))):
+            try:
+                problem = self._take_tree(number, content) if kind == "tree" else self._take(number, kind, content)
+            except ValueError as error:
+                problem = str(error)
+            if problem:
+                self._faults[number] = problem
+
+    def _take(self, number: int, kind: str, content: bytes) -> Optional[str]:
+        """Keeps what a commit or tag names; returns why a history can't hold it."""
         if kind == "tag":
-            return tag_problem(read_tag(content, self.hashing))
+            tag = read_tag(content, self.hashing)
+            problem, named = tag_problem(tag), [(COMMIT, tag.target)]
+        else:
+            commit = read_commit(content, self.hashing)
+            problem, named = commit_problem(commit), [(TREE, commit.tree), *((COMMIT, it) for it in commit.parents)]
+            odd = None if problem else git_commit_problem(commit)
+            if odd:
+                self._odd[number] = odd
+        links = []
+        for expected, id in named:
+            problem = problem or self._link_problem(expected, id)
+            if id in self.graph.number:
+                links.append(self.graph.number[id])
+        self.graph.link(number, links, (0 for _ in links))
+        return problem
+
+    def _link_problem(self, expected: int, id: bytes) -> Optional[str]:
+        number = self.graph.number.get(id)
+        if number is None and id == self.hashing.empty_tree:
+            number = self.graph.add(id, "tree")
+        if number is None:
+            return f"it names {KINDS[expected]} {id.hex()}, which isn't there (is the repository shallow or partial?)"
+        found = self.graph.kinds[number]
+        return None if found == expected else f"it names {id.hex()} as a {KINDS[expected]}, which is a {KINDS[found]}"
+
+    def _take_tree(self, number: int, content: bytes) -> Optional[str]:
+        """Keeps what a folder has; returns why a history can't hold it."""
         entries = read_tree(content, self.hashing)
-        self._parts[id] = [(len(name), id if mode == b"40000" else None) for mode, name, id in entries]
-        return tree_problem(entries, self.hashing)
+        problem, longest = tree_problem(entries, self.hashing), 0
+        links, lengths = [], []
+        numbers, kinds, wanted = self.graph.number, self.graph.kinds, self.wanted
+        for mode, name, id in entries:
+            expected, at = TREE if mode == FOLDER else BLOB, numbers.get(id)
+            if at is None or kinds[at] != expected:
+                problem = problem or self._link_problem(expected, id)
+                continue
+            wanted[at] = 1
+            if expected == TREE:
+                links.append(at)
+                lengths.append(min(len(name), MAX_PATH + 1))
+            elif len(name) > longest:
+                longest = len(name)
+        self.longest[number] = longest
+        self.graph.link(number, links, lengths)
+        return problem
+
+    def _test_paths(self) -> None:
+        for number in self.order:
+            if self.graph.kinds[number] == TREE:
+                longest = max((length + 1 + self.longest[it] for it, length in self.graph.weighed(number)), default=0)
+                self.longest[number] = longest = max(longest, self.longest[number])
+                if longest > MAX_PATH and all(self.longest[it] <= MAX_PATH for it in self.graph.links(number)):
+                    self._faults.setdefault(number, f"it has a path of {longest:,} bytes, over {MAX_PATH:,}")
 
     # What can't be held.
 
-    def test_objects(self) -> None:
+    def test(self) -> None:
         """Names what is to be brought and a history can't hold."""
-        for id in self.wanted:
-            kind, length = self.kinds[id]
-            if length > MAX_CONTENT:
-                self._fault(id, f"its content has {length:,} bytes, over {MAX_CONTENT:,}")
-            elif id in self.faults:
-                self._fault(id, self.faults[id])
-            elif id in self.links:
-                self._test_links(id, self.links[id])
-        self.order = in_order(self.wanted, lambda id: self.links[id].all if id in self.links else ())
-        self._test_paths()
-        self._test_names()
-        if self.problems:
-            raise CannotHold(sorted(self.problems))
-
-    def _fault(self, id: bytes, why: str) -> None:
-        by = "" if self.skip else self._holders(id)
-        self.problems.append(Problem(f"{self.kinds[id][0]} {id.hex()}", why + by))
-
-    def _holders(self, id: bytes) -> str:
-        """Says so if no name reaches the object: such ones can be left out."""
-        if not hasattr(self, "_reached"):
-            self._reached = reached(self._tips(), self.links.get)
-        return "" if id in self._reached else " (no name and no log reaches it: --skip-refs with any pattern leaves such objects out)"
-
-    def _test_links(self, id: bytes, links: Links) -> None:
-        for kind, ids in (("tree", links.trees), ("blob", links.blobs), ("commit", links.commits)):
-            for it in ids:
-                found = self.kinds.get(it)
-                if found is None:
-                    self._fault(id, f"it names {kind} {it.hex()}, which isn't there (is the repository shallow or partial?)")
-                elif found[0] != kind:
-                    self._fault(id, f"it names {it.hex()} as a {kind}, which is a {found[0]}")
-
-    def _test_paths(self) -> None:
-        for id in self.order:
-            parts = self._parts.get(id, [])
-            longest = max([length if it is None else length + 1 + self.longest.get(it, 0) for length, it in parts], default=0)
-            self.longest[id] = longest
-            if longest > MAX_PATH and all(it is None or self.longest.get(it, 0) <= MAX_PATH for _, it in parts):
-                self._fault(id, f"it has a path of {longest:,} bytes, over {MAX_PATH:,}")
-
-    def _test_names(self) -> None:
+        for number, length in self._large.items():
+            self._faults[number] = f"its content has {length:,} bytes, over {MAX_CONTENT:,}"
+        bad = {it: why for it, why in self._faults.items() if self.wanted[it] and not self.there[it]}
+        if bad:
+            trails = Trails(self.git, self.graph, self.side, self.order, bad)
+            self.problems += [Problem(trails.name(it), why, trails.by(it), _hint(why, trails.by(it))) for it, why in bad.items()]
         for name, id in sorted(self.side.names.items()):
-            kind = self.kinds.get(id, ("missing object", 0))[0]
+            number = self.graph.number.get(id)
+            kind = "missing object" if number is None else KINDS[self.graph.kinds[number]]
             if kind not in ("commit", "tag"):
                 self.problems.append(Problem(shown(name), f"the name holds a {kind}, {id.hex()}"))
+        if self.problems:
+            raise CannotHold(sorted(self.problems))
+        self._warn()
+
+    def _warn(self) -> None:
+        """Notes what a history can hold and git can't take back."""
+        alike: Dict[str, List[str]] = {}
+        for number, why in self._odd.items():
+            if self.wanted[number] and not self.there[number]:
+                alike.setdefault(why, []).append(f"commit {self.graph.ids[number].hex()}")
+        for name, id in self.side.names.items():
+            if name.startswith(b"refs/heads/") and self.graph.kinds[self.graph.number[id]] == TAG:
+                alike.setdefault("a branch holds a tag", []).append(shown(name))
+        for why, them in sorted(alike.items()):
+            self.notes.append(f"git-export can't give back {len(them):,} of these: {why}, as in {them[0]}")
 
     # What is written.
 
-    def compare(self, force: bool, prune: bool) -> Changes:
+    def compare(self, old: Side) -> Changes:
         """Returns what is to be written over what the folder has."""
-        return changes(self.side, Side(self.store.names(), self.store.logs()), self._follows, force, prune, self.store.folder)
+        now = compared(self.side, old, self.asked.prune)
+        test_changes(now, old, self._follows, self.asked, self.store.folder)
+        return now
 
     def _follows(self, old: bytes, new: bytes) -> bool:
-        both = self.kinds.get(old, ("",))[0] == self.kinds[new][0] == "commit"
-        return both and is_reached(old, new, lambda id: self.links[id].commits)
+        both = self.store.kind_of(old)[0] == KINDS[self.graph.kinds[self.graph.number[new]]] == "commit"
+        return both and is_reached(old, new, self._parents)
 
-    def missing(self) -> List[bytes]:
+    def _parents(self, id: bytes) -> Iterable[bytes]:
+        number = self.graph.number.get(id)
+        if number is None or self.there[number]:
+            return read_commit(self.store.read(id)[1], self.hashing).parents
+        return [self.graph.ids[it] for it in self.graph.links(number)[1:]]
+
+    def missing(self) -> Sequence[int]:
         """Returns the objects that the folder lacks, each after those that it names."""
-        there = set(self.store.ids())
-        rank = {"blob": 0, "tree": 1, "commit": 2, "tag": 3}
-        return sorted((id for id in self.order if id not in there), key=lambda id: rank[self.kinds[id][0]])
+        return array("I", (it for it in self.order if not self.there[it]))
 
-    def write(self, missing: Sequence[bytes], now: Changes) -> None:
+    def write(self, missing: Sequence[int], now: Changes) -> None:
         """Writes objects, then names, then logs, then HEAD."""
-        empty = self.hashing.empty_tree
-        if empty in missing:
-            self.store.write(empty, "tree", b"")
-        given = [id for id in missing if id != empty]
-        for id, kind, content in self.bars.over(self.git.read(given), "writing objects", len(given)):
+        contents = self.git.read(self.graph.ids[it] for it in missing)
+        for id, kind, content in self.bars.over(contents, "writing objects", len(missing)):
             self.store.write(id, kind, content)
         if now.names or now.gone:
-            self.store.write_names(now.names, now.gone, {id: it.commits[0] for id, it in self.links.items() if it.kind == "tag"})
+            self.store.write_names(now.names, now.gone)
         for name, log in now.logs.items():
             self.store.write_log(name, log)
         if self.head is not None and self.head != self.store.head():
             self.store.write_head(self.head)
 
-    def summary(self, missing: Sequence[bytes], now: Changes) -> Dict[str, Any]:
+    def summary(self, missing: Sequence[int], now: Changes) -> Dict[str, Any]:
         """Returns what was done."""
-        count = {kind: sum(self.kinds[id][0] == kind for id in missing) for kind in ("commit", "tree", "blob", "tag")}
+        kinds = bytes(self.graph.kinds[it] for it in missing)
+        count = {KINDS[it]: kinds.count(it) for it in (COMMIT, TREE, BLOB, TAG)}
         rest = {"skipped": self.skipped, "only_in_folder": now.left, "notes": self.notes}
         return {"done": True, "objects": len(missing), "kinds": count, "names": len(now.names), "deleted": len(now.gone), "logs": len(now.logs), **rest}
 
 
-def git_import(
-    source: str,
-    folder: str,
-    sha256: bool = False,
-    skip_refs: Sequence[str] = (),
-    force: bool = False,
-    prune: bool = False,
-    dry_run: bool = False,
-    engine: Optional[str] = None,
-    bars: Optional[Bars] = None,
-) -> Dict[str, Any]:
-    """Imports a git repository, and returns a summary. `CannotHold` names what a history can't hold; then nothing was written."""
-    git, bars = Git(source), bars or Bars(quiet=True)
-    git.open()
-    if (git.hashing.name == "sha256") != sha256:
-        raise BridgeError(f"{source} has ids of {git.hashing.name}: {'give' if not sha256 else 'leave out'} --sha256")
-    work = Import(git, Store(folder, sha256, engine), Patterns(skip_refs), bars)
-    work.read_names()
-    work.read_objects()
-    work.test_objects()
-    if dry_run and not os.path.exists(os.path.join(folder, "HEAD")):
-        return {**work.summary(work.order, Changes(work.side.names, work.side.logs, set(), [])), "dry_run": True}
-    if not dry_run:
-        work.store.make()
-    with work.store.held(alone=not dry_run):
-        now, missing = work.compare(force, prune), work.missing()
-        if not dry_run:
-            work.write(missing, now)
-    if not dry_run and (missing or now.names or now.logs or now.gone):
-        with bars.during("checking the folder"):
-            work.store.check()
-    end: Dict[str, Any] = {"dry_run": True} if dry_run else {"check": "whole"}
-    return {**work.summary(missing, now), **end}
+def _hashing_of(git: Git, sha256: bool) -> bool:
+    """Returns whether the source's ids are of SHA-256. Nothing else needs to be said, and nothing else may be."""
+    if sha256 and git.hashing.name != "sha256":
+        raise BridgeError(f"{git.folder} has ids of {git.hashing.name}: leave out --sha256")
+    return git.hashing.name == "sha256"
+
+
+def git_import(place: str, folder: str, sha256: bool = False, engine: Optional[str] = None, bars: Optional[Bars] = None, **options: Any) -> Dict[str, Any]:
+    """Imports a git repository, and returns a summary. `CannotHold` names what a history can't hold; then nothing was written. The options are those of
+    `Options`."""
+    bars, asked = bars or Bars(quiet=True), Options(**options)
+    with source(place, bars) as git:
+        work = Import(git, Store(folder, _hashing_of(git, sha256), engine), asked, bars)
+        work.read_names()
+        same = work.unchanged()
+        if same is not None:
+            return work.summary([], same)
+        work.read_objects()
+        work.test()
+        if asked.dry_run:
+            with work.store.held(alone=False) if work.store.exists() else contextlib.nullcontext():
+                return {**work.summary(work.missing(), work.compare(work.store.side())), "dry_run": True}
+        return _written(work)
+
+
+def _written(work: Import) -> Dict[str, Any]:
+    """Writes what was read and tested, and returns the summary."""
+    with work.bars.during("checking the folder") as bar:
+        work.store.make(bar)
+    with work.store.held(alone=True):
+        now, missing = work.compare(work.store.side()), work.missing()
+        work.write(missing, now)
+    if missing or now:
+        with work.bars.during("checking the folder") as bar:
+            work.store.check(bar)
+    return {**work.summary(missing, now), "check": "whole"}
 
 
 TEXT = """Brings a git repository's objects, names and logs into a history's folder, which is made if there is none. Ids stay.
@@ -229,7 +314,9 @@ What a history can't hold is named with its object, and then nothing is written.
 
 def main(argv: Sequence[str]) -> int:
     """Does what the words say."""
-    places = (("SRC.git", "the git repository"), ("FOLDER", "the history's folder"))
-    asked = words_of("git-import", TEXT, "wunthavel git-import project/.git store --skip-refs refs/remotes", places).parse_args(argv)
-    given = (asked.sha256, asked.skip_refs, asked.force, asked.prune, asked.dry_run, asked.engine)
-    return report(lambda bars: git_import(asked.src, asked.folder, *given, bars), asked)
+    places = (("SRC.git", "the git repository: a folder, or a bundle or a URL, which git clones first"), ("FOLDER", "the history's folder"))
+    words = words_of("git-import", TEXT, "wunthavel git-import project/.git store --skip-refs refs/remotes", places)
+    words.add_argument("--as-clone", action="store_true", help="leave out the symbolic names of a clone, as refs/remotes/origin/HEAD, and HEAD's own log")
+    words.add_argument("--unreached", action="store_true", help="also bring the objects that no name and no log reaches")
+    asked = words.parse_args(argv)
+    return report(lambda bars: git_import(asked.src, asked.folder, asked.sha256, asked.engine, bars, **options_of(asked)), asked)

@@ -31,6 +31,11 @@ class Progress:
                 self._next = now + 0.1
                 self._draw(now)
 
+    def show(self, label: str, count: int, total: int) -> None:
+        """Says how far a part of the work is, of which somebody else keeps count."""
+        self.label, self.count, self.total = label, count, total
+        self.step(0)
+
     def each(self, items: Iterable[T]) -> Iterator[T]:
         """Gives the items, with a step after each."""
         for it in items:
