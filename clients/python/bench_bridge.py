@@ -4,15 +4,17 @@
     WUNTHAVEL_ENGINE=.. clients/python/bench_bridge.py [--commits N] [--repository FOLDER]
 
 It is a report, no test; `bench.py` has `Repo` and `batch()` without a server. All is done in a temporary folder. Git's own rows are
-`git cat-file --batch` over the same objects and `git fast-import` of the same stream. `--repository` takes the bridge's rows over a git repository of yours, in the place of a made one.
+`git cat-file --batch` and `git fast-export | git fast-import` over the same objects, and `git fast-import` of the same stream. `--repository` takes
+the bridge's rows over a git repository of yours, in the place of a made one.
 """
 import argparse
 import os
+import shlex
 import subprocess
 import sys
 import tempfile
 import time
-from typing import Any, Callable, List, Optional, Tuple
+from typing import Any, Callable, Dict, List, Optional, Tuple
 
 sys.path.insert(0, os.path.dirname(os.path.abspath(__file__)))
 
@@ -133,25 +135,31 @@ class Bench:
         """Returns what git writes."""
         return subprocess.run(["git", "-C", folder or self.git, *words], input=given, stdout=subprocess.PIPE, stderr=subprocess.DEVNULL, check=True).stdout
 
+    def bare(self, name: str) -> str:
+        """Makes a bare repository of git, and returns its path."""
+        os.mkdir(self.path(name))
+        self.run_git("init", "-q", "--bare", "-b", "main", folder=self.path(name))
+        return self.path(name)
+
     def bridge(self) -> None:
         """The bridge's ways, against git's own."""
         if self.is_own:
-            os.mkdir(self.git)
-            self.run_git("init", "-q", "--bare", "-b", "main")
+            self.bare("made.git")
             self.run_git("fast-import", "--quiet", given=stream(self.commits))
         objects = len(self.run_git("cat-file", "--batch-all-objects", "--batch-check").splitlines())
         reading = timed(lambda: self.run_git("cat-file", "--batch", "--batch-all-objects", "--buffer"))
         self.add("objects", "git cat-file --batch (reads them)", objects, reading)
-        skip = [] if self.is_own else ["HEAD", "refs/remotes"]
-        self.add("objects", "git-import", objects, timed(lambda: git_import(self.git, self.path("brought"), skip_refs=skip)))
-        self.add("objects", "git-import again, with nothing new", objects, timed(lambda: git_import(self.git, self.path("brought"), skip_refs=skip)))
+        both = f"git -C {shlex.quote(self.git)} fast-export --all | git -C {shlex.quote(self.bare('both.git'))} fast-import --quiet"
+        self.add("objects", "git fast-export | git fast-import", objects, timed(lambda: subprocess.run(both, shell=True, check=True)))
+        how: Dict[str, Any] = {} if self.is_own else {"skip_refs": ["HEAD"], "as_clone": True}
+        self.add("objects", "git-import", objects, timed(lambda: git_import(self.git, self.path("brought"), **how)))
+        self.add("objects", "git-import again, with nothing new", objects, timed(lambda: git_import(self.git, self.path("brought"), **how)))
         self.add("objects", "git-export", objects, timed(lambda: git_export(self.path("brought"), self.path("given.git"))))
         self.add("objects", "git-export again, with nothing new", objects, timed(lambda: git_export(self.path("brought"), self.path("given.git"))))
         exported = self.run_git(*EXPORT)
         commits = exported.count(b"\noriginal-oid ") - exported.count(b"\nblob\n")
-        os.mkdir(self.path("theirs.git"))
-        self.run_git("init", "-q", "--bare", folder=self.path("theirs.git"))
-        spent = timed(lambda: self.run_git("fast-import", "--quiet", "--force", given=exported, folder=self.path("theirs.git")))
+        theirs = self.bare("theirs.git")
+        spent = timed(lambda: self.run_git("fast-import", "--quiet", "--force", given=exported, folder=theirs))
         self.add("commits and tags", "git fast-import", commits, spent)
         with open(self.path("stream"), "wb") as it:
             it.write(exported)

@@ -11,11 +11,12 @@ from unittest import mock
 sys.path.insert(0, os.path.dirname(os.path.dirname(os.path.abspath(__file__))))
 
 from tests.test_git_bridge import PACKAGE, Case, all_of, engine, git
-from wunthavel import bridge_folder, git_import
+from wunthavel import bridge_folder
 from wunthavel.bridge import goes_on
+from wunthavel.bridge_folder import Store
 from wunthavel.bridge_git import Git
+from wunthavel.errors import HistoryError
 from wunthavel.git_export import git_export
-from wunthavel.protocol import HistoryError
 
 COMMIT = b"commit refs/heads/%s any\nput file 1 1\n%s\nx\nauthor 1 3 5 +0000\nA\na@b\ncommitter 1 3 5 +0000\nA\na@b\nmessage 3\nown\nend\n"
 CODE = "import sys; from wunthavel.git_export import main; sys.exit(main(sys.argv[1:]))"
@@ -220,11 +221,12 @@ class Cost(Case):
         for number in range(5):
             self.commit(f"change {number}", a=str(number))
         self.bring()
-        with mock.patch.object(git_import.Store, "check", side_effect=AssertionError("it was opened")), mock.patch.object(Git, "objects", side_effect=AssertionError("it was read")):
+        opened, looked = AssertionError("it was opened"), AssertionError("it was read")
+        with mock.patch.object(Store, "check", side_effect=opened), mock.patch.object(Git, "objects", side_effect=looked):
             said = self.bring()
         self.assertEqual((said["done"], said["objects"], said["names"]), (True, 0, 0))
         self.give()
-        with mock.patch.object(git_import.Store, "check", side_effect=AssertionError("it was opened")), mock.patch.object(Git, "fsck", side_effect=AssertionError("it was looked at")):
+        with mock.patch.object(Store, "check", side_effect=opened), mock.patch.object(Git, "fsck", side_effect=looked):
             self.assertEqual(self.give()["objects"], 0)
         self.commit("more", b="b")
         read: List[bytes] = []

@@ -11,8 +11,8 @@ sys.path.insert(0, os.path.dirname(os.path.dirname(os.path.abspath(__file__))))
 from tests.test_git_bridge import MISSING
 from wunthavel.bridge_folder import Store
 from wunthavel.bridge_forms import SHA1, commit_problem, log_problems, read_commit, read_tag, read_tree, tag_problem, tree_problem, with_titles
+from wunthavel.errors import HistoryError
 from wunthavel.progress import Progress
-from wunthavel.protocol import HistoryError
 
 BAR = Progress("checking", quiet=True)
 WHO = b"Ada <a@b> 5 +0000"

@@ -7,7 +7,7 @@ import subprocess
 import sys
 import time
 import unittest
-from typing import Any, Dict, List, Optional
+from typing import Any, Dict, List
 from unittest import mock
 
 sys.path.insert(0, os.path.dirname(os.path.dirname(os.path.abspath(__file__))))
@@ -58,6 +58,9 @@ class Streams(Case):
     def test_sha256(self) -> None:
         self.history("--object-format=sha256")
         self.whole("--sha256")
+        self.store += "2"
+        self.call(fast_import, self.store, "--from", self.source)
+        self.same("--sha256")
 
     def test_renames_copies_and_full_trees(self) -> None:
         self.history()
@@ -79,7 +82,7 @@ class Streams(Case):
                 git(self.source, "fast-import", "--quiet", given=random_stream(seed, 60))
                 stream = self.export()
                 said = self.load(stream)
-                self.assertEqual((said["commits"], said["other_ids"]), (stream.count(b"\ncommitter "), []))
+                self.assertEqual((said["commits"], said["other_ids"]), (stream.count(b"\ncommitter "), 0))
                 self.same()
 
     def test_without_original_ids(self) -> None:
@@ -185,7 +188,75 @@ class Streams(Case):
         self.assertIn(id, said["error"])
         self.store += "2"
         said = self.load(self.export(), "--new-ids")
-        self.assertEqual([it[0] for it in said["other_ids"]], [id])
+        self.assertEqual((said["other_ids"], said["new_ids"]), (1, self.store + ".new-ids"))
+        self.assertEqual([it.split()[0] for it in self.new_ids()], [id])
+
+    def new_ids(self) -> List[str]:
+        with open(self.store + ".new-ids", encoding="ascii") as it:
+            return it.read().splitlines()
+
+    def test_signed_commits_get_new_ids_and_are_known_by_them(self) -> None:
+        self.init()
+        first = self.commit("one", a="a")
+        tree = git(self.source, "rev-parse", "HEAD^{tree}")
+        signature = b"gpgsig -----BEGIN PGP SIGNATURE-----\n \n abc\n -----END PGP SIGNATURE-----"
+        ids = [self.object("commit", commit_text(tree, signature, parents=[first]))]
+        ids.append(self.object("commit", commit_text(tree, b"encoding ISO-8859-1", parents=ids, message=b"\xe9\n")))
+        ids.append(self.object("commit", commit_text(tree, parents=[ids[-1]])))
+        git(self.source, "update-ref", "refs/heads/main", ids[-1])
+        git(self.source, "tag", "-a", "-m", "m", "v")
+        ids.append(git(self.source, "rev-parse", "v"))
+        said = self.call(fast_import, self.store, "--from", self.source, "--new-ids")
+        self.assertEqual((said["commits"], said["tags"], said["other_ids"]), (4, 1, 4))
+        pairs = [it.split() for it in self.new_ids()]
+        self.assertEqual([it[0] for it in pairs], ids)
+        self.assertEqual([it.split()[0] for it in self.names()], [pairs[2][1], pairs[3][1]])
+        shown = engine(self.store, b"show %s\n" % pairs[1][1].encode())
+        self.assertIn(b"parent %s\n" % pairs[0][1].encode(), shown)
+        self.assertTrue(shown.endswith(b"message 3\n\xc3\xa9\n\n"), shown)
+        again = self.call(fast_import, self.store, "--from", self.source, "--new-ids")
+        self.assertEqual((again["commits"], again["tags"], again["known"], again["names"], again["other_ids"]), (0, 0, 5, 0, 0))
+        self.assertEqual(len(self.new_ids()), 4)
+
+    def test_a_cut_stream(self) -> None:
+        self.init()
+        self.commit("one", a="a")
+        self.commit("two", a="b")
+        stream = self.export()
+        self.assertTrue(stream.startswith(b"feature done\n") and stream.endswith(b"done\n"))
+        for at in (stream.rindex(b"done\n"), stream.rindex(b"reset"), stream.index(b"\ncommit") + 1, len(b"feature done\n")):
+            judge = self.store + ".git"
+            git(self.room, "init", "-q", "--bare", judge)
+            done = subprocess.run(["git", "-C", judge, "fast-import", "--quiet", "--force"], input=stream[:at], stderr=subprocess.PIPE)
+            self.assertNotEqual(done.returncode, 0)
+            self.assertIn("cut", self.load(stream[:at], status=1)["error"])
+        self.whole()
+
+    def test_replaced_objects_are_not_followed(self) -> None:
+        self.init()
+        self.commit("one", a="a")
+        self.commit("two", a="b")
+        git(self.source, "replace", "--graft", "HEAD")
+        self.call(fast_import, self.store, "--from", self.source)
+        self.same()
+
+    def test_the_branch_of_head_is_that_of_the_source(self) -> None:
+        self.init()
+        self.commit("one", a="a")
+        git(self.source, "branch", "-m", "trunk")
+        self.call(fast_import, self.store, "--from", self.source)
+        self.assertEqual(engine(self.store, b"names\n").split(b"\n")[0], b"ok names 1 refs/heads/trunk")
+
+    def test_a_source_that_is_not_there_leaves_nothing(self) -> None:
+        for place in (self.source, self.room):
+            self.assertFalse(self.call(fast_import, self.store, "--from", place, status=1)["done"])
+            self.assertFalse(os.path.exists(self.store))
+
+    def test_numbers_without_end(self) -> None:
+        for stream, why in ((b"blob\ndata " + b"9" * 5000 + b"\n", "in the place of data"), (b"blob\ndata 16777217\n", "over 16,777,216")):
+            self.assertIn(why, self.load(stream, status=1)["error"])
+        stream = b"commit refs/heads/x\ncommitter A <a@b> " + b"9" * 5000 + b" +0000\ndata 1\nm\n"
+        self.assertIn("isn't 'Name", self.load(stream, status=1)["error"])
 
     def test_what_no_command_makes_is_named(self) -> None:
         self.init()

@@ -1,4 +1,4 @@
-"""What both ways of the bridge do: what reaches what, which names moved on both sides, progress, and the words of the two commands."""
+"""What both ways of the bridge do: what reaches what, which names and logs differ, progress, and the words and reports of commands."""
 import argparse
 import contextlib
 import json
@@ -159,7 +159,8 @@ def words_of(name: str, text: str, example: str, places: Sequence[Tuple[str, str
     for place, what in places:
         parser.add_argument(place.split(".")[0].lower(), metavar=place, help=what)
     parser.add_argument("--sha256", action="store_true", help="the ids are of SHA-256; objects that exist show it without this")
-    parser.add_argument("--skip-refs", metavar="PATTERN", action="append", default=[], help="leave names out, with what they alone reach: one, a folder of them, or with * and ?; HEAD too. May be given again")
+    skipped = "leave names out, with what they alone reach: one, a folder of them, or with * and ?; HEAD too. May be given again"
+    parser.add_argument("--skip-refs", metavar="PATTERN", action="append", default=[], help=skipped)
     parser.add_argument("--no-logs", action="store_true", help="leave the logs of names out")
     parser.add_argument("--force", action="store_true", help="also move names that were moved on the other side alone")
     parser.add_argument("--force-logs", action="store_true", help="also replace logs that have other lines at their end there")

@@ -217,7 +217,8 @@ class Store:
 
     def ids(self) -> Iterator[bytes]:
         """Returns the ids of all objects."""
-        return (bytes.fromhex(it.decode()) for it in loose_objects(self._objects) if len(it) == 2 * self.hashing.width)
+        digits = re.compile(rb"[0-9a-f]{%d}" % (2 * self.hashing.width))
+        return (bytes.fromhex(it.decode()) for it in loose_objects(self._objects) if digits.fullmatch(it))
 
     def _place(self, id: bytes) -> bytes:
         digits = id.hex().encode()
@@ -247,9 +248,10 @@ class Store:
         unfinished = os.path.join(self._objects, b"unfinished")
         at = os.open(unfinished, os.O_WRONLY | os.O_CREAT | os.O_TRUNC, 0o644)
         try:
-            data = memoryview(b"%s %d\0%s" % (kind.encode(), len(content), content))
-            while data:
-                data = data[os.write(at, data) :]
+            for part in (b"%s %d\0" % (kind.encode(), len(content)), content):
+                left = memoryview(part)
+                while left:
+                    left = left[os.write(at, left) :]
         finally:
             os.close(at)
         os.rename(unfinished, place)

@@ -1,5 +1,6 @@
 """The forms of objects, names and logs that a history and git share, and why one of the two can't hold what the other has."""
 import hashlib
+import itertools
 import re
 from dataclasses import dataclass
 from typing import Dict, Iterable, Iterator, List, NamedTuple, Optional, Sequence, Tuple
@@ -39,9 +40,11 @@ class Hashing:
     @property
     def empty_tree(self) -> bytes:
         """The id of the folder without files."""
-        return self.id_of("tree", b"")
+        return _EMPTY[self.name]
 
 
+# The ids of the folder without files.
+_EMPTY = {name: digest(b"tree 0\0").digest() for name, digest in _DIGESTS.items()}
 SHA1, SHA256 = Hashing("sha1", 20), Hashing("sha256", 32)
 
 
@@ -261,7 +264,7 @@ _ENTRIES = {width: re.compile(rb"([0-7]+) ([^\0]*)\0([\s\S]{%d})" % width) for w
 def read_tree(content: bytes, hashing: Hashing) -> List[Tuple[bytes, bytes, bytes]]:
     """Returns mode, name and id of each entry; a ValueError says that it is no tree."""
     entries = _ENTRIES[hashing.width].findall(content)
-    if sum(len(mode) + len(name) + 2 + hashing.width for mode, name, _ in entries) != len(content):
+    if sum(map(len, itertools.chain.from_iterable(entries))) + 2 * len(entries) != len(content):
         raise ValueError("it isn't a tree's text")
     return entries
 
@@ -312,23 +315,26 @@ def tag_problem(tag: Tag) -> Optional[str]:
 
 
 def tree_problem(entries: Sequence[Tuple[bytes, bytes, bytes]], hashing: Hashing) -> Optional[str]:
-    """Returns why a history can't hold the tree."""
-    before, names = b"", set()
-    for mode, name, id in entries:
-        if mode == COMMIT:
-            return f"'{shown(name)}' is a submodule"
-        if mode not in MODES:
-            return f"'{shown(name)}' has the mode {mode.decode()}, which none has that git writes today"
-        if not name or b"/" in name:
-            return f"'{shown(name)}' is no name of a file"
-        if mode == FOLDER and id == hashing.empty_tree:
-            return f"'{shown(name)}' is a folder without files"
-        order = name + b"/" if mode == FOLDER else name
-        if order <= before or name in names:
-            return f"'{shown(name)}' is out of order or there twice"
-        before = order
-        names.add(name)
+    """Returns why a history can't hold the tree. A repository may have millions of entries, so all of a tree are tested together."""
+    names = [name for _, name, _ in entries]
+    order = [name + b"/" if mode == FOLDER else name for mode, name, _ in entries]
+    empty = any(id == hashing.empty_tree for mode, _, id in entries if mode == FOLDER)
+    if empty or b"" in names or b"/" in b"".join(names) or not {mode for mode, _, _ in entries}.issubset(MODES):
+        return next(filter(None, (_entry_problem(*it, hashing) for it in entries)))
+    if len(set(names)) < len(names) or order != sorted(order):
+        twice = (name for at, name in enumerate(names) if name in names[:at] or order[at] < max(order[:at], default=b""))
+        return f"'{shown(next(twice))}' is out of order or there twice"
     return None
+
+
+def _entry_problem(mode: bytes, name: bytes, id: bytes, hashing: Hashing) -> Optional[str]:
+    if mode == COMMIT:
+        return f"'{shown(name)}' is a submodule"
+    if mode not in MODES:
+        return f"'{shown(name)}' has the mode {mode.decode()}, which none has that git writes today"
+    if not name or b"/" in name:
+        return f"'{shown(name)}' is no name of a file"
+    return f"'{shown(name)}' is a folder without files" if mode == FOLDER and id == hashing.empty_tree else None
 
 
 # What git refuses in a path (git-fsck(1)): `.git` in the forms in which file systems read it.

@@ -13,6 +13,7 @@ from typing import IO, Dict, Iterable, Iterator, List, Tuple
 from .bridge import Bars
 from .bridge_folder import files_below, is_history, read_logs, remove_empty_folders
 from .bridge_forms import SHA1, SHA256, BridgeError, Hashing, shown
+from .errors import HistoryError
 from .progress import Progress
 
 # What would have git look elsewhere than at the repository that is named, or make another one than is asked for.
@@ -90,17 +91,36 @@ class Git:
                     it and it.close()
             process.wait()
 
+    @contextlib.contextmanager
+    def stream(self, words: Iterable[str]) -> Iterator[IO[bytes]]:
+        """Gives what git writes to the block; a BridgeError says after it what git complains of."""
+        with self._process([*self._words, *words]) as process:
+            assert process.stdin and process.stdout and process.stderr
+            process.stdin.close()
+            said: List[str] = []
+            listening = threading.Thread(target=_listen, args=(process.stderr, said, Progress("git", quiet=True)), daemon=True)
+            listening.start()
+            try:
+                yield process.stdout
+            except HistoryError:
+                # What was read ended early if git did.
+                if not process.poll():
+                    raise
+            listening.join()
+            if process.wait():
+                raise BridgeError(f"git in {self.folder}: {' '.join(said)}")
+
     # The whole repository.
 
     def open(self) -> None:
         """Finds the repository's folder and its kind of ids. It is the folder itself, or its `.git`, and none above it."""
+        if is_history(os.fsencode(self.folder)):
+            raise BridgeError(f"{self.folder} is a history's folder, and no git repository")
         self._env["GIT_CEILING_DIRECTORIES"] = os.path.dirname(os.path.realpath(self.folder))
         kind = self.run("rev-parse", "--show-object-format").decode().strip()
         # A git that knows one kind alone gives the question back.
         self.hashing: Hashing = SHA256 if kind == "sha256" else SHA1
         self.path = os.path.join(os.fsencode(self.folder), self.run("rev-parse", "--git-common-dir").rstrip(b"\n"))
-        if is_history(self.path):
-            raise BridgeError(f"{self.folder} is a history's folder, and no git repository")
         self.is_bare = self.run("rev-parse", "--is-bare-repository").strip() == b"true"
         self.is_shallow = os.path.exists(os.path.join(self.path, b"shallow"))
         self.is_open = True
@@ -122,6 +142,12 @@ class Git:
         status, said = self._told([*self._fixed, "clone", "--mirror", "--progress", "--", source, self.folder], (), bar)
         if status:
             raise BridgeError(f"git clone {source}: {said}")
+
+    def push(self, remote: str, bar: Progress) -> None:
+        """Has a repository elsewhere have the names that this one has, and no others."""
+        status, said = self._told([*self._words, "push", "--mirror", "--progress", "--", remote], (), bar)
+        if status:
+            raise BridgeError(f"git push {remote}: {said}")
 
     def _told(self, words: List[str], given: Iterable[bytes], bar: Progress) -> Tuple[int, str]:
         """Gives git these parts, and returns its status and what it says. The bar shows its progress."""
@@ -229,7 +255,8 @@ class Git:
                 digits, kind, *length = line.split()
                 if not length:
                     raise BridgeError(f"{self.folder} has no object {digits.decode()}")
-                content = out.read(int(length[0]) + 1)[:-1]
+                content = out.read(int(length[0]))
+                out.read(1)
                 id = bytes.fromhex(digits.decode())
                 if len(content) != int(length[0]) or self.hashing.id_of(kind.decode(), content) != id:
                     raise BridgeError(f"{self.folder}: the object {digits.decode()} is damaged")
@@ -252,12 +279,13 @@ _PART = re.compile(r"(?:remote: )?([A-Z][a-z ]+): +[0-9]+% \(([0-9]+)/([0-9]+)\)
 
 def _listen(stream: IO[bytes], said: List[str], bar: Progress) -> None:
     """Takes the lines that git writes, and has the bar show those that say how far it is."""
-    for line in io.TextIOWrapper(stream, encoding="utf-8", errors="replace"):
-        found = _PART.match(line)
-        if found:
-            bar.show(found[1].lower(), int(found[2]), int(found[3]))
-        elif line.strip():
-            said.append(line.rstrip("\n"))
+    with io.TextIOWrapper(stream, encoding="utf-8", errors="replace") as lines:
+        for line in lines:
+            found = _PART.match(line)
+            if found:
+                bar.show(found[1].lower(), int(found[2]), int(found[3]))
+            elif line.strip():
+                said.append(line.rstrip("\n"))
 
 
 def packed(count: int, objects: Iterable[Tuple[str, bytes]], hashing: Hashing) -> Iterator[bytes]:

@@ -6,10 +6,8 @@ elsewhere it is moved first, and if a commit without parents comes to a name tha
 """
 import argparse
 import contextlib
-import json
 import os
 import re
-import subprocess
 import sys
 import tempfile
 from collections import deque
@@ -17,15 +15,18 @@ from dataclasses import dataclass, field
 from typing import IO, Any, Callable, Deque, Dict, Iterator, List, Optional, Sequence, Tuple
 
 from . import protocol
+from .bridge import Bars, add_common_words, report
 from .bridge_folder import WAIT
-from .engine import Pending, act
+from .bridge_forms import MAX_CONTENT
+from .bridge_git import Git, source
+from .engine import Pending, act, is_sha256
 from .errors import HistoryError, Refused
 from .progress import Progress
 from .protocol import ANY, NEW, Actor, Expected
 from .repo import Repo
 from .texts import shown
 
-EXPORT = ["fast-export", "--all", "--show-original-ids", "--signed-tags=verbatim", "--reencode=no", "--mark-tags"]
+EXPORT = ["fast-export", "--all", "--show-original-ids", "--signed-tags=verbatim", "--reencode=no", "--mark-tags", "--use-done-feature"]
 OWN_NAME = b"refs/wunthavel/fast-import"
 # So many commands are on their way at most.
 AHEAD = 200
@@ -101,7 +102,9 @@ class Stream:
                     break
                 lines.append(it)
             content = b"".join(lines)
-        elif re.fullmatch(rb"data [0-9]+", line):
+        elif re.fullmatch(rb"data [0-9]{1,18}", line):
+            if int(line[5:]) > MAX_CONTENT:
+                raise StreamError(f"data of {int(line[5:]):,} bytes, over {MAX_CONTENT:,} (line {self.number} of those outside data)")
             content = self._source.read(int(line[5:]))
             if len(content) != int(line[5:]):
                 raise StreamError("the stream ends inside data")
@@ -131,7 +134,7 @@ def read_path(text: bytes) -> Tuple[bytes, bytes]:
     return re.sub(rb"\\([0-3][0-7]{2}|.)", plain, found[1]), text[found.end() :].lstrip(b" ")
 
 
-_ACTOR = re.compile(rb"([^<]*?) ?<([^>]*)> ([0-9]+) ([+-][0-9]{4})\Z")
+_ACTOR = re.compile(rb"([^<]*?) ?<([^>]*)> ([0-9]{1,20}) ([+-][0-9]{4})\Z")
 
 
 def read_actor(text: bytes, title: str) -> Actor:
@@ -146,10 +149,33 @@ def read_actor(text: bytes, title: str) -> Actor:
 # The import.
 
 
+class NewIds:
+    """The file beside the folder that has the original and the new id of each commit and tag that got another one, a line each."""
+
+    def __init__(self, folder: str) -> None:
+        self.path = folder.rstrip("/") + ".new-ids"
+        self.known: Dict[str, str] = {}
+        self.count = 0
+        self._file: Optional[IO[str]] = None
+        with contextlib.suppress(FileNotFoundError), open(self.path, encoding="ascii") as it:
+            self.known.update(line.split() for line in it if len(line.split()) == 2)
+
+    def add(self, original: str, id: str) -> None:
+        """Adds a pair."""
+        self.count += 1
+        self._file = self._file or open(self.path, "a", encoding="ascii")
+        self._file.write(f"{original} {id}\n")
+
+    def close(self) -> None:
+        """Writes what wasn't written yet."""
+        if self._file:
+            self._file.close()
+
+
 class FastImport:
     """One import into an open repository."""
 
-    def __init__(self, repo: Repo, stream: Stream, new_ids: bool = False, bar: Optional[Progress] = None) -> None:
+    def __init__(self, repo: Repo, stream: Stream, new_ids: Optional[NewIds] = None, bar: Optional[Progress] = None) -> None:
         self.repo, self.stream, self.new_ids, self.bar = repo, stream, new_ids, bar
         self._ahead: Deque[Tuple["Pending[Any]", str, Optional[Callable[[Any], None]]]] = deque()
         # What a mark means: a commit's id, a tag's name, or the place of a file's content in the room.
@@ -165,7 +191,7 @@ class FastImport:
         self._said: Dict[bytes, Optional[str]] = {}
         self._tagged: Dict[bytes, str] = {protocol.raw(it.name): it.id for it in names if it.is_tag}
         self.count = {"commits": 0, "tags": 0, "names": 0, "known": 0}
-        self.other_ids: List[Tuple[str, str]] = []
+        self._announces_done = False
 
     def run(self) -> None:
         """Reads the stream to its end."""
@@ -174,6 +200,8 @@ class FastImport:
             del self._now[OWN_NAME]
         while True:
             line = self.stream.line()
+            if line is None and self._announces_done:
+                raise StreamError("the stream was cut: it ends without the 'done' that it announces")
             if line is None or line == b"done":
                 break
             self._read(line)
@@ -194,6 +222,8 @@ class FastImport:
             self._settle()
         elif word == b"feature" and rest.split(b"=")[0] not in (b"done", b"date-format", b"force", b"notes", b"relative-marks", b"no-relative-marks"):
             raise StreamError(f"the stream needs the feature {shown(rest)}")
+        elif line == b"feature done":
+            self._announces_done = True
         elif word not in (b"", b"progress", b"feature", b"option"):
             raise StreamError(f"'{shown(line[:80])}' is no command of an export (line {self.stream.number} of those outside data)")
 
@@ -229,7 +259,7 @@ class FastImport:
                 if not self.new_ids:
                     why = "the stream leaves something of it out, as a signature or a header"
                     raise StreamError(f"{key[:-1]} {it.title}: it has the id {id} here ({why}); --new-ids goes on")
-                self.other_ids.append((it.original, id))
+                self.new_ids.add(it.original, id)
 
         return compare
 
@@ -270,7 +300,8 @@ class FastImport:
             elif word == b"committer":
                 it.committer = read_actor(rest, f"the committer of {it.title}")
             elif word in (b"encoding", b"gpgsig"):
-                raise StreamError(f"commit {it.title}: it has {'an encoding (' + shown(rest) + ')' if word == b'encoding' else 'a signature'}")
+                what = "a signature" if word == b"gpgsig" else f"an encoding ({shown(rest)}); --from with --new-ids makes it UTF-8"
+                raise StreamError(f"commit {it.title}: it has {what}")
             else:
                 break
         self.stream.give_back(line)
@@ -351,10 +382,11 @@ class FastImport:
             parents.insert(0, current)
         assert it.committer is not None
         self._last = it.committer
-        if it.original and self._has(it.original):
+        known = self._known(it)
+        if known:
             self.count["known"] += 1
-            self._ids[it.mark] = it.original
-            self._said[it.name] = it.original
+            self._ids[it.mark] = known
+            self._said[it.name] = known
             return
         on, expect = self._place(it.name, parents[0] if parents else None, title)
         edits = self._edits(it, parents[0] if parents else None, title)
@@ -396,8 +428,15 @@ class FastImport:
             else:
                 yield protocol.graft(path, parent, what)
 
-    def _has(self, id: str) -> bool:
-        return os.path.exists(os.path.join(self.repo.folder, "objects", id[:2], id[2:]))
+    def _known(self, it: Made) -> str:
+        """Returns the id under which the folder has the original already, or nothing."""
+        for id in (it.original, self._new_id(it)):
+            if id and os.path.exists(os.path.join(self.repo.folder, "objects", id[:2], id[2:])):
+                return id
+        return ""
+
+    def _new_id(self, it: Made) -> str:
+        return self.new_ids.known.get(it.original, "") if self.new_ids else ""
 
     # Names.
 
@@ -470,7 +509,7 @@ class FastImport:
             raise StreamError(f"{title}: it has no tagger")
         self._last = it.committer
         self._said.pop(it.name, None)
-        if it.original and self._tagged.get(it.name) == it.original:
+        if it.original and self._tagged.get(it.name) in (it.original, self._new_id(it)):
             self.count["known"] += 1
             return
         command = protocol.tag(it.name, commit, it.message, it.committer, ANY)
@@ -492,22 +531,33 @@ class FastImport:
         self._room.close()
 
 
-def fast_import(folder: str, source: IO[bytes], sha256: bool = False, new_ids: bool = False, head: str = "", engine: Optional[str] = None, bar: Optional[Progress] = None) -> Dict[str, Any]:
+def fast_import(
+    folder: str,
+    stream: IO[bytes],
+    sha256: bool = False,
+    new_ids: bool = False,
+    head: str = "",
+    engine: Optional[str] = None,
+    bars: Optional[Bars] = None,
+) -> Dict[str, Any]:
     """Imports a stream into a folder, which is made if there is none, and returns a summary."""
+    bars, sha256 = bars or Bars(quiet=True), sha256 or is_sha256(folder)
     if not os.path.exists(os.path.join(folder, "HEAD")):
         os.makedirs(folder, exist_ok=True)
         act("create", folder, sha256, engine)
-    with Repo(folder, sha256=sha256, recover=True, wait=WAIT, engine=engine) as repo:
-        work = FastImport(repo, Stream(source), new_ids, bar)
-        try:
-            work.run()
-            if head and repo.head != head:
-                repo.switch(head)
-            note = [] if repo.resolve("HEAD") else [f"HEAD names {repo.head}, which no commit is on (--head names another)"]
-        finally:
-            work.close()
-    act("check", folder, sha256, engine)
-    return {"done": True, **work.count, "other_ids": work.other_ids, "notes": note, "check": "whole"}
+    with contextlib.ExitStack() as ends:
+        ids = ends.enter_context(contextlib.closing(NewIds(folder))) if new_ids else None
+        repo = ends.enter_context(Repo(folder, sha256=sha256, recover=True, wait=WAIT, engine=engine))
+        bar = ends.enter_context(bars.during("commits and tags"))
+        work = ends.enter_context(contextlib.closing(FastImport(repo, Stream(stream), ids, bar)))
+        work.run()
+        if head and repo.head != head:
+            repo.switch(head)
+        notes = [] if repo.resolve("HEAD") else [f"HEAD names {repo.head}, which no commit is on (--head names another)"]
+    with bars.during("checking the folder") as bar:
+        act("check", folder, sha256, engine, lambda: bar.step(0))
+    others = {"new_ids": ids.path} if ids and ids.count else {}
+    return {"done": True, **work.count, "other_ids": ids.count if ids else 0, **others, "notes": notes, "check": "whole"}
 
 
 def _words() -> argparse.ArgumentParser:
@@ -515,44 +565,32 @@ def _words() -> argparse.ArgumentParser:
     example = "example:\n  git " + " ".join(EXPORT) + " | wunthavel fast-import store\n  wunthavel fast-import store --from project/.git"
     parser = argparse.ArgumentParser(prog="wunthavel fast-import", description=text, epilog=example, formatter_class=argparse.RawDescriptionHelpFormatter)
     parser.add_argument("folder", metavar="FOLDER", help="the history's folder, which is made if there is none")
-    parser.add_argument("--from", dest="source", metavar="REPO", help="export this git repository, in place of reading standard input")
-    parser.add_argument("--head", metavar="BRANCH", default="", help="the branch that HEAD is to name, as refs/heads/main; a stream doesn't say")
-    parser.add_argument("--new-ids", action="store_true", help="go on after an id that isn't the original one, and list both")
-    parser.add_argument("--sha256", action="store_true", help="the ids are of SHA-256, and not of SHA-1")
-    parser.add_argument("--engine", metavar="PROGRAM", help="the engine (else WUNTHAVEL_ENGINE, or wunthavel-history on PATH)")
-    parser.add_argument("--json", action="store_true", help="a summary as JSON on standard output")
-    parser.add_argument("--quiet", action="store_true", help="no progress and no summary")
+    exported = "export this git repository, in place of reading standard input: a folder, or a bundle or a URL, which git clones first"
+    parser.add_argument("--from", dest="source", metavar="REPO", help=exported)
+    parser.add_argument("--head", metavar="BRANCH", default="", help="the branch that HEAD is to name, as refs/heads/main (that of --from; a stream doesn't say)")
+    parser.add_argument("--new-ids", action="store_true", help="go on after an id that isn't the original one; FOLDER.new-ids lists both")
+    parser.add_argument("--sha256", action="store_true", help="the ids are of SHA-256; --from and a folder with objects show it without this")
+    add_common_words(parser)
     return parser
 
 
-def _import(asked: argparse.Namespace, bar: Progress) -> Dict[str, Any]:
-    given = (asked.sha256, asked.new_ids, asked.head, asked.engine, bar)
+def _import(asked: argparse.Namespace, bars: Bars) -> Dict[str, Any]:
     if not asked.source:
-        return fast_import(asked.folder, sys.stdin.buffer, *given)
-    with subprocess.Popen(["git", "-C", asked.source, *EXPORT], stdout=subprocess.PIPE) as export:
-        assert export.stdout
-        try:
-            summary = fast_import(asked.folder, export.stdout, *given)
-        except BaseException:
-            export.kill()
-            raise
-    if export.returncode:
-        raise StreamError(f"git fast-export ended with status {export.returncode}")
-    return summary
+        return fast_import(asked.folder, sys.stdin.buffer, asked.sha256, asked.new_ids, asked.head, asked.engine, bars)
+    with source(asked.source, bars) as git:
+        # An encoding is a header, which no commit of a history has.
+        words = [*EXPORT, "--reencode=yes"] if asked.new_ids else EXPORT
+        with git.stream(words) as stream:
+            return fast_import(asked.folder, stream, git.hashing.name == "sha256", asked.new_ids, asked.head or _branch(git), asked.engine, bars)
+
+
+def _branch(git: Git) -> str:
+    """Returns the branch that HEAD names there, if it names one."""
+    head, is_name = git.head()
+    return head.decode("utf-8", "surrogateescape") if is_name and head.startswith(b"refs/heads/") else ""
 
 
 def main(argv: Sequence[str]) -> int:
     """Does what the words say."""
     asked = _words().parse_args(argv)
-    try:
-        with Progress("commits and tags", quiet=asked.quiet) as bar:
-            summary = _import(asked, bar)
-    except (HistoryError, OSError) as error:
-        summary = {"done": False, "error": str(error)}
-        if not asked.json:
-            print(f"wunthavel: {error}", file=sys.stderr)
-    if asked.json:
-        print(json.dumps(summary))
-    elif summary["done"] and not asked.quiet:
-        print(*(f"{key.replace('_', ' ')}: {it}" for key, it in summary.items() if key != "done" and it not in (0, [])), sep="\n")
-    return 0 if summary["done"] else 1
+    return report(lambda bars: _import(asked, bars), asked)

@@ -9,7 +9,7 @@ import shutil
 from typing import Any, Dict, Iterator, List, Optional, Sequence
 
 from .bridge import Bars, Changes, Options, Side, compared, is_reached, links_of, options_of, reached, report, test_changes, words_of
-from .bridge_folder import Store, held
+from .bridge_folder import Store, held, is_history
 from .bridge_forms import BridgeError, CannotHold, Hashing, Patterns, Problem, git_commit_problem, git_entry_problem, git_time_problem, log_ids, log_lines
 from .bridge_forms import read_commit, read_tag, read_tree, shown
 from .bridge_git import Git
@@ -186,7 +186,8 @@ def git_export(folder: str, dest: str, sha256: bool = False, engine: Optional[st
         old = Side(git.names()[0], git.logs()) if git.is_open else Side({}, {})
         missing = work.missing(git)
         now = compared(work.side, old, asked.prune)
-        if git.is_open and not missing and not now and work.head in (None, git.head()[0]):
+        differs = missing or now or work.head not in (None, git.head()[0] if git.is_open else b"")
+        if git.is_open and is_history(store.path) and not differs:
             return work.summary(missing, now)
         with work.bars.during("checking the folder") as bar:
             store.check(bar)

@@ -7,10 +7,10 @@ has already is whole, so it isn't brought again.
 import contextlib
 import os
 from array import array
-from typing import Any, Dict, Iterable, Iterator, List, Optional, Sequence, Set, Tuple
+from typing import Any, Dict, Iterable, List, Optional, Sequence, Tuple
 
 from .bridge import Bars, Changes, Options, Side, compared, is_reached, options_of, report, test_changes, words_of
-from .bridge_folder import Store
+from .bridge_folder import Store, is_history
 from .bridge_forms import FOLDER, MAX_CONTENT, MAX_PATH, BridgeError, CannotHold, Patterns, Problem, collisions, commit_problem, git_commit_problem
 from .bridge_forms import is_full_name, log_problems, name_problem, read_commit, read_tag, read_tree, shown, tag_problem, tree_problem, with_titles
 from .bridge_git import Git, source
@@ -79,7 +79,7 @@ class Import:
 
     def unchanged(self) -> Optional[Changes]:
         """Returns the names that the folder alone has, if all that is wanted is as it is there. Then the folder needn't be opened."""
-        if self.problems or self.asked.unreached or not self.store.exists():
+        if self.problems or self.asked.unreached or not is_history(self.store.path):
             return None
         with self.store.held(alone=False):
             now = compared(self.side, self.store.side(), self.asked.prune)
@@ -108,13 +108,12 @@ class Import:
     def _choose(self) -> None:
         """Marks what is wanted, of folders and files only those that a commit or a name has itself."""
         size = len(self.graph.ids)
-        # Git knows the empty folder without keeping it, so reading commits may have added it.
+        # Reading commits may have added the empty folder.
         self.there += bytes(size - len(self.there))
         self.longest = array("I", bytes(4 * size))
         self.wanted = bytearray(size)
-        tips = (self.graph.number[id] for id in self.side.tips(self.hashing) if id in self.graph.number)
-        if self.asked.unreached:
-            tips = iter(range(size))
+        known = (self.graph.number[id] for id in self.side.tips(self.hashing) if id in self.graph.number)
+        tips: Iterable[int] = range(size) if self.asked.unreached else known
         for _ in self.graph.reach(tips, self.wanted, self.there):
             pass
 
@@ -144,50 +143,49 @@ class Import:
         """Keeps what a commit or tag names; returns why a history can't hold it."""
         if kind == "tag":
             tag = read_tag(content, self.hashing)
-            problem, named = tag_problem(tag), [(COMMIT, tag.target)]
-        else:
-            commit = read_commit(content, self.hashing)
-            problem, named = commit_problem(commit), [(TREE, commit.tree), *((COMMIT, it) for it in commit.parents)]
-            odd = None if problem else git_commit_problem(commit)
-            if odd:
-                self._odd[number] = odd
-        links = []
-        for expected, id in named:
-            problem = problem or self._link_problem(expected, id)
-            if id in self.graph.number:
-                links.append(self.graph.number[id])
-        self.graph.link(number, links, (0 for _ in links))
-        return problem
-
-    def _link_problem(self, expected: int, id: bytes) -> Optional[str]:
-        number = self.graph.number.get(id)
-        if number is None and id == self.hashing.empty_tree:
-            number = self.graph.add(id, "tree")
-        if number is None:
-            return f"it names {KINDS[expected]} {id.hex()}, which isn't there (is the repository shallow or partial?)"
-        found = self.graph.kinds[number]
-        return None if found == expected else f"it names {id.hex()} as a {KINDS[expected]}, which is a {KINDS[found]}"
+            links, problem = self._named(COMMIT, [tag.target])
+            self.graph.link(number, links, (0 for _ in links))
+            return tag_problem(tag) or problem
+        commit = read_commit(content, self.hashing)
+        if commit.tree == self.hashing.empty_tree and commit.tree not in self.graph.number:
+            # Git knows it without keeping it.
+            self.graph.add(commit.tree, "tree")
+        trees, tree_fault = self._named(TREE, [commit.tree])
+        parents, parent_fault = self._named(COMMIT, commit.parents)
+        self.graph.link(number, trees + parents, (0 for _ in trees + parents))
+        odd = git_commit_problem(commit) if not commit_problem(commit) else None
+        if odd:
+            self._odd[number] = odd
+        return commit_problem(commit) or tree_fault or parent_fault
 
     def _take_tree(self, number: int, content: bytes) -> Optional[str]:
         """Keeps what a folder has; returns why a history can't hold it."""
         entries = read_tree(content, self.hashing)
-        problem, longest = tree_problem(entries, self.hashing), 0
-        links, lengths = [], []
-        numbers, kinds, wanted = self.graph.number, self.graph.kinds, self.wanted
-        for mode, name, id in entries:
-            expected, at = TREE if mode == FOLDER else BLOB, numbers.get(id)
-            if at is None or kinds[at] != expected:
-                problem = problem or self._link_problem(expected, id)
-                continue
-            wanted[at] = 1
-            if expected == TREE:
-                links.append(at)
-                lengths.append(min(len(name), MAX_PATH + 1))
-            elif len(name) > longest:
-                longest = len(name)
-        self.longest[number] = longest
-        self.graph.link(number, links, lengths)
-        return problem
+        files = [it for it in entries if it[0] != FOLDER]
+        folders = [it for it in entries if it[0] == FOLDER]
+        blobs, blob_fault = self._named(BLOB, [id for _, _, id in files])
+        trees, tree_fault = self._named(TREE, [id for _, _, id in folders])
+        for it in (*blobs, *trees):
+            self.wanted[it] = 1
+        self.longest[number] = max((len(name) for _, name, _ in files), default=0)
+        self.graph.link(number, trees, (min(len(name), MAX_PATH + 1) for _, name, _ in folders))
+        return tree_problem(entries, self.hashing) or blob_fault or tree_fault
+
+    def _named(self, expected: int, ids: Sequence[bytes]) -> Tuple[List[int], Optional[str]]:
+        """Returns the numbers of the objects that another one names as of this kind, and what is wrong with the first that isn't there as such."""
+        numbers, kinds = self.graph.number, self.graph.kinds
+        found = [numbers.get(it, -1) for it in ids]
+        if -1 not in found and all(kinds[it] == expected for it in set(found)):
+            return found, None
+        fine = [it for it in found if it >= 0 and kinds[it] == expected]
+        return fine, next(filter(None, (self._link_problem(expected, it) for it in ids)))
+
+    def _link_problem(self, expected: int, id: bytes) -> Optional[str]:
+        number = self.graph.number.get(id)
+        if number is None:
+            return f"it names {KINDS[expected]} {id.hex()}, which isn't there (is the repository shallow or partial?)"
+        found = self.graph.kinds[number]
+        return None if found == expected else f"it names {id.hex()} as a {KINDS[expected]}, which is a {KINDS[found]}"
 
     def _test_paths(self) -> None:
         for number in self.order:
