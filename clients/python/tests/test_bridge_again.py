@@ -72,10 +72,21 @@ class OneNewPlace(Case):
             said = [json.loads(it.communicate()[0]) for it in both]
             self.assertFalse(said[0]["done"])
             if said[1]["done"]:
-                self.assertEqual(git(dest, "for-each-ref"), git(self.source, "for-each-ref"))
-                self.assertEqual(git(dest, "fsck", "--strict", "--no-dangling"), "")
+                self.assertEqual(all_of(dest), all_of(self.source))
             else:
                 self.assertIn("another process", said[1]["error"])
+
+    def test_what_git_refuses_of_few_objects_is_not_taken(self) -> None:
+        # Such a path is one of several to git unless it is in quotes.
+        self.dest = os.path.join(self.room, 'a:b"c\\d')
+        self.give()
+        self.commit("two", b="b")
+        self.bring("--unreached")
+        self.give()
+        engine(self.store, COMMIT.replace(b"put file 1 1\n%s\nx", b"put file 14 3001\n%s\n" + b"x" * 3000 + b"\n") % (b"other", b".gitattributes"))
+        self.assertIn(".gitattributes", self.give(status=1)["error"])
+        self.assertEqual(all_of(self.dest), all_of(self.source))
+        self.assertEqual(git(self.dest, "fsck", "--strict", "--no-dangling"), "")
 
     def test_an_empty_folder_becomes_the_repository_in_its_place(self) -> None:
         os.mkdir(self.dest)

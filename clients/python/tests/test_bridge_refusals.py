@@ -173,6 +173,15 @@ class Refusals(Case):
         refused = {it["where"] for it in self.give(status=1)["cannot_hold"]}
         self.assertLessEqual({f"commit {zero}", f"commit {early}", "refs/heads/tagged"}, refused)
 
+    def test_what_reaches_an_object_that_git_cannot_hold(self) -> None:
+        self.bring()
+        actor = b" 3 3 5 +0000\nAda\na@b\n"
+        made = engine(self.store, b"commit refs/heads/odd new\nput file 15 1\nd/e/.git/config\nx\nauthor%scommitter%smessage 3\na\n\0\nend\n" % (actor, actor))
+        id = made.split()[2].decode()
+        said = self.give(status=1)["cannot_hold"]
+        self.assertEqual(sorted((it["where"].split()[0], it["by"]) for it in said), [("commit", "refs/heads/odd"), ("tree", f"'d/e' of commit {id}, refs/heads/odd")])
+        self.give("--skip-refs", "refs/heads/odd")
+
     def test_a_folder_with_a_name_that_holds_no_id(self) -> None:
         self.bring()
         os.makedirs(os.path.join(self.store, "refs/heads"))

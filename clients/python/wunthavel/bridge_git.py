@@ -25,6 +25,8 @@ KINDS = {"commit": 1, "tree": 2, "blob": 3, "tag": 4}
 # Git itself keeps fewer objects than these as files of their own.
 FEW = 100
 PIPE = 1 << 18
+# Has git test the objects of a pack, and keep it.
+TEST = ["index-pack", "-v", "--stdin", "--strict"]
 # What an export's lock of a log is a link to. Git's own locks are files.
 MARK = b"wunthavel git-export"
 
@@ -75,11 +77,11 @@ class Git:
             raise BridgeError("there is no git on PATH") from None
 
     @contextlib.contextmanager
-    def _process(self, words: List[str]) -> Iterator["subprocess.Popen[bytes]"]:
+    def _process(self, words: List[str], **env: str) -> Iterator["subprocess.Popen[bytes]"]:
         """Runs git beside this process, and ends it with the block."""
         pipe = subprocess.PIPE
         try:
-            process = subprocess.Popen(words, stdin=pipe, stdout=pipe, stderr=pipe, env=self._env, bufsize=PIPE)
+            process = subprocess.Popen(words, stdin=pipe, stdout=pipe, stderr=pipe, env={**self._env, **env}, bufsize=PIPE)
         except FileNotFoundError:
             raise BridgeError("there is no git on PATH") from None
         try:
@@ -149,9 +151,9 @@ class Git:
         if status:
             raise BridgeError(f"git push {remote}: {said}")
 
-    def _told(self, words: List[str], given: Iterable[bytes], bar: Progress) -> Tuple[int, str]:
+    def _told(self, words: List[str], given: Iterable[bytes], bar: Progress, **env: str) -> Tuple[int, str]:
         """Gives git these parts, and returns its status and what it says. The bar shows its progress."""
-        with self._process(words) as process:
+        with self._process(words, **env) as process:
             assert process.stdin and process.stdout and process.stderr
             said: List[str] = []
             listening = [threading.Thread(target=_listen, args=(it, said, bar), daemon=True) for it in (process.stdout, process.stderr)]
@@ -267,8 +269,20 @@ class Git:
 
     def add(self, count: int, objects: Iterable[Tuple[str, bytes]], bar: Progress) -> None:
         """Adds so many objects: git tests all of them, and then takes all or none, as one pack, or as files if they are few."""
-        words = ["unpack-objects", "-q", "--strict"] if count < FEW else ["index-pack", "-v", "--stdin", "--strict", "--fix-thin"]
-        status, said = self._told([*self._words, *words], packed(count, objects, self.hashing), bar)
+        pack = packed(count, objects, self.hashing)
+        if count >= FEW:
+            self._take([*TEST, "--fix-thin"], pack, bar)
+            return
+        # Git writes files before it has tested all, so it tests them elsewhere.
+        with tempfile.TemporaryDirectory(prefix="wunthavel-objects-") as room:
+            own = os.path.join(os.path.abspath(os.fsdecode(self.path)), "objects").replace("\\", "\\\\").replace('"', '\\"')
+            self._take(TEST, pack, bar, GIT_OBJECT_DIRECTORY=room, GIT_ALTERNATE_OBJECT_DIRECTORIES=f'"{own}"')
+            name = next(it for it in os.listdir(os.path.join(room, "pack")) if it.endswith(".pack"))
+            with open(os.path.join(room, "pack", name), "rb") as tested:
+                self._take(["unpack-objects", "-q"], iter(lambda: tested.read(PIPE), b""), bar)
+
+    def _take(self, words: List[str], pack: Iterable[bytes], bar: Progress, **env: str) -> None:
+        status, said = self._told([*self._words, *words], pack, bar, **env)
         if status:
             raise BridgeError(f"git {words[0]} in {self.folder}: {said}")
 

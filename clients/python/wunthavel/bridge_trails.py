@@ -1,23 +1,24 @@
-"""What reaches an object of a git repository, for whoever has to mend or leave it."""
+"""What reaches an object, for whoever has to mend it or leave it out."""
 import contextlib
 from array import array
-from typing import Collection, Dict, Iterable, List, Sequence, Tuple
+from typing import Callable, Collection, Dict, Iterable, Iterator, List, Tuple
 
 from .bridge import Side
-from .bridge_forms import log_ids, read_tree, shown
-from .bridge_git import Git
+from .bridge_forms import Hashing, log_ids, read_tree, shown
 from .bridge_graph import BLOB, KINDS, TREE, Graph
 
 NOBODY = "no name and no log reaches it"
+# Returns id, kind and content of objects.
+Read = Callable[[Iterable[bytes]], Iterator[Tuple[bytes, str, bytes]]]
 
 
 class Trails:
     """What reaches these objects: of a commit or a tag a name or a log, of a folder or file also a commit and the path there.
 
-    It reads all folders again, since nothing keeps what they have; so it is made only if an import is refused."""
+    It reads all folders again, since nothing keeps what they have; so it is made only if something is refused."""
 
-    def __init__(self, git: Git, graph: Graph, side: Side, order: Sequence[int], sought: Collection[int]) -> None:
-        self._git, self._graph = git, graph
+    def __init__(self, read: Read, hashing: Hashing, graph: Graph, side: Side, order: Iterable[int], sought: Collection[int]) -> None:
+        self._read, self._hashing, self._graph = read, hashing, graph
         self._owners: List[str] = []
         # One more than the owner's place; no owner is 0.
         self._owner = array("I", bytes(4 * len(graph.ids)))
@@ -25,7 +26,7 @@ class Trails:
         for name, id in sorted(side.names.items()):
             self._own(shown(name), [id])
         for name, log in sorted(side.logs.items()):
-            self._own(f"log of {shown(name)}", log_ids(log, git.hashing))
+            self._own(f"log of {shown(name)}", log_ids(log, hashing))
         self._above = self._read_above(order, {it for it in sought if graph.kinds[it] in (BLOB, TREE)})
 
     def _own(self, owner: str, tips: Iterable[bytes]) -> None:
@@ -42,14 +43,14 @@ class Trails:
                         self._commits.setdefault(it, number)
                 left.extend(links)
 
-    def _read_above(self, order: Sequence[int], sought: "set[int]") -> Dict[int, Tuple[int, bytes]]:
+    def _read_above(self, order: Iterable[int], sought: "set[int]") -> Dict[int, Tuple[int, bytes]]:
         """Returns for each of these folders and files, and for the folders above them, a folder that has it and its name there."""
         above: Dict[int, Tuple[int, bytes]] = {}
         trees = [self._graph.ids[it] for it in order if self._graph.kinds[it] == TREE] if sought else []
         ids = {self._graph.ids[it] for it in sought}
-        for tree, _, content in self._git.read(trees):
+        for tree, _, content in self._read(trees):
             with contextlib.suppress(ValueError):
-                for _, name, id in read_tree(content, self._git.hashing):
+                for _, name, id in read_tree(content, self._hashing):
                     if id in ids and self._graph.number[id] not in above:
                         above[self._graph.number[id]] = (self._graph.number[tree], name)
                         ids.add(tree)

@@ -6,13 +6,15 @@ it, then names move in one transaction, then logs are written: a command that wa
 import contextlib
 import os
 import shutil
-from typing import Any, Dict, Iterator, List, Optional, Sequence
+from typing import Any, Dict, Iterable, Iterator, List, Optional, Sequence, Tuple
 
 from .bridge import Bars, Changes, Options, Side, compared, is_reached, links_of, options_of, reached, report, test_changes, words_of
 from .bridge_folder import Store, held, is_history
 from .bridge_forms import BridgeError, CannotHold, Hashing, Patterns, Problem, git_commit_problem, git_entry_problem, git_time_problem, log_ids, log_lines
 from .bridge_forms import read_commit, read_tag, read_tree, shown
 from .bridge_git import Git
+from .bridge_graph import BLOB, Graph
+from .bridge_trails import Trails
 from .engine import is_sha256
 
 
@@ -61,14 +63,33 @@ class Export:
 
     def test_objects(self, missing: Sequence[bytes]) -> None:
         """Names the objects that git can't hold."""
+        bad: Dict[bytes, str] = {}
         for id in self.bars.over(missing, "reading objects", len(missing)):
             kind, content = self.store.read(id)
             self.count[kind] += 1
             why = self._problem(kind, content)
             if why:
-                self.problems.append(Problem(f"{kind} {id.hex()}", why))
+                bad[id] = why
+        if bad:
+            graph = self._graph()
+            numbers = {graph.number[id]: why for id, why in bad.items()}
+            trails = Trails(self._read, self.hashing, graph, self.side, graph.in_order(bytearray(b"\1" * len(graph.ids))), numbers)
+            self.problems += [Problem(trails.name(it), why, trails.by(it)) for it, why in numbers.items()]
         if self.problems:
             raise CannotHold(sorted(self.problems))
+
+    def _read(self, ids: Iterable[bytes]) -> Iterator[Tuple[bytes, str, bytes]]:
+        return ((id, *self.store.read(id)) for id in ids)
+
+    def _graph(self) -> Graph:
+        """Returns what all objects of the history name, but files."""
+        graph = Graph()
+        for id in self.ids:
+            graph.add(id, self.store.kind_of(id)[0])
+        for number, id in enumerate(graph.ids):
+            links = [it for it in map(graph.number.__getitem__, self._links(id)) if graph.kinds[it] != BLOB]
+            graph.link(number, links, (0 for _ in links))
+        return graph
 
     def _links(self, id: bytes) -> Sequence[bytes]:
         return [] if self.store.kind_of(id)[0] == "blob" else links_of(*self.store.read(id), self.hashing)

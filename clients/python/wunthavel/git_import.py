@@ -203,7 +203,7 @@ class Import:
             self._faults[number] = f"its content has {length:,} bytes, over {MAX_CONTENT:,}"
         bad = {it: why for it, why in self._faults.items() if self.wanted[it] and not self.there[it]}
         if bad:
-            trails = Trails(self.git, self.graph, self.side, self.order, bad)
+            trails = Trails(self.git.read, self.hashing, self.graph, self.side, self.order, bad)
             self.problems += [Problem(trails.name(it), why, trails.by(it), _hint(why, trails.by(it))) for it, why in bad.items()]
         for name, id in sorted(self.side.names.items()):
             number = self.graph.number.get(id)
