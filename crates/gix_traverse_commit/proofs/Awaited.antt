@@ -17,13 +17,13 @@ use Rattle.gix_traverse_commit.specs.Awaited.{AwaitsSome, MeetsToo, PaintsOnly, 
 use Rattle.gix_traverse_commit_known.specs.Ending.{times_in, times_waiting}
 use Rattle.gix_traverse_commit_known.specs.Known.{KnownCommits, turns_of}
 use Rattle.gix_traverse_commit_known.specs.Meeting.{CountsAll, CountsTimes, IsFresh, MarksAll, MarksMet}
-use Rattle.gix_traverse_commit_known.specs.Nodes.{Node, is_hidden, is_met, marks_of}
+use Rattle.gix_traverse_commit_known.specs.Nodes.{Node, has, is_hidden, is_met, flags_of}
 use Rattle.gix_traverse_commit_known.specs.Painting.{StaysPainted}
 use Rattle.gix_traverse_commit_known.specs.Queueing.{QueuesBehind}
 use Rattle.gix_traverse_commit_known.specs.Timely.{AllRowed, CountsAs, IsMetSoFar, Joins, LetsWait, Waits, keep_since}
 use Rattle.gix_traverse_commit_known.specs.Told.{AreTold, OverTold, rows_of}
 use Rattle.gix_traverse_commit_known.specs.declared.fetch.Source.{Source}
-use Rattle.gix_traverse_commit_known.specs.declared.nodes.Marks.{Marks}
+use Rattle.gix_traverse_commit_known.specs.declared.nodes.WalkFlags.{WalkFlags}
 use Rattle.gix_traverse_commit_known.specs.declared.waiting.Turn.{Turn}
 use Rattle.gix_traverse_graph.specs.declared.rows.Row.{Row}
 use Rattle.gix_traverse_graph.specs.declared.sorting.Timing.{Timing}
@@ -33,6 +33,7 @@ use Rattle.gix_traverse_commit_known.proofs.Keeping.{met_itself, met_more}
 use Rattle.gix_traverse_commit_known.proofs.Queueing.{queues_same, some_more, some_none, some_one}
 use Rattle.gix_traverse_commit_known.proofs.Simply.{take_push}
 use Rattle.gix_traverse_commit_known.proofs.Timely.{in_first, in_rest}
+use Rattle.gix_traverse_commit_known.specs.declared.nodes.TheConstants.WalkFlags.{SEEN, UNINTERESTING}
 
 -- ---- what is read
 
@@ -104,25 +105,25 @@ awaits_met old new id queue turns painted met behind = record {
   behind = some_none old new (id ∷ []) behind;
 }
 
-marked_painted : (nodes nodes' : List Node) (id : ObjectId) (marks : Marks) → ((q : ObjectId) → marks_of nodes' q ≡ cond (same_id id q) marks (marks_of nodes q)) → is_hidden nodes id ≡ marks.hidden → StaysPainted nodes nodes'
-marked_painted nodes nodes' id marks marked same q = ap (λ (m : Marks). m.hidden) (marked q) ∙ go (same_id id q) refl
+marked_painted : (nodes nodes' : List Node) (id : ObjectId) (flags : WalkFlags) → ((q : ObjectId) → flags_of nodes' q ≡ cond (same_id id q) flags (flags_of nodes q)) → is_hidden nodes id ≡ has flags UNINTERESTING → StaysPainted nodes nodes'
+marked_painted nodes nodes' id flags marked same q = ap (λ (m : WalkFlags). has m UNINTERESTING) (marked q) ∙ go (same_id id q) refl
   where
-    go : (b : Bool) → same_id id q ≡ b → (cond b marks (marks_of nodes q)).hidden ≡ is_hidden nodes q
+    go : (b : Bool) → same_id id q ≡ b → has (cond b flags (flags_of nodes q)) UNINTERESTING ≡ is_hidden nodes q
     go true e = sym same ∙ ap (is_hidden nodes) (same_from_test id q e)
     go false e = refl
 
-marked_met : (nodes nodes' : List Node) (id : ObjectId) (marks : Marks) → ((q : ObjectId) → marks_of nodes' q ≡ cond (same_id id q) marks (marks_of nodes q)) → marks.met ≡ true → MeetsToo nodes id nodes'
-marked_met nodes nodes' id marks marked now q = ap (λ (m : Marks). m.met) (marked q) ∙ go (same_id id q)
+marked_met : (nodes nodes' : List Node) (id : ObjectId) (flags : WalkFlags) → ((q : ObjectId) → flags_of nodes' q ≡ cond (same_id id q) flags (flags_of nodes q)) → has flags SEEN ≡ true → MeetsToo nodes id nodes'
+marked_met nodes nodes' id flags marked now q = ap (λ (m : WalkFlags). has m SEEN) (marked q) ∙ go (same_id id q)
   where
-    go : (b : Bool) → (cond b marks (marks_of nodes q)).met ≡ cond b true (is_met nodes q)
+    go : (b : Bool) → has (cond b flags (flags_of nodes q)) SEEN ≡ cond b true (is_met nodes q)
     go true = now
     go false = refl
 
-pub awaits_one : (old new : KnownCommits) (time : ℤ) (id : ObjectId) (marks : Marks) → ((q : ObjectId) → marks_of new.nodes q ≡ cond (same_id id q) marks (marks_of old.nodes q)) → marks.met ≡ true → is_hidden old.nodes id ≡ marks.hidden → is_met old.nodes id ≡ false → new.queue ≡ old.queue
+pub awaits_one : (old new : KnownCommits) (time : ℤ) (id : ObjectId) (flags : WalkFlags) → ((q : ObjectId) → flags_of new.nodes q ≡ cond (same_id id q) flags (flags_of old.nodes q)) → has flags SEEN ≡ true → is_hidden old.nodes id ≡ has flags UNINTERESTING → is_met old.nodes id ≡ false → new.queue ≡ old.queue
     → Joins true (turns_of old) (record { time = time; id = id }) (turns_of new) → ((i : Id) → times_waiting (turns_of new) i ≤ times_waiting (turns_of old) i + times_in (id ∷ []) i) → QueuesBehind old (id ∷ []) new → AwaitsSome old (id ∷ []) new
-awaits_one old new time id marks marked now same unmet queue joins once behind = let met = marked_met old.nodes new.nodes id marks marked now in record {
+awaits_one old new time id flags marked now same unmet queue joins once behind = let met = marked_met old.nodes new.nodes id flags marked now in record {
   queue = queue;
-  painted = marked_painted old.nodes new.nodes id marks marked same;
+  painted = marked_painted old.nodes new.nodes id flags marked same;
   gains = gains_met old.nodes new.nodes (times_waiting (turns_of old)) (times_waiting (turns_of new)) (λ x h. met_more (is_met old.nodes) (is_met new.nodes) id x met h) id unmet (met_itself (is_met old.nodes) (is_met new.nodes) id met) once;
   others = λ t c. elim ((joins t).0 c) [
     | inl s ↦ inr (subst (λ (x : ObjectId). Contains (id ∷ []) x) (sym (ap (λ (u : Turn). u.id) s.1)) (Contains-push [] id))
@@ -219,14 +220,14 @@ module _ (g : Commits ObjectId) (since : Option ℤ) (nodes nodes' : List Node) 
 
   pub tips_awaited : (tips : List ObjectId) → MarksAll nodes tips nodes' → LetsWait may_fail since g (IsFresh nodes tips) old new → ((x : ObjectId) → Contains tips x → is_met nodes x ≡ false → accepts (id_of x) ≡ true)
       → IsMetSoFar g (keep_since since g (is_hidden nodes) accepts) (is_met nodes) (λ _. ⊥) [] old → IsMetSoFar g (keep_since since g (is_hidden nodes) accepts) (is_met nodes') (Contains tips) [] new
-  tips_awaited tips marks w which before = met_awaited g (keep_since since g (is_hidden nodes) accepts) (is_met nodes) (is_met nodes') (IsFresh nodes tips) (λ _. ⊥) (Contains tips) [] may_fail since old new sure w timely
-      (λ x f t. passes x f.2 (which x f.0 f.1) t) (λ x f. f.1) (λ x f. (marks x).1 (inr f.0)) (λ x f. f.0) (λ x h. (marks x).1 (inl h)) (λ x z. absurd z)
-      (λ x h k. elim ((marks x).0 h) [ inl m ↦ inl m | inr c ↦ met_or_fresh nodes tips x c (shown x k) ])
+  tips_awaited tips flags w which before = met_awaited g (keep_since since g (is_hidden nodes) accepts) (is_met nodes) (is_met nodes') (IsFresh nodes tips) (λ _. ⊥) (Contains tips) [] may_fail since old new sure w timely
+      (λ x f t. passes x f.2 (which x f.0 f.1) t) (λ x f. f.1) (λ x f. (flags x).1 (inr f.0)) (λ x f. f.0) (λ x h. (flags x).1 (inl h)) (λ x z. absurd z)
+      (λ x h k. elim ((flags x).0 h) [ inl m ↦ inl m | inr c ↦ met_or_fresh nodes tips x c (shown x k) ])
       (λ x c k. inr (met_or_fresh nodes tips x c (shown x k))) before
 
   pub parents_awaited : (accepts' : Id → Bool) (named : ObjectId → Type 0) (listed parents : List ObjectId) → MarksMet nodes parents nodes' → LetsWait may_fail since g (λ x. IsFresh nodes parents x × (accepts' (id_of x) ≡ true)) old new → ((x : ObjectId) → is_met nodes x ≡ false → accepts' (id_of x) ≡ accepts (id_of x))
       → IsMetSoFar g (keep_since since g (is_hidden nodes) accepts) (is_met nodes) named listed old → IsMetSoFar g (keep_since since g (is_hidden nodes) accepts) (is_met nodes') (λ x. named x ⊎ Contains parents x) listed new
-  parents_awaited accepts' named listed parents marks w which before = met_awaited g (keep_since since g (is_hidden nodes) accepts) (is_met nodes) (is_met nodes') (λ x. IsFresh nodes parents x × (accepts' (id_of x) ≡ true)) named (λ x. named x ⊎ Contains parents x) listed may_fail since old new sure w timely
-      (λ x f t. passes x f.0.2 (sym (which x f.0.1) ∙ f.1) t) (λ x f. f.0.1) (λ x f. (marks x).1 (inr f.0)) (λ x f. inr f.0.0) (λ x h. (marks x).1 (inl h)) (λ x n. inl n)
-      (λ x h k. elim ((marks x).0 h) [ inl m ↦ inl m | inr f ↦ inr (f, which x f.1 ∙ accepted_too x k) ])
+  parents_awaited accepts' named listed parents flags w which before = met_awaited g (keep_since since g (is_hidden nodes) accepts) (is_met nodes) (is_met nodes') (λ x. IsFresh nodes parents x × (accepts' (id_of x) ≡ true)) named (λ x. named x ⊎ Contains parents x) listed may_fail since old new sure w timely
+      (λ x f t. passes x f.0.2 (sym (which x f.0.1) ∙ f.1) t) (λ x f. f.0.1) (λ x f. (flags x).1 (inr f.0)) (λ x f. inr f.0.0) (λ x h. (flags x).1 (inl h)) (λ x n. inl n)
+      (λ x h k. elim ((flags x).0 h) [ inl m ↦ inl m | inr f ↦ inr (f, which x f.1 ∙ accepted_too x k) ])
       (λ x d k. elim d [ inl n ↦ inl n | inr c ↦ inr (elim (met_or_fresh nodes parents x c (shown x k)) [ inl m ↦ inl m | inr f ↦ inr (f, which x f.1 ∙ accepted_too x k) ]) ]) before

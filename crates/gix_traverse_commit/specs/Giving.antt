@@ -206,7 +206,7 @@ pub record MeetsAll {F P : Type 0} (accepts : P → Id → Bool) (goes : P → I
   pub asked : Asks goes met before.predicate after.predicate
   pub times : CountsTimes (timing_of before.parents before.sorting) (rows_of before.source.rows)
       (accepted (accepts before.predicate) met) before.source.lookups after.source.lookups
-  pub marks : MarksMet before.known.nodes parents after.known.nodes
+  pub flags : MarksMet before.known.nodes parents after.known.nodes
   pub painted : StaysPainted before.known.nodes after.known.nodes
   pub behind : IsSome (timing_of before.parents before.sorting)
       → QueuesSome before.known parents after.known
@@ -231,7 +231,7 @@ pub record Comes {F P : Type 0} (accepts : P → Id → Bool) (goes : P → Id �
   pub counted : CountsUpTo (rows_of before.source.rows) id (length info.parent_ids.items)
       before.source.lookups after.source.lookups
   pub meets : Meets accepts goes (rows_of before.source.rows) before info after
-  pub marks : MarksMet before.known.nodes info.parent_ids.items after.known.nodes
+  pub flags : MarksMet before.known.nodes info.parent_ids.items after.known.nodes
   pub painted : StaysPainted before.known.nodes after.known.nodes
   pub behind : IsSome (timing_of before.parents before.sorting)
       → QueuesSome before.known info.parent_ids.items after.known
@@ -309,7 +309,7 @@ pub record CountsFirst {F P : Type 0} (accepts : P → Id → Bool) (goes : P �
   pub in_turn : honest → (g : Commits ObjectId) → AreTold (rows_of before.source.rows) table g
       → ComesInTurn accepts may_fail g begun info after
   pub queues : IsSome (timing a) → KeepsOrder begun info after
-  pub marks : MarksMet begun.known.nodes info.parent_ids.items after.known.nodes
+  pub flags : MarksMet begun.known.nodes info.parent_ids.items after.known.nodes
   pub paint_stays : StaysPainted begun.known.nodes after.known.nodes
 
 -- the walk begins, and by time it is the turn of a commit that isn't read, for this cause
@@ -450,7 +450,7 @@ pub record GivesNext {F P : Type 0} (accepts : P → Id → Bool) (goes : P → 
       → IfSome item (λ answer. OnOk answer (StaysPainted before.known.nodes after.known.nodes))
   pub takes_one : IfSome item
       (λ answer. IfOk answer (λ info. TakesOne before info.id after))
-  pub marks : before.begun ≡ true
+  pub flags : before.begun ≡ true
       → IfSome item
       (λ answer. IfOk answer
       (λ info. MarksMet before.known.nodes info.parent_ids.items after.known.nodes))

@@ -21,7 +21,7 @@ pub mod laws {
 
 /// The commits that a walk knows, by their numbers, and what was marked of each.
 pub mod nodes {
-    pub use gix_traverse_commit_known::nodes::{Marks, Nodes, Number};
+    pub use gix_traverse_commit_known::nodes::{Nodes, Number, WalkFlags};
 }
 
 /// The sample history, by the definitions.

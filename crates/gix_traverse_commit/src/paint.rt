@@ -14,11 +14,12 @@ ghost use Rattle.gix_traverse_commit_known.specs.Meeting.{CountsAll};
 ghost use Rattle.gix_traverse_graph.specs.Standing.{Reads};
 ghost use Rattle.gix_traverse_commit_known.specs.Told.{OverTold, rows_of};
 
+use bitflags::Flags;
 use gix_hash::ObjectId;
 use gix_object_lookup::FindInto;
 use gix_traverse_commit_known::fetch::{FetchError, Source};
 use gix_traverse_commit_known::known::Known;
-use gix_traverse_commit_known::nodes::Marks;
+use gix_traverse_commit_known::nodes::WalkFlags;
 use gix_traverse_graph::Parents;
 use std::alloc::{AllocError, Global};
 
@@ -31,18 +32,11 @@ fn paint_one(known: &mut Known, painted: &mut Vec<ObjectId>, id: ObjectId) -> Re
         ≡ (if is_hidden known.old.nodes id then painted.old.items else painted.old.items ++ id ∷
         [])) }
 {
-    let marks = known.marks(&id);
-    if marks.hidden {
+    let flags = known.flags(&id);
+    if flags.contains(WalkFlags::UNINTERESTING) {
         return Ok(());
     }
-    known.mark(
-        id,
-        Marks {
-            asked: marks.asked,
-            met: marks.met,
-            hidden: true,
-        },
-    )?;
+    known.mark(id, flags.as_hidden())?;
     painted.push(id)?;
     Ok(())
 }

@@ -10,7 +10,7 @@ use Rattle.gix_hash.specs.OrderLaws.{id_eq-itself, id_eq-same}
 use Rattle.gix_hash.specs.Packed.{object_id_of, object_id_of-id_of}
 use Rattle.gix_hash.specs.declared.object_id.ObjectId.{ObjectId}
 use Rattle.gix_traverse_commit_known.specs.Ending.{NoneGains, is_empty, may_come, met_under, times_in, times_waiting, known_ids}
-use Rattle.gix_traverse_commit_known.specs.Nodes.{Node, is_met, marks_in}
+use Rattle.gix_traverse_commit_known.specs.Nodes.{Node, has, is_met, flags_in}
 use Rattle.gix_traverse_graph.specs.Numbered.{same_id}
 use Rattle.gix_traverse_graph.specs.Order.{At}
 use Rattle.gix_traverse_commit_known.specs.Asked.{IsKnown}
@@ -24,6 +24,7 @@ use Rattle.gix_traverse_graph.proofs.Lists.{at_from_contains, none_at_nil}
 use Rattle.gix_traverse_commit_known.proofs.NodeLemmas.{find_none}
 use Rattle.gix_traverse_commit_known.proofs.Pending.{in_head, in_tail}
 use Rattle.std.proofs.lemmas.Bool.{false_from_ne_true}
+use Rattle.gix_traverse_commit_known.specs.declared.nodes.TheConstants.WalkFlags.{SEEN}
 
 -- ---- counting
 
@@ -187,7 +188,7 @@ each_id : (nodes nodes' : List Node) (queue queue' : List ObjectId) (turns turns
 each_id nodes nodes' queue queue' turns turns' h id = elim (value_of id) [
   | inl v ↦ subst (λ (i : Id). may_come nodes' (λ id. times_in queue' id + times_waiting turns' id) i ≤ may_come nodes (λ id. times_in queue id + times_waiting turns id) i) v.1 (h v.0)
   | inr none ↦ (
-      let a : met_under nodes id ≡ false = ap (λ r. (marks_in r).met) (find_none (λ (node : Node). id_eq id (id_of node.id)) nodes (λ y j c t. let f = none y.id in let z : ⊥ = cc in z)) in
+      let a : met_under nodes id ≡ false = ap (λ r. has (flags_in r) SEEN) (find_none (λ (node : Node). id_eq id (id_of node.id)) nodes (λ y j c t. let f = none y.id in let z : ⊥ = cc in z)) in
       let b : none_yet (met_under nodes id) ≡ 1 = ap none_yet a in
       let q = count_none (λ (x : ObjectId). id_eq id (id_of x)) queue' (λ x. none x) in
       let w = count_none (λ (t : Turn). id_eq id (id_of t.id)) turns' (λ t. none t.id) in

@@ -13,7 +13,7 @@ use Rattle.gix_traverse_graph.proofs.Lists.{at_one, at_from_contains, contains_f
 use Rattle.gix_traverse_graph.proofs.Frontier.{read_none, read_skip, read_push, read_next, read_all}
 use Rattle.gix_traverse_graph.proofs.Ids.{same_from_test, test_from_same}
 
--- the marks after one more is met
+-- the flags after one more is met
 abbrev pub Meets : (has has' : ObjectId → Bool) → ObjectId → Type 0
 Meets has has' y = (q : ObjectId) → has' q ≡ cond (same_id y q) true (has q)
 

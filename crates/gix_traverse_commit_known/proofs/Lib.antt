@@ -1,3 +1,4 @@
+pub mod FlagFacts
 pub mod Told
 pub mod Times
 pub mod Keeping

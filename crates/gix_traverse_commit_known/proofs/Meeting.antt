@@ -205,13 +205,13 @@ unmet_accepted nodes accepts tips refused taken = filter_same (λ (x : ObjectId)
 -- ---- which are marked as met
 
 -- the same by what is met and hidden
-abbrev pub Marks : (has hides has' : ObjectId → Bool) → List ObjectId → Type 0
-Marks has hides has' xs = (x : ObjectId) → (has' x ≡ true) ↔ ((has x ≡ true) ⊎ Fresh has hides xs x)
+abbrev pub WalkFlags : (has hides has' : ObjectId → Bool) → List ObjectId → Type 0
+WalkFlags has hides has' xs = (x : ObjectId) → (has' x ≡ true) ↔ ((has x ≡ true) ⊎ Fresh has hides xs x)
 
-pub marks_none : (has hides : ObjectId → Bool) → Marks has hides has []
-marks_none has hides = λ x. ((λ h. inl h), (λ d. elim d [ inl h ↦ h | inr f ↦ absurd (in_nil x f.0) ]))
+pub flags_none : (has hides : ObjectId → Bool) → WalkFlags has hides has []
+flags_none has hides = λ x. ((λ h. inl h), (λ d. elim d [ inl h ↦ h | inr f ↦ absurd (in_nil x f.0) ]))
 
-module _ (has hides mid has' : ObjectId → Bool) (hidden : Bool) (xs : List ObjectId) (i : ℕ) (y : ObjectId) (here : At xs i y) (w : Marks has hides mid (take i xs)) (same : hidden ≡ hides y) (new : (q : ObjectId) → has' q ≡ cond hidden (mid q) (cond (same_id y q) true (mid q))) where
+module _ (has hides mid has' : ObjectId → Bool) (hidden : Bool) (xs : List ObjectId) (i : ℕ) (y : ObjectId) (here : At xs i y) (w : WalkFlags has hides mid (take i xs)) (same : hidden ≡ hides y) (new : (q : ObjectId) → has' q ≡ cond hidden (mid q) (cond (same_id y q) true (mid q))) where
   wider : take (i + 1) xs ≡ take i xs ++ y ∷ []
   wider = take_push xs i y here
 
@@ -232,14 +232,14 @@ module _ (has hides mid has' : ObjectId → Bool) (hidden : Bool) (xs : List Obj
   itself false true e f t = inl f
   itself false false e f t = inr (last_wider, f, sym same ∙ e)
 
-  to_marks : (x : ObjectId) → has' x ≡ true → (has x ≡ true) ⊎ Fresh has hides (take (i + 1) xs) x
-  to_marks x t = elim (parent_or_met mid has' hidden y new x t) [
+  to_flags : (x : ObjectId) → has' x ≡ true → (has x ≡ true) ⊎ Fresh has hides (take (i + 1) xs) x
+  to_flags x t = elim (parent_or_met mid has' hidden y new x t) [
     | inl e ↦ subst (λ (z : ObjectId). (has z ≡ true) ⊎ Fresh has hides (take (i + 1) xs) z) (sym e) (itself hidden (has y) refl refl (subst (λ (z : ObjectId). has' z ≡ true) e t))
     | inr m ↦ before x m
   ]
 
-  from_marks : (x : ObjectId) → (has x ≡ true) ⊎ Fresh has hides (take (i + 1) xs) x → has' x ≡ true
-  from_marks x d = elim d [
+  from_flags : (x : ObjectId) → (has x ≡ true) ⊎ Fresh has hides (take (i + 1) xs) x → has' x ≡ true
+  from_flags x d = elim d [
     | inl h ↦ stays_met mid has' hidden y x new ((w x).1 (inl h))
     | inr f ↦ elim (in_push (take i xs) y x (subst (λ (zs : List ObjectId). Contains zs x) wider f.0)) [
       | inl c ↦ stays_met mid has' hidden y x new ((w x).1 (inr (c, f.1, f.2)))
@@ -247,8 +247,8 @@ module _ (has hides mid has' : ObjectId → Bool) (hidden : Bool) (xs : List Obj
     ]
   ]
 
-  pub marks_step : Marks has hides has' (take (i + 1) xs)
-  marks_step = λ x. (to_marks x, from_marks x)
+  pub flags_step : WalkFlags has hides has' (take (i + 1) xs)
+  flags_step = λ x. (to_flags x, from_flags x)
 
 -- ---- all are met
 

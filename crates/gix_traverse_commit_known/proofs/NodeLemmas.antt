@@ -5,15 +5,16 @@ use Rattle.std.specs.List.{list_any}
 use Rattle.gix_hash.specs.declared.object_id.ObjectId.{ObjectId}
 use Rattle.gix_traverse_graph.specs.Order.{At}
 use Rattle.gix_traverse_graph.specs.Numbered.{same_id}
-use Rattle.gix_traverse_commit_known.specs.Nodes.{AreNumbered, Node, ids_of, is_hidden, marks_in, marks_of, no_marks, nodes_in}
-use Rattle.gix_traverse_commit_known.specs.declared.nodes.Marks.{Marks}
+use Rattle.gix_traverse_commit_known.specs.Nodes.{AreNumbered, Node, has, ids_of, is_hidden, flags_in, flags_of, no_flags, nodes_in}
+use Rattle.gix_traverse_commit_known.specs.declared.nodes.WalkFlags.{WalkFlags}
 use Rattle.gix_traverse_graph.proofs.Ids.{same_from_test, same_id_apart, test_from_same}
 use Rattle.gix_traverse_graph.proofs.Lists.{at_from_contains, at_one, contains_from_at, none_at_nil, once_push}
 use Rattle.gix_traverse_commit_known.proofs.Simply.{take_push}
 use Rattle.gix_traverse_graph.proofs.Slow.{any_from_contains, contains_from_any}
+use Rattle.gix_traverse_commit_known.specs.declared.nodes.TheConstants.WalkFlags.{UNINTERESTING}
 
-abbrev pub node : ObjectId → Marks → Node
-node id marks = record { id = id; marks = marks }
+abbrev pub node : ObjectId → WalkFlags → Node
+node id flags = record { id = id; flags = flags }
 
 pub not_among : (ids : List ObjectId) (n : ℕ) (x : ObjectId) → list_any (same_id x) ids ≡ false → At ids n x → ⊥
 not_among ids n x e a = let t = any_from_contains same_id same_id_apart ids x (contains_from_at ids n x a) in let z : ⊥ = cc in z
@@ -25,6 +26,10 @@ find_passes {I} p (x ∷ xs) y e = go (p x) refl (find_passes p xs y)
     go : (b : Bool) → p x ≡ b → (find p xs ≡ Some y → p y ≡ true) → p y ≡ true
     go true f r = let g : Some x ≡ Some y = rw f at e in let same : x ≡ y = cc in ap p (sym same) ∙ f
     go false f r = let g : find p xs ≡ Some y = rw f at e in r g
+
+-- no flag is set
+pub unmarked : (m : WalkFlags) → m.0 ≡ 0 → m ≡ no_flags
+unmarked m e = ap (λ (n : ℕ). record { 0 = n }) e
 
 -- ---- finding
 
@@ -49,22 +54,22 @@ find_none p (w ∷ xs) h = go (p w) refl (find_none p xs (λ y j a t. h y (suc j
     go true e next = absurd (h w 0 refl e)
     go false e next = rw e next
 
--- a node is where its id and its marks are
-pub at_nodes : (ids : List ObjectId) (ms : List Marks) (k : ℕ) (x : ObjectId) (m : Marks) → At ids k x → At ms k m → At (nodes_in ids ms) k (node x m)
+-- a node is where its id and its flags are
+pub at_nodes : (ids : List ObjectId) (ms : List WalkFlags) (k : ℕ) (x : ObjectId) (m : WalkFlags) → At ids k x → At ms k m → At (nodes_in ids ms) k (node x m)
 at_nodes [] ms k x m a b = absurd (none_at_nil k x a)
 at_nodes (i ∷ ids) [] k x m a b = absurd (none_at_nil k m b)
-at_nodes (i ∷ ids) (n ∷ ms) zero x m a b = let e : i ≡ x = cc in let f : n ≡ m = cc in ap (λ (z : ObjectId). Some (node z n)) e ∙ ap (λ (z : Marks). Some (node x z)) f
+at_nodes (i ∷ ids) (n ∷ ms) zero x m a b = let e : i ≡ x = cc in let f : n ≡ m = cc in ap (λ (z : ObjectId). Some (node z n)) e ∙ ap (λ (z : WalkFlags). Some (node x z)) f
 at_nodes (i ∷ ids) (n ∷ ms) (suc k) x m a b = at_nodes ids ms k x m a b
 
-pub id_from_node : (ids : List ObjectId) (ms : List Marks) (k : ℕ) (r : Node) → At (nodes_in ids ms) k r → At ids k r.id
+pub id_from_node : (ids : List ObjectId) (ms : List WalkFlags) (k : ℕ) (r : Node) → At (nodes_in ids ms) k r → At ids k r.id
 id_from_node [] ms k r a = absurd (none_at_nil k r a)
 id_from_node (i ∷ ids) [] k r a = absurd (none_at_nil k r a)
 id_from_node (i ∷ ids) (n ∷ ms) zero r a = let e : node i n ≡ r = cc in ap (λ (z : Node). Some z.id) e
 id_from_node (i ∷ ids) (n ∷ ms) (suc k) r a = id_from_node ids ms k r a
 
--- the marks of a commit are at its number
-pub marks_at : (ids : List ObjectId) (ms : List Marks) → AreNumbered ids ms → (k : ℕ) (x : ObjectId) (m : Marks) → At ids k x → At ms k m → marks_of (nodes_in ids ms) x ≡ m
-marks_at ids ms w k x m a b = ap marks_in (find_one (λ (r : Node). same_id x r.id) (nodes_in ids ms) (node x m) k here (test_from_same x x refl) only)
+-- the flags of a commit are at its number
+pub flags_at : (ids : List ObjectId) (ms : List WalkFlags) → AreNumbered ids ms → (k : ℕ) (x : ObjectId) (m : WalkFlags) → At ids k x → At ms k m → flags_of (nodes_in ids ms) x ≡ m
+flags_at ids ms w k x m a b = ap flags_in (find_one (λ (r : Node). same_id x r.id) (nodes_in ids ms) (node x m) k here (test_from_same x x refl) only)
   where
     here : At (nodes_in ids ms) k (node x m)
     here = at_nodes ids ms k x m a b
@@ -75,50 +80,50 @@ marks_at ids ms w k x m a b = ap marks_in (find_one (λ (r : Node). same_id x r.
         let e : j ≡ k = w.once j k x there a in
         at_one (nodes_in ids ms) k y (node x m) (subst (λ (i : ℕ). At (nodes_in ids ms) i y) e c) here
 
-pub marks_none : (ids : List ObjectId) (ms : List Marks) (x : ObjectId) → ((n : ℕ) → At ids n x → ⊥) → marks_of (nodes_in ids ms) x ≡ no_marks
-marks_none ids ms x none = ap marks_in (find_none (λ (r : Node). same_id x r.id) (nodes_in ids ms) (λ y j a t. none j (subst (λ (z : ObjectId). At ids j z) (sym (same_from_test x y.id t)) (id_from_node ids ms j y a))))
+pub flags_none : (ids : List ObjectId) (ms : List WalkFlags) (x : ObjectId) → ((n : ℕ) → At ids n x → ⊥) → flags_of (nodes_in ids ms) x ≡ no_flags
+flags_none ids ms x none = ap flags_in (find_none (λ (r : Node). same_id x r.id) (nodes_in ids ms) (λ y j a t. none j (subst (λ (z : ObjectId). At ids j z) (sym (same_from_test x y.id t)) (id_from_node ids ms j y a))))
 
--- ---- marks are written
+-- ---- flags are written
 
-length_set : (ms : List Marks) (k : ℕ) (m : Marks) → length (set ms k m) ≡ length ms
+length_set : (ms : List WalkFlags) (k : ℕ) (m : WalkFlags) → length (set ms k m) ≡ length ms
 length_set [] k m = refl
 length_set (n ∷ ms) zero m = refl
 length_set (n ∷ ms) (suc k) m = ap suc (length_set ms k m)
 
-at_set : (ms : List Marks) (k : ℕ) (n m : Marks) → At ms k n → At (set ms k m) k m
+at_set : (ms : List WalkFlags) (k : ℕ) (n m : WalkFlags) → At ms k n → At (set ms k m) k m
 at_set [] k n m a = absurd (none_at_nil k n a)
 at_set (w ∷ ms) zero n m a = refl
 at_set (w ∷ ms) (suc k) n m a = at_set ms k n m a
 
-pub numbered_set : (ids : List ObjectId) (ms : List Marks) → AreNumbered ids ms → (k : ℕ) (m : Marks) → AreNumbered ids (set ms k m)
+pub numbered_set : (ids : List ObjectId) (ms : List WalkFlags) → AreNumbered ids ms → (k : ℕ) (m : WalkFlags) → AreNumbered ids (set ms k m)
 numbered_set ids ms w k m = record { once = w.once; as_many = length_set ms k m ∙ w.as_many }
 
-marks_other : (ids : List ObjectId) (ms : List Marks) (k : ℕ) (x q : ObjectId) (m : Marks) → At ids k x → same_id q x ≡ false → marks_of (nodes_in ids (set ms k m)) q ≡ marks_of (nodes_in ids ms) q
-marks_other [] ms k x q m a f = refl
-marks_other (i ∷ ids) [] k x q m a f = refl
-marks_other (i ∷ ids) (n ∷ ms) zero x q m a f =
+flags_other : (ids : List ObjectId) (ms : List WalkFlags) (k : ℕ) (x q : ObjectId) (m : WalkFlags) → At ids k x → same_id q x ≡ false → flags_of (nodes_in ids (set ms k m)) q ≡ flags_of (nodes_in ids ms) q
+flags_other [] ms k x q m a f = refl
+flags_other (i ∷ ids) [] k x q m a f = refl
+flags_other (i ∷ ids) (n ∷ ms) zero x q m a f =
     let e : i ≡ x = cc in
     go (same_id q i) (subst (λ (z : ObjectId). same_id q z ≡ false) (sym e) f)
   where
-    go : (b : Bool) → b ≡ false → marks_in (cond b (Some (node i m)) (find (λ (r : Node). same_id q r.id) (nodes_in ids ms))) ≡ marks_in (cond b (Some (node i n)) (find (λ (r : Node). same_id q r.id) (nodes_in ids ms)))
+    go : (b : Bool) → b ≡ false → flags_in (cond b (Some (node i m)) (find (λ (r : Node). same_id q r.id) (nodes_in ids ms))) ≡ flags_in (cond b (Some (node i n)) (find (λ (r : Node). same_id q r.id) (nodes_in ids ms)))
     go false g = refl
     go true g = let z : ⊥ = cc in absurd z
-marks_other (i ∷ ids) (n ∷ ms) (suc k) x q m a f = go (same_id q i) (marks_other ids ms k x q m a f)
+flags_other (i ∷ ids) (n ∷ ms) (suc k) x q m a f = go (same_id q i) (flags_other ids ms k x q m a f)
   where
-    go : (b : Bool) → marks_of (nodes_in ids (set ms k m)) q ≡ marks_of (nodes_in ids ms) q → marks_in (cond b (Some (node i n)) (find (λ (r : Node). same_id q r.id) (nodes_in ids (set ms k m)))) ≡ marks_in (cond b (Some (node i n)) (find (λ (r : Node). same_id q r.id) (nodes_in ids ms)))
+    go : (b : Bool) → flags_of (nodes_in ids (set ms k m)) q ≡ flags_of (nodes_in ids ms) q → flags_in (cond b (Some (node i n)) (find (λ (r : Node). same_id q r.id) (nodes_in ids (set ms k m)))) ≡ flags_in (cond b (Some (node i n)) (find (λ (r : Node). same_id q r.id) (nodes_in ids ms)))
     go true e = refl
     go false e = e
 
-pub marks_set : (ids : List ObjectId) (ms : List Marks) → AreNumbered ids ms → (k : ℕ) (x : ObjectId) (n m : Marks) → At ids k x → At ms k n → (q : ObjectId) → marks_of (nodes_in ids (set ms k m)) q ≡ cond (same_id x q) m (marks_of (nodes_in ids ms) q)
-marks_set ids ms w k x n m a b q = go (same_id x q) refl
+pub flags_set : (ids : List ObjectId) (ms : List WalkFlags) → AreNumbered ids ms → (k : ℕ) (x : ObjectId) (n m : WalkFlags) → At ids k x → At ms k n → (q : ObjectId) → flags_of (nodes_in ids (set ms k m)) q ≡ cond (same_id x q) m (flags_of (nodes_in ids ms) q)
+flags_set ids ms w k x n m a b q = go (same_id x q) refl
   where
     other : same_id x q ≡ false → (b : Bool) → same_id q x ≡ b → same_id q x ≡ false
     other f false g = g
     other f true g = let h = test_from_same x q (sym (same_from_test q x g)) in let z : ⊥ = cc in absurd z
 
-    go : (b : Bool) → same_id x q ≡ b → marks_of (nodes_in ids (set ms k m)) q ≡ cond b m (marks_of (nodes_in ids ms) q)
-    go true t = marks_at ids (set ms k m) (numbered_set ids ms w k m) k q m (subst (λ (z : ObjectId). At ids k z) (same_from_test x q t) a) (at_set ms k n m b)
-    go false t = marks_other ids ms k x q m a (other t (same_id q x) refl)
+    go : (b : Bool) → same_id x q ≡ b → flags_of (nodes_in ids (set ms k m)) q ≡ cond b m (flags_of (nodes_in ids ms) q)
+    go true t = flags_at ids (set ms k m) (numbered_set ids ms w k m) k q m (subst (λ (z : ObjectId). At ids k z) (same_from_test x q t) a) (at_set ms k n m b)
+    go false t = flags_other ids ms k x q m a (other t (same_id q x) refl)
 
 -- ---- one more node
 
@@ -126,23 +131,23 @@ length_push : {A : Type 0} (xs : List A) (x : A) → length (xs ++ x ∷ []) ≡
 length_push [] x = refl
 length_push (y ∷ xs) x = ap suc (length_push xs x)
 
-pub numbered_push : (ids : List ObjectId) (ms : List Marks) (x : ObjectId) (m : Marks) → AreNumbered ids ms → ((n : ℕ) → At ids n x → ⊥) → AreNumbered (ids ++ x ∷ []) (ms ++ m ∷ [])
+pub numbered_push : (ids : List ObjectId) (ms : List WalkFlags) (x : ObjectId) (m : WalkFlags) → AreNumbered ids ms → ((n : ℕ) → At ids n x → ⊥) → AreNumbered (ids ++ x ∷ []) (ms ++ m ∷ [])
 numbered_push ids ms x m w none = record {
   once = once_push ids x w.once (λ c. let (n, a) = at_from_contains ids x c in none n a);
   as_many = length_push ms m ∙ ap suc w.as_many ∙ sym (length_push ids x);
 }
 
-pub marks_push : (ids : List ObjectId) (ms : List Marks) (x : ObjectId) (m : Marks) → length ms ≡ length ids → ((n : ℕ) → At ids n x → ⊥) → (q : ObjectId) → marks_of (nodes_in (ids ++ x ∷ []) (ms ++ m ∷ [])) q ≡ cond (same_id x q) m (marks_of (nodes_in ids ms) q)
-marks_push [] [] x m e none q = go (same_id q x) refl (same_id x q) refl
+pub flags_push : (ids : List ObjectId) (ms : List WalkFlags) (x : ObjectId) (m : WalkFlags) → length ms ≡ length ids → ((n : ℕ) → At ids n x → ⊥) → (q : ObjectId) → flags_of (nodes_in (ids ++ x ∷ []) (ms ++ m ∷ [])) q ≡ cond (same_id x q) m (flags_of (nodes_in ids ms) q)
+flags_push [] [] x m e none q = go (same_id q x) refl (same_id x q) refl
   where
-    go : (b : Bool) → same_id q x ≡ b → (d : Bool) → same_id x q ≡ d → marks_in (cond b (Some (node x m)) None) ≡ cond d m no_marks
+    go : (b : Bool) → same_id q x ≡ b → (d : Bool) → same_id x q ≡ d → flags_in (cond b (Some (node x m)) None) ≡ cond d m no_flags
     go true f true g = refl
     go false f false g = refl
     go true f false g = let h = test_from_same x q (sym (same_from_test q x f)) in let z : ⊥ = cc in absurd z
     go false f true g = let h = test_from_same q x (sym (same_from_test x q g)) in let z : ⊥ = cc in absurd z
-marks_push [] (n ∷ ms) x m e none q = let z : ⊥ = cc in absurd z
-marks_push (i ∷ ids) [] x m e none q = let z : ⊥ = cc in absurd z
-marks_push (i ∷ ids) (n ∷ ms) x m e none q = go (same_id q i) refl (marks_push ids ms x m (let f : suc (length ms) ≡ suc (length ids) = e in omega arith) (λ k a. none (suc k) a) q)
+flags_push [] (n ∷ ms) x m e none q = let z : ⊥ = cc in absurd z
+flags_push (i ∷ ids) [] x m e none q = let z : ⊥ = cc in absurd z
+flags_push (i ∷ ids) (n ∷ ms) x m e none q = go (same_id q i) refl (flags_push ids ms x m (let f : suc (length ms) ≡ suc (length ids) = e in omega arith) (λ k a. none (suc k) a) q)
   where
     tail : Option Node
     tail = find (λ (r : Node). same_id q r.id) (nodes_in ids ms)
@@ -156,7 +161,7 @@ marks_push (i ∷ ids) (n ∷ ms) x m e none q = go (same_id q i) refl (marks_pu
         let same : i ≡ x = sym (same_from_test q i f) ∙ sym (same_from_test x q g) in
         absurd (none 0 (ap Some same))
 
-    go : (b : Bool) → same_id q i ≡ b → marks_in tail' ≡ cond (same_id x q) m (marks_in tail) → marks_in (cond b (Some (node i n)) tail') ≡ cond (same_id x q) m (marks_in (cond b (Some (node i n)) tail))
+    go : (b : Bool) → same_id q i ≡ b → flags_in tail' ≡ cond (same_id x q) m (flags_in tail) → flags_in (cond b (Some (node i n)) tail') ≡ cond (same_id x q) m (flags_in (cond b (Some (node i n)) tail))
     go true f h = not_x f (same_id x q) refl
     go false f h = h
 
@@ -175,7 +180,7 @@ taken_more ids xs xs' x e a new =
     new ∙ ap (λ (zs : List ObjectId). zs ++ x ∷ []) e ∙ sym (take_push ids (length xs) x a) ∙ ap (λ (n : ℕ). take n ids) (sym more)
 
 -- the ids of nodes are those that they were made of
-pub ids_again : (ids : List ObjectId) (ms : List Marks) → length ms ≡ length ids → ids ≡ ids_of (nodes_in ids ms)
+pub ids_again : (ids : List ObjectId) (ms : List WalkFlags) → length ms ≡ length ids → ids ≡ ids_of (nodes_in ids ms)
 ids_again [] ms e = refl
 ids_again (i ∷ ids) [] e = let z : ⊥ = cc in absurd z
 ids_again (i ∷ ids) (n ∷ ms) e = ap (λ (xs : List ObjectId). i ∷ xs) (ids_again ids ms (let f : suc (length ms) ≡ suc (length ids) = e in omega arith))
@@ -185,7 +190,7 @@ pub hidden_among : (nodes : List Node) (q : ObjectId) → is_hidden nodes q ≡ 
 hidden_among [] q h = let z : ⊥ = cc in absurd z
 hidden_among (n ∷ nodes) q h = go (same_id q n.id) refl h (hidden_among nodes q)
   where
-    go : (b : Bool) → same_id q n.id ≡ b → (marks_in (cond b (Some n) (find (λ (r : Node). same_id q r.id) nodes))).hidden ≡ true → (is_hidden nodes q ≡ true → Contains (ids_of nodes) q) → Contains (n.id ∷ ids_of nodes) q
+    go : (b : Bool) → same_id q n.id ≡ b → has (flags_in (cond b (Some n) (find (λ (r : Node). same_id q r.id) nodes))) UNINTERESTING ≡ true → (is_hidden nodes q ≡ true → Contains (ids_of nodes) q) → Contains (n.id ∷ ids_of nodes) q
     go true f g next = contains_from_at (n.id ∷ ids_of nodes) 0 q (ap Some (sym (same_from_test q n.id f)))
     go false f g next =
         let (k, a) = at_from_contains (ids_of nodes) q (next g) in

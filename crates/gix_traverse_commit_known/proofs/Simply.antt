@@ -5,7 +5,7 @@ use Rattle.gix_hash.specs.Id.{Id, id_of}
 use Rattle.gix_hash.specs.declared.object_id.ObjectId.{ObjectId}
 use Rattle.gix_traverse_graph.specs.Commits.{Commits, asked_parents, Reached, tip, parent, Passes, Listed}
 use Rattle.gix_traverse_commit_known.specs.Keeping.{Kept, KeptAll}
-use Rattle.gix_traverse_commit_known.specs.Nodes.{is_hidden, is_met, marks_of, Node}
+use Rattle.gix_traverse_commit_known.specs.Nodes.{has, is_hidden, is_met, flags_of, Node}
 use Rattle.gix_traverse_graph.specs.Numbered.{same_id}
 use Rattle.gix_traverse_graph.specs.Order.{At}
 use Rattle.gix_traverse_commit_known.specs.Painting.{ReachedFrom}
@@ -19,7 +19,7 @@ use Rattle.gix_traverse_commit_known.specs.declared.faults.Error.TheVariants as 
 use Rattle.gix_traverse_commit_known.specs.declared.faults.HiddenGraphError.TheVariants as hidden_fault
 use Rattle.gix_traverse_graph.specs.Sorting.{InOrder, IsNextIn}
 use Rattle.gix_traverse_graph.specs.declared.sorting.Timing.{Timing}
-use Rattle.gix_traverse_commit_known.specs.declared.nodes.Marks.{Marks}
+use Rattle.gix_traverse_commit_known.specs.declared.nodes.WalkFlags.{WalkFlags}
 use Rattle.gix_traverse_graph.specs.declared.rows.Row.{Row}
 use Rattle.gix_traverse_graph.proofs.Ids.{same_from_test, test_from_same}
 use Rattle.gix_traverse_commit_known.proofs.Keeping.{kept_end}
@@ -29,6 +29,7 @@ use Rattle.gix_traverse_commit_known.proofs.Painting.{known_fit}
 use Rattle.gix_traverse_graph.proofs.Turn.{at_first, next_first}
 use Rattle.std.proofs.lemmas.Bool.{and_from, and_parts}
 use Rattle.gix_traverse_graph.proofs.Check.{not_from}
+use Rattle.gix_traverse_commit_known.specs.declared.nodes.TheConstants.WalkFlags.{ASKED, SEEN, UNINTERESTING}
 
 -- ---- the predicate is called for tips
 
@@ -43,38 +44,38 @@ take_push {I} xs i x a = rw add-one (go xs i a)
     go (y ∷ ys) zero a = let same : y ≡ x = cc in ap (λ (z : I). z ∷ []) same
     go (y ∷ ys) (suc i) a = ap (λ (zs : List I). y ∷ zs) (go ys i a)
 
-pub asked_now : (accepts : Id → Bool) (tips : List ObjectId) (nodes nodes' : List Node) (it : ObjectId) (answer : Bool) (marks : Marks) → AreAsked accepts tips nodes → answer ≡ accepts (id_of it) → marks.asked ≡ true → marks.met ≡ not answer → marks.hidden ≡ is_hidden nodes it → ((q : ObjectId) → marks_of nodes' q ≡ cond (same_id it q) marks (marks_of nodes q)) → AreAsked accepts (tips ++ it ∷ []) nodes'
-asked_now accepts tips nodes nodes' it answer marks w told asked met hidden new = record {
+pub asked_now : (accepts : Id → Bool) (tips : List ObjectId) (nodes nodes' : List Node) (it : ObjectId) (answer : Bool) (flags : WalkFlags) → AreAsked accepts tips nodes → answer ≡ accepts (id_of it) → has flags ASKED ≡ true → has flags SEEN ≡ not answer → has flags UNINTERESTING ≡ is_hidden nodes it → ((q : ObjectId) → flags_of nodes' q ≡ cond (same_id it q) flags (flags_of nodes q)) → AreAsked accepts (tips ++ it ∷ []) nodes'
+asked_now accepts tips nodes nodes' it answer flags w told asked met hidden new = record {
   refused = λ x m. elim (which x) [
-    | inl (e, f) ↦ (let a : not answer ≡ true = sym met ∙ sym (ap (λ (k : Marks). k.met) f) ∙ m in subst (λ (z : ObjectId). accepts (id_of z) ≡ false) e (sym told ∙ not_true answer a))
-    | inr f ↦ w.refused x (sym (ap (λ (k : Marks). k.met) f) ∙ m)
+    | inl (e, f) ↦ (let a : not answer ≡ true = sym met ∙ sym (ap (λ (k : WalkFlags). has k SEEN) f) ∙ m in subst (λ (z : ObjectId). accepts (id_of z) ≡ false) e (sym told ∙ not_true answer a))
+    | inr f ↦ w.refused x (sym (ap (λ (k : WalkFlags). has k SEEN) f) ∙ m)
   ];
   accepted = λ x c m. elim (which x) [
     | inl (e, f) ↦ here x e f m
     | inr f ↦ elim (in_push tips it x c) [
-      | inl d ↦ w.accepted x d (sym (ap (λ (k : Marks). k.met) f) ∙ m)
+      | inl d ↦ w.accepted x d (sym (ap (λ (k : WalkFlags). has k SEEN) f) ∙ m)
       | inr e ↦ elim (one x (sym e)) [ inl g ↦ here x g.0 g.1 m | inr z ↦ absurd z ]
     ]
   ];
   asked = λ x s m. elim (which x) [
     | inl (e, f) ↦ here x e f m
-    | inr f ↦ w.asked x (sym (ap (λ (k : Marks). k.asked) f) ∙ s) (sym (ap (λ (k : Marks). k.met) f) ∙ m)
+    | inr f ↦ w.asked x (sym (ap (λ (k : WalkFlags). has k ASKED) f) ∙ s) (sym (ap (λ (k : WalkFlags). has k SEEN) f) ∙ m)
   ];
   unpainted = λ x. elim (which x) [
-    | inl (e, f) ↦ ap (λ (k : Marks). k.hidden) f ∙ hidden ∙ w.unpainted it
-    | inr f ↦ ap (λ (k : Marks). k.hidden) f ∙ w.unpainted x
+    | inl (e, f) ↦ ap (λ (k : WalkFlags). has k UNINTERESTING) f ∙ hidden ∙ w.unpainted it
+    | inr f ↦ ap (λ (k : WalkFlags). has k UNINTERESTING) f ∙ w.unpainted x
   ];
 }
   where
-    which : (x : ObjectId) → ((it ≡ x) × (marks_of nodes' x ≡ marks)) ⊎ (marks_of nodes' x ≡ marks_of nodes x)
+    which : (x : ObjectId) → ((it ≡ x) × (flags_of nodes' x ≡ flags)) ⊎ (flags_of nodes' x ≡ flags_of nodes x)
     which x = go (same_id it x) refl
       where
-        go : (b : Bool) → same_id it x ≡ b → ((it ≡ x) × (marks_of nodes' x ≡ marks)) ⊎ (marks_of nodes' x ≡ marks_of nodes x)
-        go true t = inl (same_from_test it x t, new x ∙ ap (λ (b : Bool). cond b marks (marks_of nodes x)) t)
-        go false t = inr (new x ∙ ap (λ (b : Bool). cond b marks (marks_of nodes x)) t)
+        go : (b : Bool) → same_id it x ≡ b → ((it ≡ x) × (flags_of nodes' x ≡ flags)) ⊎ (flags_of nodes' x ≡ flags_of nodes x)
+        go true t = inl (same_from_test it x t, new x ∙ ap (λ (b : Bool). cond b flags (flags_of nodes x)) t)
+        go false t = inr (new x ∙ ap (λ (b : Bool). cond b flags (flags_of nodes x)) t)
 
-    one : (x : ObjectId) → it ≡ x → ((it ≡ x) × (marks_of nodes' x ≡ marks)) ⊎ ⊥
-    one x e = inl (e, new x ∙ ap (λ (b : Bool). cond b marks (marks_of nodes x)) (test_from_same it x e))
+    one : (x : ObjectId) → it ≡ x → ((it ≡ x) × (flags_of nodes' x ≡ flags)) ⊎ ⊥
+    one x e = inl (e, new x ∙ ap (λ (b : Bool). cond b flags (flags_of nodes x)) (test_from_same it x e))
 
     not_true : (b : Bool) → not b ≡ true → b ≡ false
     not_true false e = refl
@@ -84,8 +85,8 @@ asked_now accepts tips nodes nodes' it answer marks w told asked met hidden new 
     not_false true e = refl
     not_false false e = let z : ⊥ = cc in absurd z
 
-    here : (x : ObjectId) → it ≡ x → marks_of nodes' x ≡ marks → is_met nodes' x ≡ false → accepts (id_of x) ≡ true
-    here x e f m = subst (λ (z : ObjectId). accepts (id_of z) ≡ true) e (sym told ∙ not_false answer (sym met ∙ sym (ap (λ (k : Marks). k.met) f) ∙ m))
+    here : (x : ObjectId) → it ≡ x → flags_of nodes' x ≡ flags → is_met nodes' x ≡ false → accepts (id_of x) ≡ true
+    here x e f m = subst (λ (z : ObjectId). accepts (id_of z) ≡ true) e (sym told ∙ not_false answer (sym met ∙ sym (ap (λ (k : WalkFlags). has k SEEN) f) ∙ m))
 
 -- the same predicate, and none that was met is unmet
 pub accepts_more : (f f' : Id → Bool) (nodes nodes' : List Node) (a : Asked) → f' ≡ f → ((x : ObjectId) → is_met nodes x ≡ true → is_met nodes' x ≡ true) → AcceptsAs f nodes a → AcceptsAs f' nodes' a
@@ -98,35 +99,35 @@ accepts_more f f' nodes nodes' a e grown w = record {
     before x false h n = h
     before x true h n = let m = grown x h in let z : ⊥ = cc in absurd z
 
--- ---- marks of one commit
+-- ---- flags of one commit
 
-module _ (nodes nodes' : List Node) (id : ObjectId) (marks : Marks) (new : (q : ObjectId) → marks_of nodes' q ≡ cond (same_id id q) marks (marks_of nodes q)) where
-  pub met_same : marks.met ≡ is_met nodes id → (q : ObjectId) → is_met nodes' q ≡ is_met nodes q
-  met_same e q = ap (λ (k : Marks). k.met) (new q) ∙ go (same_id id q) refl
+module _ (nodes nodes' : List Node) (id : ObjectId) (flags : WalkFlags) (new : (q : ObjectId) → flags_of nodes' q ≡ cond (same_id id q) flags (flags_of nodes q)) where
+  pub met_same : has flags SEEN ≡ is_met nodes id → (q : ObjectId) → is_met nodes' q ≡ is_met nodes q
+  met_same e q = ap (λ (k : WalkFlags). has k SEEN) (new q) ∙ go (same_id id q) refl
     where
-      go : (b : Bool) → same_id id q ≡ b → (cond b marks (marks_of nodes q)).met ≡ is_met nodes q
+      go : (b : Bool) → same_id id q ≡ b → has (cond b flags (flags_of nodes q)) SEEN ≡ is_met nodes q
       go true t = e ∙ ap (is_met nodes) (same_from_test id q t)
       go false t = refl
 
-  pub hidden_same : marks.hidden ≡ is_hidden nodes id → (q : ObjectId) → is_hidden nodes' q ≡ is_hidden nodes q
-  hidden_same e q = ap (λ (k : Marks). k.hidden) (new q) ∙ go (same_id id q) refl
+  pub hidden_same : has flags UNINTERESTING ≡ is_hidden nodes id → (q : ObjectId) → is_hidden nodes' q ≡ is_hidden nodes q
+  hidden_same e q = ap (λ (k : WalkFlags). has k UNINTERESTING) (new q) ∙ go (same_id id q) refl
     where
-      go : (b : Bool) → same_id id q ≡ b → (cond b marks (marks_of nodes q)).hidden ≡ is_hidden nodes q
+      go : (b : Bool) → same_id id q ≡ b → has (cond b flags (flags_of nodes q)) UNINTERESTING ≡ is_hidden nodes q
       go true t = e ∙ ap (is_hidden nodes) (same_from_test id q t)
       go false t = refl
 
-  -- a mark is taken away
-  pub taken_off : (mark : Marks → Bool) → mark marks ≡ false → (q : ObjectId) → mark (marks_of nodes' q) ≡ true → (mark (marks_of nodes q) ≡ true) × (id ≡ q → ⊥)
+  -- a flag is taken away
+  pub taken_off : (mark : WalkFlags → Bool) → mark flags ≡ false → (q : ObjectId) → mark (flags_of nodes' q) ≡ true → (mark (flags_of nodes q) ≡ true) × (id ≡ q → ⊥)
   taken_off mark e q h = go (same_id id q) refl (sym (ap mark (new q)) ∙ h)
     where
-      go : (b : Bool) → same_id id q ≡ b → mark (cond b marks (marks_of nodes q)) ≡ true → (mark (marks_of nodes q) ≡ true) × (id ≡ q → ⊥)
+      go : (b : Bool) → same_id id q ≡ b → mark (cond b flags (flags_of nodes q)) ≡ true → (mark (flags_of nodes q) ≡ true) × (id ≡ q → ⊥)
       go true t k = let z : ⊥ = cc in absurd z
       go false t k = (k, λ s. let u = test_from_same id q s in let z : ⊥ = cc in z)
 
   pub unmet_from : (q : ObjectId) → is_met nodes' q ≡ false → (id ≡ q) ⊎ (is_met nodes q ≡ false)
-  unmet_from q h = go (same_id id q) refl (sym (ap (λ (k : Marks). k.met) (new q)) ∙ h)
+  unmet_from q h = go (same_id id q) refl (sym (ap (λ (k : WalkFlags). has k SEEN) (new q)) ∙ h)
     where
-      go : (b : Bool) → same_id id q ≡ b → (cond b marks (marks_of nodes q)).met ≡ false → (id ≡ q) ⊎ (is_met nodes q ≡ false)
+      go : (b : Bool) → same_id id q ≡ b → has (cond b flags (flags_of nodes q)) SEEN ≡ false → (id ≡ q) ⊎ (is_met nodes q ≡ false)
       go true t k = inl (same_from_test id q t)
       go false t k = inr k
 

@@ -4,9 +4,10 @@ use Rattle.std.specs.List.{count_by}
 use Rattle.gix_hash.specs.Id.{Id, id_of}
 use Rattle.gix_hash.specs.Order.{id_eq}
 use Rattle.gix_hash.specs.declared.object_id.ObjectId.{ObjectId}
-use Rattle.gix_traverse_commit_known.specs.Nodes.{Node, marks_in}
+use Rattle.gix_traverse_commit_known.specs.Nodes.{Node, has, flags_in}
 use Rattle.gix_traverse_commit_known.specs.declared.waiting.Turn.{Turn}
 use Rattle.gix_traverse_graph.specs.declared.rows.Row.{Row}
+use Rattle.gix_traverse_commit_known.specs.declared.nodes.TheConstants.WalkFlags.{SEEN}
 
 -- how often an id is in the list
 abbrev pub times_in : List ObjectId → Id → ℕ
@@ -18,7 +19,7 @@ times_waiting turns id = count_by (λ (t : Turn). id_eq id (id_of t.id)) turns
 
 -- the commit of this id is met
 abbrev pub met_under : List Node → Id → Bool
-met_under nodes id = (marks_in (find (λ (node : Node). id_eq id (id_of node.id)) nodes)).met
+met_under nodes id = has (flags_in (find (λ (node : Node). id_eq id (id_of node.id)) nodes)) SEEN
 
 -- how often it may come: once if it isn't met, and as often as it is queued
 abbrev pub may_come : List Node → (Id → ℕ) → Id → ℕ

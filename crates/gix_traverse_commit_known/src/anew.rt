@@ -1,4 +1,4 @@
-//! Beginning anew, over `Known`: takes all hidden marks away, and makes tips of what is queued.
+//! Beginning anew, over `Known`: takes the flags of hidden commits away, and makes tips of what is queued.
 
 ghost use Rattle.std.specs.Prelude.{◌≡◌, ◌⊎◌, true, false, [], ◌++◌, Contains, OnOk};
 ghost use Rattle.gix_hash.specs.declared.object_id.ObjectId.{ObjectId};
@@ -7,11 +7,10 @@ ghost use Rattle.gix_traverse_commit_known.specs.Nodes.{is_hidden, is_met};
 ghost use Rattle.gix_traverse_commit_known.specs.Painting.{IsUnpainted};
 
 use crate::known::Known;
-use crate::nodes::Marks;
 use gix_hash::ObjectId;
 use std::alloc::{AllocError, Global};
 
-/// Takes all hidden marks away.
+/// Takes the flags of hidden commits away.
 pub fn unpaint(alloc: Global, known: &mut Known) -> Result<(), AllocError>
     ensures unpainted { OnOk result (IsUnpainted known.new.nodes) }
     ensures queue { OnOk result (known.new.queue ≡ known.old.queue) }
@@ -21,15 +20,8 @@ pub fn unpaint(alloc: Global, known: &mut Known) -> Result<(), AllocError>
 {
     let ids = known.ids(alloc)?;
     'ids: for id in &ids {
-        let marks = known.marks(id);
-        known.mark(
-            *id,
-            Marks {
-                asked: marks.asked,
-                met: marks.met,
-                hidden: false,
-            },
-        )?;
+        let flags = known.flags(id);
+        known.mark(*id, flags.as_shown())?;
     }
     Ok(())
 }
@@ -47,15 +39,8 @@ pub fn take_all(tips: &mut Vec<ObjectId>, known: &mut Known) -> Result<(), Alloc
         → (is_met known.old.nodes q ≡ false) ⊎ Contains known.old.queue q) }
 {
     'queued: while let Some(id) = known.take_queued() {
-        let marks = known.marks(&id);
-        known.mark(
-            id,
-            Marks {
-                asked: true,
-                met: false,
-                hidden: marks.hidden,
-            },
-        )?;
+        let flags = known.flags(&id);
+        known.mark(id, flags.as_asked().as_unmet())?;
         tips.push(id)?;
     }
     Ok(())

@@ -1,16 +1,16 @@
-//! `Known`: marks commits, queues them or lets them wait, takes the first queued or due, clears; their ids.
+//! `Known`: flags commits, queues them or lets them wait, takes the first queued or due, clears; their ids.
 
 ghost use Rattle.std.specs.Prelude.{◌≡◌, ◌↔◌, ◌≤◌, ◌+◌, ◌++◌, ◌∷◌, [], if◌then◌else◌, IfOk, IfSome, IfNone, OnOk, true};
 ghost use Rattle.gix_hash.specs.Id.{Id};
 ghost use Rattle.gix_hash.specs.declared.object_id.ObjectId.{ObjectId};
 ghost use Rattle.gix_traverse_commit_known.specs.Ending.{times_in, times_waiting};
 ghost use Rattle.gix_traverse_commit_known.specs.Known.{turns_of, waited_of};
-ghost use Rattle.gix_traverse_commit_known.specs.Nodes.{ids_of, marks_of};
+ghost use Rattle.gix_traverse_commit_known.specs.Nodes.{ids_of, flags_of};
 ghost use Rattle.gix_traverse_graph.specs.Numbered.{same_id};
 ghost use Rattle.gix_traverse_commit_known.specs.Queueing.{QueuesBehind};
 ghost use Rattle.gix_traverse_commit_known.specs.Timely.{IsTaken, Joins};
 
-use crate::nodes::{Marks, Nodes, Number};
+use crate::nodes::{Nodes, Number, WalkFlags};
 use crate::waiting::{Turn, Waiting};
 use gix_hash::ObjectId;
 use gix_traverse_graph::sorting::CommitTimeOrder;
@@ -71,48 +71,48 @@ impl Known {
         }
     }
 
-    /// The marks of a commit: none if it has no node.
-    pub fn marks(&self, id: &ObjectId) -> Marks
-        ensures { result ≡ marks_of self.now.nodes id.now }
+    /// The flags of a commit: none if it has no node.
+    pub fn flags(&self, id: &ObjectId) -> WalkFlags
+        ensures { result ≡ flags_of self.now.nodes id.now }
     {
-        self.nodes.marks(id)
+        self.nodes.flags(id)
     }
 
-    /// Marks a commit, which gets a node if it has none.
-    pub fn mark(&mut self, id: ObjectId, marks: Marks) -> Result<(), AllocError>
-        ensures marked { OnOk result ((q : ObjectId) → marks_of self.new.nodes q
-            ≡ (if same_id id q then marks else marks_of self.old.nodes q)) }
+    /// Sets the flags of a commit, which gets a node if it has none.
+    pub fn mark(&mut self, id: ObjectId, flags: WalkFlags) -> Result<(), AllocError>
+        ensures marked { OnOk result ((q : ObjectId) → flags_of self.new.nodes q
+            ≡ (if same_id id q then flags else flags_of self.old.nodes q)) }
         ensures queue { OnOk result (self.new.queue ≡ self.old.queue) }
         ensures turns { OnOk result (turns_of self.new ≡ turns_of self.old) }
         ensures behind { OnOk result (QueuesBehind self.old [] self.new) }
     {
-        self.nodes.mark(id, marks)?;
+        self.nodes.mark(id, flags)?;
         Ok(())
     }
 
-    /// Marks a commit, which gets a node if it has none, and queues it last.
-    pub fn enqueue(&mut self, id: ObjectId, marks: Marks) -> Result<(), AllocError>
-        ensures marked { OnOk result ((q : ObjectId) → marks_of self.new.nodes q
-            ≡ (if same_id id q then marks else marks_of self.old.nodes q)) }
+    /// Sets the flags of a commit, which gets a node if it has none, and queues it last.
+    pub fn enqueue(&mut self, id: ObjectId, flags: WalkFlags) -> Result<(), AllocError>
+        ensures marked { OnOk result ((q : ObjectId) → flags_of self.new.nodes q
+            ≡ (if same_id id q then flags else flags_of self.old.nodes q)) }
         ensures queued { OnOk result (self.new.queue ≡ self.old.queue ++ id ∷ []) }
         ensures turns { OnOk result (turns_of self.new ≡ turns_of self.old) }
     {
-        let number = self.nodes.mark(id, marks)?;
+        let number = self.nodes.mark(id, flags)?;
         self.queue.push_back(number)?;
         Ok(())
     }
 
-    /// Marks a commit, which gets a node if it has none, and lets it wait.
-    pub fn wait(&mut self, turn: Turn, marks: Marks) -> Result<(), AllocError>
-        ensures marked { OnOk result ((q : ObjectId) → marks_of self.new.nodes q
-            ≡ (if same_id turn.id q then marks else marks_of self.old.nodes q)) }
+    /// Sets the flags of a commit, which gets a node if it has none, and lets it wait.
+    pub fn wait(&mut self, turn: Turn, flags: WalkFlags) -> Result<(), AllocError>
+        ensures marked { OnOk result ((q : ObjectId) → flags_of self.new.nodes q
+            ≡ (if same_id turn.id q then flags else flags_of self.old.nodes q)) }
         ensures queue { OnOk result (self.new.queue ≡ self.old.queue) }
         ensures joins { OnOk result (Joins true (turns_of self.old) turn (turns_of self.new)) }
         ensures once { OnOk result ((id : Id) → times_waiting (turns_of self.new) id
             ≤ times_waiting (turns_of self.old) id + times_in (turn.id ∷ []) id) }
         ensures behind { OnOk result (QueuesBehind self.old (turn.id ∷ []) self.new) }
     {
-        let number = self.nodes.mark(turn.id, marks)?;
+        let number = self.nodes.mark(turn.id, flags)?;
         self.waiting.put(turn.numbered(number))?;
         Ok(())
     }

@@ -6,16 +6,32 @@ ghost use Rattle.gix_hash.specs.declared.object_id.ObjectId.{ObjectId};
 ghost use Rattle.gix_traverse_commit_known.specs.Keeping.{QueuesAlone, QueuesParents, QueuesTips, StaysHeld};
 ghost use Rattle.gix_traverse_commit_known.specs.Meeting.{Asks, AsksOnce, IsFresh, MarksAll, MarksMet, fresh};
 ghost use Rattle.gix_traverse_commit_known.specs.Known.{turns_of};
-ghost use Rattle.gix_traverse_commit_known.specs.Nodes.{is_asked, is_met, is_hidden};
+ghost use Rattle.gix_traverse_commit_known.specs.Nodes.{has, is_asked, is_met, is_hidden};
 ghost use Rattle.gix_traverse_graph.specs.Numbered.{same_id};
 ghost use Rattle.gix_traverse_commit_known.specs.Queueing.{QueuesBehind};
 ghost use Rattle.gix_traverse_commit_known.specs.Asked.{AreAsked, AreRefused};
+ghost use Rattle.gix_traverse_commit_known.specs.declared.nodes.TheConstants.WalkFlags.{ASKED, SEEN, UNINTERESTING};
 
 use crate::Accept;
 use crate::known::Known;
-use crate::nodes::Marks;
+use crate::nodes::WalkFlags;
+use bitflags::Flags;
 use gix_hash::ObjectId;
 use std::alloc::AllocError;
+
+// The flags of a tip for which the predicate was called: it's met if that refuses it.
+fn after_asking(flags: WalkFlags, accepted: bool) -> WalkFlags
+    ensures asked { has result ASKED ≡ true }
+    ensures met { has result SEEN ≡ not accepted }
+    ensures hidden { has result UNINTERESTING ≡ has flags UNINTERESTING }
+{
+    let asked = flags.as_asked();
+    if accepted {
+        asked.as_unmet()
+    } else {
+        asked.as_met()
+    }
+}
 
 // Calls the predicate for a tip, unless it was called for it.
 fn ask_tip<P: Accept>(known: &mut Known, predicate: &mut P, tip: ObjectId) -> Result<(), AllocError>
@@ -30,19 +46,12 @@ fn ask_tip<P: Accept>(known: &mut Known, predicate: &mut P, tip: ObjectId) -> Re
     ensures once { OnOk result (Asks P.goes (if is_asked known.old.nodes tip then [] else tip ∷ [])
         predicate.old predicate.new) }
 {
-    let marks = known.marks(&tip);
-    if marks.asked {
+    let flags = known.flags(&tip);
+    if flags.contains(WalkFlags::ASKED) {
         return Ok(());
     }
     let accepted = predicate.accept(tip.as_oid());
-    known.mark(
-        tip,
-        Marks {
-            asked: true,
-            met: !accepted,
-            hidden: marks.hidden,
-        },
-    )?;
+    known.mark(tip, after_asking(flags, accepted))?;
     Ok(())
 }
 
@@ -67,28 +76,30 @@ pub fn ask_tips<P: Accept>(
 }
 
 /// Marks a commit as met.
-pub fn mark_met(known: &mut Known, id: ObjectId, marks: Marks) -> Result<(), AllocError>
+pub fn mark_met(known: &mut Known, id: ObjectId, flags: WalkFlags) -> Result<(), AllocError>
     ensures met { OnOk result ((q : ObjectId) → is_met known.new.nodes q
         ≡ (if same_id id q then true else is_met known.old.nodes q)) }
-    ensures hidden { OnOk result (is_hidden known.old.nodes id ≡ marks.hidden
+    ensures hidden { OnOk result (is_hidden known.old.nodes id ≡ has flags UNINTERESTING
         → (q : ObjectId) → is_hidden known.new.nodes q ≡ is_hidden known.old.nodes q) }
     ensures queue { OnOk result (known.new.queue ≡ known.old.queue) }
     ensures turns { OnOk result (turns_of known.new ≡ turns_of known.old) }
     ensures behind { OnOk result (QueuesBehind known.old [] known.new) }
 {
-    known.mark(id, marks.as_met())
+    known.mark(id, flags.as_met())?;
+    Ok(())
 }
 
 // Marks a commit as met, and queues it last.
-fn queue_met(known: &mut Known, id: ObjectId, marks: Marks) -> Result<(), AllocError>
+fn queue_met(known: &mut Known, id: ObjectId, flags: WalkFlags) -> Result<(), AllocError>
     ensures met { OnOk result ((q : ObjectId) → is_met known.new.nodes q
         ≡ (if same_id id q then true else is_met known.old.nodes q)) }
     ensures turns { OnOk result (turns_of known.new ≡ turns_of known.old) }
-    ensures hidden { OnOk result (is_hidden known.old.nodes id ≡ marks.hidden
+    ensures hidden { OnOk result (is_hidden known.old.nodes id ≡ has flags UNINTERESTING
         → (q : ObjectId) → is_hidden known.new.nodes q ≡ is_hidden known.old.nodes q) }
     ensures queued { OnOk result (known.new.queue ≡ known.old.queue ++ id ∷ []) }
 {
-    known.enqueue(id, marks.as_met())
+    known.enqueue(id, flags.as_met())?;
+    Ok(())
 }
 
 // Queues a tip that is not hidden and was not met.
@@ -103,14 +114,14 @@ fn queue_tip(known: &mut Known, id: ObjectId) -> Result<(), AllocError>
         else (if not (is_hidden known.old.nodes id) then known.old.queue ++ id ∷ []
         else known.old.queue))) }
 {
-    let marks = known.marks(&id);
-    if marks.met {
+    let flags = known.flags(&id);
+    if flags.contains(WalkFlags::SEEN) {
         return Ok(());
     }
-    if !marks.hidden {
-        return queue_met(known, id, marks);
+    if !flags.contains(WalkFlags::UNINTERESTING) {
+        return queue_met(known, id, flags);
     }
-    mark_met(known, id, marks)
+    mark_met(known, id, flags)
 }
 
 /// Queues the tips that are accepted and not hidden, each once.
@@ -143,17 +154,17 @@ fn meet<P: Accept>(known: &mut Known, predicate: &mut P, id: ObjectId) -> Result
     ensures asked { OnOk result (Asks P.goes
         (fresh known.old.nodes id) predicate.old predicate.new) }
 {
-    let marks = known.marks(&id);
-    if marks.hidden {
+    let flags = known.flags(&id);
+    if flags.contains(WalkFlags::UNINTERESTING) {
         return Ok(());
     }
-    if marks.met {
+    if flags.contains(WalkFlags::SEEN) {
         return Ok(());
     }
     if predicate.accept(id.as_oid()) {
-        return queue_met(known, id, marks);
+        return queue_met(known, id, flags);
     }
-    mark_met(known, id, marks)
+    mark_met(known, id, flags)
 }
 
 /// Queues the parents of a commit that were not met, are not hidden and are accepted.
@@ -164,7 +175,7 @@ pub fn meet_parents<P: Accept>(
 ) -> Result<(), AllocError>
     ensures accepts { P.accepts predicate.new ≡ P.accepts predicate.old }
     ensures alone { OnOk result (QueuesAlone known.old known.new) }
-    ensures marks { OnOk result (MarksMet known.old.nodes parents.now known.new.nodes) }
+    ensures flags { OnOk result (MarksMet known.old.nodes parents.now known.new.nodes) }
     ensures rowed { OnOk result (StaysHeld known.old.queue parents.now known.new.queue) }
     ensures walked { OnOk result (QueuesParents (P.accepts predicate.old) parents.now known.old
         known.new) }

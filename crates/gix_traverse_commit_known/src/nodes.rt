@@ -1,38 +1,101 @@
-//! `Nodes`, `Marks`: each commit's number and marks (met, hidden), found by its id; ids by number.
+//! `Nodes`, `WalkFlags`: each commit's number and flags (met, hidden), found by its id; ids by number.
 
-ghost use Rattle.std.specs.Prelude.{◌≡◌, ◌++◌, ◌∷◌, ℕ, [], if◌then◌else◌, IfOk, IfSome, IfNone, OnErr, OnOk, slice_get, true};
+ghost use Rattle.std.specs.Prelude.{⊤, ◌≡◌, ◌++◌, ◌∷◌, ℕ, [], codes, if◌then◌else◌, IfOk, IfSome, IfNone, OnErr, OnOk, slice_get, true, false};
 ghost use Rattle.std.specs.List.{list_any};
 ghost use Rattle.gix_hash.specs.declared.object_id.ObjectId.{ObjectId};
 ghost use Rattle.gix_traverse_graph.specs.Numbered.{same_id};
-ghost use Rattle.gix_traverse_commit_known.specs.Nodes.{ids_of, marks_of};
+ghost use Rattle.gix_traverse_commit_known.specs.Nodes.{has, ids_of, flags_of};
 ghost use Rattle.gix_traverse_graph.specs.Order.{At};
+ghost use Rattle.gix_traverse_commit_known.specs.declared.nodes.TheConstants.WalkFlags.{ASKED, SEEN, UNINTERESTING};
 
+use bitflags::{Flag, Flags, bitflag_items};
 use gix_hash::ObjectId;
 use indexmap::IndexSet;
 use std::alloc::{AllocError, Global};
 use std::marker::Model;
 
-/// What is marked of a commit.
+/// What a walk has done with a commit. `SEEN` and `UNINTERESTING` have the names and values that
+/// `gix-traverse` gives them.
 #[derive(Debug, Clone, Copy, PartialEq, Eq)]
-pub struct Marks {
-    /// The predicate was called for it as a tip.
-    pub asked: bool,
-    /// It needs no queueing any more: it was queued, or is none that the walk gives.
-    pub met: bool,
-    /// A hidden commit reaches it.
-    pub hidden: bool,
+pub struct WalkFlags(u8);
+
+bitflag_items! {
+    impl WalkFlags: u8 {
+        /// It needs no queueing any more: it was queued, or is none that the walk gives.
+        const SEEN = 1;
+        /// A hidden commit reaches it.
+        const UNINTERESTING = 8;
+        /// The predicate was called for it as a tip.
+        const ASKED = 64;
+    }
 }
 
-impl Marks {
+impl Flags for WalkFlags {
+    type Bits = u8;
+
+    ghost exact = { ⊤ };
+
+    ghost table = { (codes "SEEN", 1) ∷ (codes "UNINTERESTING", 8) ∷ (codes "ASKED", 64) ∷ [] };
+
+    ghost set_of = { λ flags. flags.0 };
+
+    fn flags<'a>() -> &'a [Flag<WalkFlags>] {
+        WalkFlags::FLAGS
+    }
+
+    fn bits(&self) -> u8 {
+        self.0
+    }
+
+    fn from_bits_retain(bits: u8) -> WalkFlags {
+        WalkFlags(bits)
+    }
+}
+
+impl WalkFlags {
     /// The same of a commit that is met.
-    pub fn as_met(self) -> Marks
-        ensures { result ≡ record self { met = true } }
+    pub fn as_met(self) -> WalkFlags
+        ensures met { has result SEEN ≡ true }
+        ensures asked { has result ASKED ≡ has self ASKED }
+        ensures hidden { has result UNINTERESTING ≡ has self UNINTERESTING }
     {
-        Marks {
-            asked: self.asked,
-            met: true,
-            hidden: self.hidden,
-        }
+        self.union(WalkFlags::SEEN)
+    }
+
+    /// The same of a commit that isn't met.
+    pub fn as_unmet(self) -> WalkFlags
+        ensures met { has result SEEN ≡ false }
+        ensures asked { has result ASKED ≡ has self ASKED }
+        ensures hidden { has result UNINTERESTING ≡ has self UNINTERESTING }
+    {
+        self.difference(WalkFlags::SEEN)
+    }
+
+    /// The same of a tip for which the predicate was called.
+    pub fn as_asked(self) -> WalkFlags
+        ensures asked { has result ASKED ≡ true }
+        ensures met { has result SEEN ≡ has self SEEN }
+        ensures hidden { has result UNINTERESTING ≡ has self UNINTERESTING }
+    {
+        self.union(WalkFlags::ASKED)
+    }
+
+    /// The same of a commit that a hidden one reaches.
+    pub fn as_hidden(self) -> WalkFlags
+        ensures hidden { has result UNINTERESTING ≡ true }
+        ensures asked { has result ASKED ≡ has self ASKED }
+        ensures met { has result SEEN ≡ has self SEEN }
+    {
+        self.union(WalkFlags::UNINTERESTING)
+    }
+
+    /// The same of a commit that no hidden one reaches.
+    pub fn as_shown(self) -> WalkFlags
+        ensures hidden { has result UNINTERESTING ≡ false }
+        ensures asked { has result ASKED ≡ has self ASKED }
+        ensures met { has result SEEN ≡ has self SEEN }
+    {
+        self.difference(WalkFlags::UNINTERESTING)
     }
 }
 
@@ -44,7 +107,7 @@ pub struct Number(pub usize);
 #[derive(Drop)]
 pub struct Nodes {
     ids: IndexSet<ObjectId>,
-    marks: Vec<Marks>,
+    flags: Vec<WalkFlags>,
 }
 
 impl Model for Nodes {
@@ -55,9 +118,9 @@ impl Model for Nodes {
 
     ghost use Rattle.gix_traverse_commit_known.specs.Nodes.{AreNumbered, nodes_in};
 
-    ghost view = { λ all. nodes_in all.ids.keys all.marks.items };
+    ghost view = { λ all. nodes_in all.ids.keys all.flags.items };
 
-    ghost invariant = { λ all. AreNumbered all.ids.keys all.marks.items };
+    ghost invariant = { λ all. AreNumbered all.ids.keys all.flags.items };
 }
 
 // The number of a commit, if it has one.
@@ -87,21 +150,17 @@ impl Nodes {
     {
         Nodes {
             ids: IndexSet::new(alloc),
-            marks: Vec::new(alloc),
+            flags: Vec::new(alloc),
         }
     }
 
-    /// The marks of a commit: none if it has no node.
-    pub fn marks(&self, id: &ObjectId) -> Marks
-        ensures { result ≡ marks_of self.now id.now }
+    /// The flags of a commit: none if it has no node.
+    pub fn flags(&self, id: &ObjectId) -> WalkFlags
+        ensures { result ≡ flags_of self.now id.now }
     {
         match number_of(&self.ids, id) {
-            Some(number) => self.marks[number.0],
-            None => Marks {
-                asked: false,
-                met: false,
-                hidden: false,
-            },
+            Some(number) => self.flags[number.0],
+            None => WalkFlags::empty(),
         }
     }
 
@@ -114,24 +173,24 @@ impl Nodes {
         self.ids.get_index(number.0).copied()
     }
 
-    /// Marks a commit, which gets a node if it has none, and returns its number. If no memory is
-    /// left, nothing changes.
-    pub fn mark(&mut self, id: ObjectId, marks: Marks) -> Result<Number, AllocError>
-        ensures marked { OnOk result ((q : ObjectId) → marks_of self.new q
-            ≡ (if same_id id q then marks else marks_of self.old q)) }
+    /// Sets the flags of a commit, which gets a node if it has none, and returns its number. If no
+    /// memory is left, nothing changes.
+    pub fn mark(&mut self, id: ObjectId, flags: WalkFlags) -> Result<Number, AllocError>
+        ensures marked { OnOk result ((q : ObjectId) → flags_of self.new q
+            ≡ (if same_id id q then flags else flags_of self.old q)) }
         ensures named { OnOk result (ids_of self.new ≡ (if list_any (same_id id) (ids_of self.old)
             then ids_of self.old else ids_of self.old ++ id ∷ [])) }
         ensures numbered { IfOk result (λ number. At (ids_of self.new) number.0 id) }
         ensures failed { OnErr result (self.new ≡ self.old) }
     {
         if let Some(number) = number_of(&self.ids, &id) {
-            self.marks[number.0] = marks;
+            self.flags[number.0] = flags;
             return Ok(number);
         }
-        let number = Number(self.marks.as_slice().len());
-        self.marks.reserve(1)?;
+        let number = Number(self.flags.as_slice().len());
+        self.flags.reserve(1)?;
         self.ids.insert(id)?;
-        self.marks.push(marks)?;
+        self.flags.push(flags)?;
         Ok(number)
     }
 

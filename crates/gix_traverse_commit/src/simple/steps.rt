@@ -71,8 +71,8 @@ impl<F: FindInto + Drop, P: Accept + Drop> Simple<F, P> {
         Ok(())
     }
 
-    // Makes tips of what is queued, in its order, and takes the hidden marks away. A walk that has
-    // not begun has nothing queued.
+    // Makes tips of what is queued, in its order, and takes the flags of hidden commits away. A walk
+    // that has not begun has nothing queued.
     pub(crate) fn make_tips(&mut self) -> Result<(), AllocError>
         ensures stays { self.new ≡ record self.old {
           tips = self.new.tips;

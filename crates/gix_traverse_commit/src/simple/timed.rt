@@ -5,7 +5,7 @@ ghost use Rattle.gix_hash.specs.declared.object_id.ObjectId.{ObjectId};
 ghost use Rattle.gix_traverse_commit_known.specs.Fetching.{TimeIsTold};
 ghost use Rattle.gix_traverse_commit_known.specs.Known.{turns_of};
 ghost use Rattle.gix_traverse_commit_known.specs.Meeting.{CountsAll, CountsOne, IsFresh, MarksAll, MarksMet, accepted, fresh, unmet};
-ghost use Rattle.gix_traverse_commit_known.specs.Nodes.{is_met, is_hidden};
+ghost use Rattle.gix_traverse_commit_known.specs.Nodes.{has, is_met, is_hidden};
 ghost use Rattle.gix_traverse_graph.specs.Numbered.{same_id};
 ghost use Rattle.gix_traverse_graph.specs.Order.{IsListOf};
 ghost use Rattle.gix_traverse_commit_known.specs.Fetching.{LooksUpAtMost};
@@ -15,15 +15,17 @@ ghost use Rattle.gix_traverse_commit_known.specs.Faults.{TipFault};
 ghost use Rattle.gix_traverse_commit_known.specs.Timely.{CountsAs, LetsWait};
 ghost use Rattle.gix_traverse_commit_known.specs.Told.{OverTold, rows_of};
 ghost use Rattle.gix_hash.specs.Id.{id_of};
+ghost use Rattle.gix_traverse_commit_known.specs.declared.nodes.TheConstants.WalkFlags.{UNINTERESTING};
 
 use crate::simple::Error;
+use bitflags::Flags;
 use gix_hash::ObjectId;
 use gix_object_lookup::FindInto;
 use gix_traverse_commit_known::Accept;
 use gix_traverse_commit_known::fetch::{FetchError, Source};
 use gix_traverse_commit_known::known::Known;
 use gix_traverse_commit_known::meet::mark_met;
-use gix_traverse_commit_known::nodes::Marks;
+use gix_traverse_commit_known::nodes::WalkFlags;
 use gix_traverse_commit_known::waiting::Turn;
 use gix_traverse_graph::sorting::is_in_time;
 use std::alloc::AllocError;
@@ -61,7 +63,7 @@ pub fn read_times<F: FindInto>(
     ensures whole { tips.now ≡ [] → IsOk result }
 {
     'tips: for tip in tips {
-        if known.marks(tip).met {
+        if known.flags(tip).contains(WalkFlags::SEEN) {
             continue;
         }
         source.seconds(tip)?;
@@ -75,12 +77,13 @@ fn wait<F: FindInto>(
     known: &mut Known,
     since: Option<i64>,
     id: ObjectId,
-    marks: Marks,
+    flags: WalkFlags,
 ) -> Result<(), AllocError>
     ensures reads { LooksUpAtMost 1 source.old source.new }
     ensures one { CountsOne (rows_of source.old.rows) id source.old.lookups source.new.lookups }
     ensures met { OnOk result (MeetsToo known.old.nodes id known.new.nodes) }
-    ensures some { is_met known.old.nodes id ≡ false → is_hidden known.old.nodes id ≡ marks.hidden
+    ensures some { is_met known.old.nodes id ≡ false
+        → is_hidden known.old.nodes id ≡ has flags UNINTERESTING
         → OnOk result (AwaitsSome known.old (id ∷ []) known.new) }
     ensures awaits { OnOk result (OverTold F.is_honest F.table source.old
         (λ g. LetsWait (F.may_fail source.old.objects) since g (Contains (id ∷ []))
@@ -88,10 +91,10 @@ fn wait<F: FindInto>(
 {
     let time = seconds_or_zero(source, &id)?;
     if !is_in_time(since, time) {
-        mark_met(known, id, marks)?;
+        mark_met(known, id, flags)?;
         return Ok(());
     }
-    known.wait(Turn { time, id }, marks.as_met())?;
+    known.wait(Turn { time, id }, flags.as_met())?;
     Ok(())
 }
 
@@ -111,15 +114,15 @@ fn await_tip<F: FindInto>(
     ensures timed { OnOk result (CountsAll (rows_of source.old.rows) (fresh known.old.nodes id)
         source.old.lookups source.new.lookups) }
 {
-    let marks = known.marks(&id);
-    if marks.met {
+    let flags = known.flags(&id);
+    if flags.contains(WalkFlags::SEEN) {
         return Ok(());
     }
-    if !marks.hidden {
-        wait(source, known, since, id, marks)?;
+    if !flags.contains(WalkFlags::UNINTERESTING) {
+        wait(source, known, since, id, flags)?;
         return Ok(());
     }
-    mark_met(known, id, marks)?;
+    mark_met(known, id, flags)?;
     Ok(())
 }
 
@@ -168,18 +171,18 @@ fn await_parent<F: FindInto, P: Accept>(
         (fresh known.old.nodes id) predicate.old source.old.lookups predicate.new
         source.new.lookups) }
 {
-    let marks = known.marks(&id);
-    if marks.hidden {
+    let flags = known.flags(&id);
+    if flags.contains(WalkFlags::UNINTERESTING) {
         return Ok(());
     }
-    if marks.met {
+    if flags.contains(WalkFlags::SEEN) {
         return Ok(());
     }
     if predicate.accept(id.as_oid()) {
-        wait(source, known, since, id, marks)?;
+        wait(source, known, since, id, flags)?;
         return Ok(());
     }
-    mark_met(known, id, marks)?;
+    mark_met(known, id, flags)?;
     Ok(())
 }
 

@@ -3,11 +3,12 @@ use Rattle.std.specs.Prelude.{Contains}
 use Rattle.std.proofs.lemmas.Option.{slice_get-get_or}
 use Rattle.gix_hash.specs.declared.object_id.ObjectId.{ObjectId}
 use Rattle.gix_hash.specs.declared.object_id.ObjectId.TheVariants.{Sha1}
-use Rattle.gix_traverse_commit_known.specs.Nodes.{is_hidden}
-use Rattle.gix_traverse_commit_known.specs.declared.nodes.Marks.{Marks}
+use Rattle.gix_traverse_commit_known.specs.Nodes.{has, is_hidden}
+use Rattle.gix_traverse_commit_known.specs.declared.nodes.WalkFlags.{WalkFlags}
 use Rattle.gix_traverse_commit_known.proofs.Chosen.{take_all}
 use Rattle.gix_traverse_commit_known.proofs.NodeLemmas.{hidden_among}
 use Rattle.gix_traverse_commit_known.proofs.Simply.{in_push, met_same, taken_off, take_push}
+use Rattle.gix_traverse_commit_known.specs.declared.nodes.TheConstants.WalkFlags.{SEEN, UNINTERESTING}
 use Rattle.gix_traverse_commit_known.proofs.anew.unpaint.Goals as goal
 use Rattle.std.proofs.lemmas.Bool.{false_from_ne_true}
 
@@ -17,14 +18,14 @@ ids-preserved c =
     let items : List ObjectId = c.deref-id-items.result.now in
     let id : ObjectId = get_or items c.ids.id-index (Sha1 []) in
     let here = slice_get-get_or items c.ids.id-index (Sha1 []) c.ids-test.true in
-    let marks : Marks = record { asked = c.marks-marks.result.asked; met = c.marks-marks.result.met; hidden = false } in
+    let flags : WalkFlags = c.as_shown.result in
     let new = c.in_ok-mark.ensures.marked in
     record {
       queue = c.in_ok-mark.ensures.queue ∙ c.ids.invariant.queue;
       turns = c.in_ok-mark.ensures.turns ∙ c.ids.invariant.turns;
-      met = λ q. met_same c.ids.known.nodes c.mark.new.self.nodes id marks new (ap (λ (k : Marks). k.met) c.marks-marks.ensures) q ∙ inv.met q;
+      met = λ q. met_same c.ids.known.nodes c.mark.new.self.nodes id flags new (c.as_shown.ensures.met ∙ ap (λ (k : WalkFlags). has k SEEN) c.flags-flags.ensures) q ∙ inv.met q;
       left = (λ q h.
-          let (before, other) = taken_off c.ids.known.nodes c.mark.new.self.nodes id marks new (λ (k : Marks). k.hidden) refl q h in
+          let (before, other) = taken_off c.ids.known.nodes c.mark.new.self.nodes id flags new (λ (k : WalkFlags). has k UNINTERESTING) c.as_shown.ensures.hidden q h in
           let (was, out) = inv.left q before in
           (was, λ k. elim (in_push (take c.ids.id-index items) id q (subst (λ (zs : List ObjectId). Contains zs q) (take_push items c.ids.id-index id here) k)) [ inl d ↦ out d | inr e ↦ other (sym e) ]));
     }

@@ -13,7 +13,7 @@ use Rattle.gix_traverse_commit_known.proofs.Painting.{queues_held}
 use Rattle.gix_traverse_graph.specs.Order.{IsListOf}
 use Rattle.gix_traverse_commit_known.specs.Meeting.{MarksMet}
 use Rattle.gix_traverse_commit_known.proofs.Chosen.{take_all}
-use Rattle.gix_traverse_commit_known.proofs.Meeting.{Fresh, asks_more, marks_none, marks_step, meets_none, meets_step, parent_met, parent_or_met}
+use Rattle.gix_traverse_commit_known.proofs.Meeting.{Fresh, asks_more, flags_none, flags_step, meets_none, meets_step, parent_met, parent_or_met}
 use Rattle.gix_traverse_commit_known.proofs.meet.meet_parents.Goals as goal
 
 pub parents-preserved : goal.parents-preserved
@@ -36,7 +36,7 @@ parents-preserved g c =
       walked = λ along keep tips listed child which e w r. kept_step along tips keep (is_met c.parents.known.nodes) (is_met c.meet.new.known.nodes) (is_hidden c.parents.known.nodes id) (accepts c.parents.predicate (id_of id)) listed c.parents.known.queue c.meet.new.known.queue (length listed) c.parents.parent-index id child (c.parents.invariant.walked along keep tips listed child which e w r)
           (subst (λ (zs : List ObjectId). slice_get zs c.parents.parent-index ≡ Some id) e here) c.in_ok-meet.ensures.queued c.in_ok-meet.ensures.met
           (λ f. which id (unmet_before (is_met c.args.known.now.nodes) (is_met c.parents.known.nodes) id (c.parents.invariant.grown id) f) ∙ ap (λ (b : Bool). not b && accepts c.args.predicate.now (id_of id)) (sym (c.parents.invariant.hidden id)) ∙ ap (λ (a : Id → Bool). not (is_hidden c.parents.known.nodes id) && a (id_of id)) (sym c.parents.invariant.accepts));
-      marks = marks_step (is_met c.args.known.now.nodes) (is_hidden c.args.known.now.nodes) (is_met c.parents.known.nodes) (is_met c.meet.new.known.nodes) (is_hidden c.parents.known.nodes id) ids c.parents.parent-index id here c.parents.invariant.marks (c.parents.invariant.hidden id) c.in_ok-meet.ensures.met;
+      flags = flags_step (is_met c.args.known.now.nodes) (is_hidden c.args.known.now.nodes) (is_met c.parents.known.nodes) (is_met c.meet.new.known.nodes) (is_hidden c.parents.known.nodes id) ids c.parents.parent-index id here c.parents.invariant.flags (c.parents.invariant.hidden id) c.in_ok-meet.ensures.met;
       once = (let (xs, asks, w) = c.parents.invariant.once in
           let has = is_met c.parents.known.nodes in
           let has' = is_met c.meet.new.known.nodes in
@@ -63,7 +63,7 @@ parents-init g c = record {
   left = gains_none c.args.known.now.nodes (times_in c.args.known.now.queue);
   rowed = λ rows a b. a;
   walked = λ along keep tips listed child which e w r. (w, r);
-  marks = marks_none (is_met c.args.known.now.nodes) (is_hidden c.args.known.now.nodes);
+  flags = flags_none (is_met c.args.known.now.nodes) (is_hidden c.args.known.now.nodes);
   once = ([], refl, meets_none (is_met c.args.known.now.nodes) (is_hidden c.args.known.now.nodes));
 }
 
@@ -79,5 +79,5 @@ returns-clause-alone g c = record {
   gains = c.parents.invariant.left;
 }
 
-pub returns-clause-marks : goal.returns-clause-marks
-returns-clause-marks g c = subst (λ (ps : List ObjectId). MarksMet c.args.known.now.nodes ps c.parents.known.nodes) (take_all c.args.parents.now c.parents.parent-index c.parents-test.false) c.parents.invariant.marks
+pub returns-clause-flags : goal.returns-clause-flags
+returns-clause-flags g c = subst (λ (ps : List ObjectId). MarksMet c.args.known.now.nodes ps c.parents.known.nodes) (take_all c.args.parents.now c.parents.parent-index c.parents-test.false) c.parents.invariant.flags

@@ -27,6 +27,6 @@ invariant-parents g l = record {
       → Kept along tips keep (is_met l.fn.known.nodes) (listed ++ l.fn.known.queue) (length listed) 0
       → Reads (listed ++ l.fn.known.queue) (length listed) id
       → Kept along tips keep (is_met l.known.nodes) (listed ++ l.known.queue) (length listed) l.parent-index × Reads (listed ++ l.known.queue) (length listed) id;
-  marks : MarksMet l.fn.known.nodes (take l.parent-index l.parents) l.known.nodes;
+  flags : MarksMet l.fn.known.nodes (take l.parent-index l.parents) l.known.nodes;
   once : (xs : List ObjectId) × Asks g.P.Accept.goes xs l.fn.predicate l.predicate × MeetsOnce (is_met l.fn.known.nodes) (is_hidden l.fn.known.nodes) (is_met l.known.nodes) (take l.parent-index l.parents) xs;
 }

@@ -110,7 +110,7 @@ returns-clause-comes g c =
         one = one;
         times = subst (λ (r : Option (List Row)). CountsTimes order (rows_of r) (accepted (g.P.Accept.accepts c.args.self.now.predicate) meets.met) read after) c.fetch.ensures.reads.rows meets.times;
       };
-      marks = subst (λ (qs : List ObjectId). MarksMet c.args.self.now.known.nodes qs c.meet_all.new.self.known.nodes) c.as_slice.ensures meets.marks;
+      flags = subst (λ (qs : List ObjectId). MarksMet c.args.self.now.known.nodes qs c.meet_all.new.self.known.nodes) c.as_slice.ensures meets.flags;
       painted = meets.painted;
       behind = λ some. subst (λ (qs : List ObjectId). QueuesSome c.args.self.now.known qs c.meet_all.new.self.known) c.as_slice.ensures (meets.behind some);
       gains = meets.gains;

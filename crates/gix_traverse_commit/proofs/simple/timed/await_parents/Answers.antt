@@ -14,7 +14,7 @@ use Rattle.gix_traverse_commit_known.proofs.Chosen.{take_all}
 use Rattle.gix_traverse_commit_known.proofs.Keeping.{stays_met}
 use Rattle.gix_traverse_graph.specs.Order.{IsListOf}
 use Rattle.gix_traverse_commit_known.specs.Meeting.{CountsAll, MarksMet, accepted, IsFresh}
-use Rattle.gix_traverse_commit_known.proofs.Meeting.{Fresh, asks_more, counts_accepted, marks_none, marks_step, meets_none, meets_step, parent_met, parent_or_met}
+use Rattle.gix_traverse_commit_known.proofs.Meeting.{Fresh, asks_more, counts_accepted, flags_none, flags_step, meets_none, meets_step, parent_met, parent_or_met}
 use Rattle.gix_traverse_commit_known.proofs.Awaiting.{accepted_more, of_accepted, to_accepted, waits_none, waits_same}
 use Rattle.gix_traverse_commit.proofs.Awaited.{awaits_next, awaits_none, reads_more, reads_none, reads_within, told_over}
 use Rattle.gix_traverse_commit.proofs.simple.timed.await_parents.Goals as goal
@@ -22,7 +22,7 @@ use Rattle.gix_traverse_commit.proofs.simple.timed.await_parents.Goals as goal
 pub parents-init : goal.parents-init
 parents-init g c = record {
   reads = reads_none c.args.source.now;
-  met = marks_none (is_met c.args.known.now.nodes) (is_hidden c.args.known.now.nodes);
+  met = flags_none (is_met c.args.known.now.nodes) (is_hidden c.args.known.now.nodes);
   some = awaits_none c.args.known.now [];
   once = ([], record { same = refl; asked = refl; timed = refl }, (λ honest h told. waits_none (g.F.Lookup.may_fail c.args.source.now.objects) c.args.since h (turns_of c.args.known.now)), meets_none (is_met c.args.known.now.nodes) (is_hidden c.args.known.now.nodes));
 }
@@ -39,7 +39,7 @@ parents-preserved g c =
     let hidden = is_hidden c.parents.known.nodes id in
     record {
       reads = reads_more c.parents.parent-index 1 c.args.source.now c.parents.source c.await_parent.new.source inv.reads c.await_parent.ensures.reads;
-      met = marks_step (is_met c.args.known.now.nodes) (is_hidden c.args.known.now.nodes) has has' hidden ids c.parents.parent-index id here inv.met (inv.some.painted id) step.met;
+      met = flags_step (is_met c.args.known.now.nodes) (is_hidden c.args.known.now.nodes) has has' hidden ids c.parents.parent-index id here inv.met (inv.some.painted id) step.met;
       some = awaits_next c.args.known.now c.parents.known c.await_parent.new.known ids c.parents.parent-index id here inv.some step.some;
       once = (let (xs, asks, waits, w) = inv.once in
           let accepts = g.P.Accept.accepts in

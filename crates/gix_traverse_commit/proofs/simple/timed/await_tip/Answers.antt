@@ -1,9 +1,9 @@
 use Rattle.std.proofs.Common.{List, ap, rules, ◌≡◌, ◌∷◌, [], false, true, sym, subst}
 use Rattle.std.specs.Prelude.{Contains}
 use Rattle.gix_traverse_commit_known.specs.Known.{turns_of}
-use Rattle.gix_traverse_commit_known.specs.Nodes.{is_hidden, is_met}
+use Rattle.gix_traverse_commit_known.specs.Nodes.{has, is_hidden, is_met}
 use Rattle.gix_traverse_commit_known.specs.Timely.{LetsWait}
-use Rattle.gix_traverse_commit_known.specs.declared.nodes.Marks.{Marks}
+use Rattle.gix_traverse_commit_known.specs.declared.nodes.WalkFlags.{WalkFlags}
 use Rattle.gix_traverse_commit_known.specs.declared.waiting.Turn.{Turn}
 use Rattle.gix_hash.specs.declared.object_id.ObjectId.{ObjectId}
 use Rattle.gix_traverse_commit_known.specs.Meeting.{CountsAll, fresh}
@@ -11,31 +11,32 @@ use Rattle.gix_traverse_commit_known.proofs.Awaiting.{fresh_alone, hidden_none, 
 use Rattle.gix_traverse_commit_known.specs.Told.{rows_of}
 use Rattle.gix_traverse_commit_known.proofs.Meeting.{counts_one}
 use Rattle.gix_traverse_commit.proofs.Awaited.{awaits_met, awaits_none, waits_out}
+use Rattle.gix_traverse_commit_known.specs.declared.nodes.TheConstants.WalkFlags.{UNINTERESTING}
 use Rattle.gix_traverse_commit.proofs.simple.timed.await_tip.Goals as goal
 
-pub returns-then-marks-clause-some : goal.returns-then-marks-clause-some
-returns-then-marks-clause-some g c = awaits_none c.args.known.now (c.args.id ∷ [])
+pub returns-then-contains-clause-some : goal.returns-then-contains-clause-some
+returns-then-contains-clause-some g c = awaits_none c.args.known.now (c.args.id ∷ [])
 
-pub returns-then-not-marks-clause-some : goal.returns-then-not-marks-clause-some
-returns-then-not-marks-clause-some g c =
+pub returns-then-not-contains-clause-some : goal.returns-then-not-contains-clause-some
+returns-then-not-contains-clause-some g c =
     let m : is_met c.args.known.now.nodes c.args.id ≡ false = search rules in
-    let h : is_hidden c.args.known.now.nodes c.args.id ≡ c.marks-marks.result.hidden = ap (λ (k : Marks). k.hidden) (sym c.marks-marks.ensures) in
+    let h : is_hidden c.args.known.now.nodes c.args.id ≡ has c.flags-flags.result UNINTERESTING = ap (λ (k : WalkFlags). has k UNINTERESTING) (sym c.flags-flags.ensures) in
     c.in_ok-wait.ensures.some m h
 
 pub returns-clause-some : goal.returns-clause-some
 returns-clause-some g c =
-    let h : is_hidden c.args.known.now.nodes c.args.id ≡ c.marks-marks.result.hidden = ap (λ (k : Marks). k.hidden) (sym c.marks-marks.ensures) in
+    let h : is_hidden c.args.known.now.nodes c.args.id ≡ has c.flags-flags.result UNINTERESTING = ap (λ (k : WalkFlags). has k UNINTERESTING) (sym c.flags-flags.ensures) in
     let met = c.in_ok-mark_met.ensures in
     awaits_met c.args.known.now c.mark_met.new.known c.args.id met.queue met.turns (met.hidden h) met.met met.behind
 
-pub returns-then-marks-clause-awaits : goal.returns-then-marks-clause-awaits
-returns-then-marks-clause-awaits g c = λ honest commits told.
+pub returns-then-contains-clause-awaits : goal.returns-then-contains-clause-awaits
+returns-then-contains-clause-awaits g c = λ honest commits told.
     let nodes = c.args.known.now.nodes in
     let m : is_met nodes c.args.id ≡ true = search rules in
     waits_out (g.F.Lookup.may_fail c.args.source.now.objects) c.args.since commits (fresh nodes c.args.id) (turns_of c.args.known.now) (met_none (is_met nodes c.args.id) (is_hidden nodes c.args.id) c.args.id m)
 
-pub returns-then-not-marks-clause-awaits : goal.returns-then-not-marks-clause-awaits
-returns-then-not-marks-clause-awaits g c = λ honest commits told.
+pub returns-then-not-contains-clause-awaits : goal.returns-then-not-contains-clause-awaits
+returns-then-not-contains-clause-awaits g c = λ honest commits told.
     let nodes = c.args.known.now.nodes in
     let m : is_met nodes c.args.id ≡ false = search rules in
     let h : is_hidden nodes c.args.id ≡ false = search rules in
@@ -50,8 +51,8 @@ returns-clause-awaits g c = λ honest commits told.
     let still = waits_out may_fail c.args.since commits (fresh nodes c.args.id) turns (hidden_none (is_met nodes c.args.id) (is_hidden nodes c.args.id) c.args.id h) in
     subst (λ (ts : List Turn). LetsWait may_fail c.args.since commits (Contains (fresh nodes c.args.id)) turns ts) (sym c.in_ok-mark_met.ensures.turns) still
 
-pub returns-then-not-marks-clause-timed : goal.returns-then-not-marks-clause-timed
-returns-then-not-marks-clause-timed g c =
+pub returns-then-not-contains-clause-timed : goal.returns-then-not-contains-clause-timed
+returns-then-not-contains-clause-timed g c =
     let nodes = c.args.known.now.nodes in
     let rows = rows_of c.args.source.now.rows in
     let before = c.args.source.now.lookups in

@@ -36,8 +36,8 @@ tips-init g c = record {
   told = λ honest x k unmet. absurd (in_nil x k);
 }
 
-pub tips-preserved-then-marks : goal.tips-preserved-then-marks
-tips-preserved-then-marks g c =
+pub tips-preserved-then-contains : goal.tips-preserved-then-contains
+tips-preserved-then-contains g c =
     let ids : List ObjectId = c.args.tips.now in
     let id : ObjectId = get_or ids c.tips.tip-index (Sha1 []) in
     let here = slice_get-get_or ids c.tips.tip-index (Sha1 []) c.tips-test.true in

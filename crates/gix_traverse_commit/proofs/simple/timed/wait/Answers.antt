@@ -5,7 +5,6 @@ use Rattle.gix_hash.specs.declared.object_id.ObjectId.{ObjectId}
 use Rattle.gix_traverse_graph.specs.Sorting.{in_time}
 use Rattle.gix_traverse_commit_known.specs.Timely.{Joins}
 use Rattle.gix_traverse_commit_known.specs.Known.{turns_of}
-use Rattle.gix_traverse_commit_known.specs.declared.nodes.Marks.{Marks}
 use Rattle.gix_traverse_commit_known.specs.declared.waiting.Turn.{Turn}
 use Rattle.gix_traverse_commit_known.proofs.Awaiting.{waits_one}
 use Rattle.gix_traverse_commit_known.proofs.Timely.{joins_none, joins_same}
@@ -23,7 +22,7 @@ returns-then-not-is_in_time-clause-some g c = λ unmet same.
 pub returns-clause-some : goal.returns-clause-some
 returns-clause-some g c = λ unmet same.
     let waits = c.in_ok-wait.ensures in
-    awaits_one c.args.known.now c.wait.new.self (to_z w64 (of_z w64 c.in_ok-time.time)) c.args.id c.as_met.result waits.marked (ap (λ (m : Marks). m.met) c.as_met.ensures) (same ∙ ap (λ (m : Marks). m.hidden) (sym c.as_met.ensures)) unmet waits.queue waits.joins waits.once waits.behind
+    awaits_one c.args.known.now c.wait.new.self (to_z w64 (of_z w64 c.in_ok-time.time)) c.args.id c.as_met.result waits.marked c.as_met.ensures.met (same ∙ sym c.as_met.ensures.hidden) unmet waits.queue waits.joins waits.once waits.behind
 
 pub returns-then-not-is_in_time-clause-awaits : goal.returns-then-not-is_in_time-clause-awaits
 returns-then-not-is_in_time-clause-awaits g c = λ honest commits told.
