@@ -12,7 +12,7 @@ use Rattle.gix_traverse_graph.specs.Numbered.{same_id}
 use Rattle.gix_traverse_graph.specs.Order.{At}
 use Rattle.gix_traverse_graph.proofs.Ids.{same_id_apart}
 use Rattle.gix_traverse_graph.proofs.Lists.{at_one, at_from_contains, at_from_push, contains_from_at, none_at_nil, three}
-use Rattle.gix_traverse_topo.specs.Nodes.{all_facts, counts, EachCount, NamesAre, IsOnce}
+use Rattle.gix_traverse_topo.specs.Nodes.{all_facts, counts, EachCount, NamesAre, IsOnce, hidden_in}
 use Rattle.gix_traverse_topo.specs.Standing.{id_at, ids_of, CountsOff, passed, counted, freed, NotCounted, GoesOff, RowOff}
 use Rattle.gix_traverse_topo.specs.Turns.{times, total, names_of, named_so_far, Freed}
 use Rattle.gix_traverse_topo.specs.Waiting.{Joined}
@@ -154,7 +154,7 @@ in_set keys hs xs n y e l a = go hs n l (subst (λ (zs : List ObjectId). At zs n
     go (h ∷ hs) (suc n) l a = go hs n (omega arith) a
 
 module _ (way : ObjectId → List ObjectId) (h : Commits ObjectId) (before row hs xs : List ObjectId) (known : Known) (ready : Ready) (goes : GoesOff way h before row hs xs known) (xs_once : IsOnce xs) where
-  pub row_none : RowOff known.hidden known.ids.keys way h before row xs ready 0 (counts known.nodes.items) ready
+  pub row_none : RowOff (hidden_in known.nodes.items) known.ids.keys way h before row xs ready 0 (counts known.nodes.items) ready
   row_none = record {
     more = [];
     counted = goes.counted;
@@ -163,12 +163,12 @@ module _ (way : ObjectId → List ObjectId) (h : Commits ObjectId) (before row h
     numbered = λ p c. let (k, a) = at_from_contains [] p c in absurd (none_at_nil k p a);
   }
 
-  pub row_more : (m : ℕ) (y : ObjectId) (cs cs' : List ℕ) (ready' ready'' : Ready) → At row m y → length cs ≡ length known.ids.keys → RowOff known.hidden known.ids.keys way h before row xs ready m cs ready' → CountsOff known.hidden known.ids.keys (all_facts known.nodes.items) cs ready' y cs' ready'' → RowOff known.hidden known.ids.keys way h before row xs ready (m + 1) cs' ready''
+  pub row_more : (m : ℕ) (y : ObjectId) (cs cs' : List ℕ) (ready' ready'' : Ready) → At row m y → length cs ≡ length known.ids.keys → RowOff (hidden_in known.nodes.items) known.ids.keys way h before row xs ready m cs ready' → CountsOff (hidden_in known.nodes.items) known.ids.keys (all_facts known.nodes.items) cs ready' y cs' ready'' → RowOff (hidden_in known.nodes.items) known.ids.keys way h before row xs ready (m + 1) cs' ready''
   row_more m y cs cs' ready' ready'' here long r (passed none e f) =
       record {
         more = r.more;
-        counted = subst (λ (ds : List ℕ). EachCount known.hidden known.ids.keys ds (λ z c. c + named_so_far same_id way before row (m + 1) z ≡ names_of same_id way z xs)) (sym e)
-            (each_kept known.hidden known.ids.keys cs (λ z c. c + named_so_far same_id way before row m z ≡ names_of same_id way z xs) (λ z c. c + named_so_far same_id way before row (m + 1) z ≡ names_of same_id way z xs) r.counted
+        counted = subst (λ (ds : List ℕ). EachCount (hidden_in known.nodes.items) known.ids.keys ds (λ z c. c + named_so_far same_id way before row (m + 1) z ≡ names_of same_id way z xs)) (sym e)
+            (each_kept (hidden_in known.nodes.items) known.ids.keys cs (λ z c. c + named_so_far same_id way before row m z ≡ names_of same_id way z xs) (λ z c. c + named_so_far same_id way before row (m + 1) z ≡ names_of same_id way z xs) r.counted
             (λ n z c l a p. let d = freeing.not_counted same_id same_id_apart way xs xs_once before row m y here z (λ g. let b = none goes.keys_once n (subst (λ (x : ObjectId). At known.ids.keys n x) g a) in omega arith) in omega arith));
         freed = freeing.freed_keep same_id same_id_apart way xs xs_once before row m y here (ids_of known.ids.keys r.more) r.freed (λ c. absurd (out c)) (λ c l. out c);
         joined = subst (λ (q : Ready). Joined ready r.more q) (sym f) r.joined;
@@ -182,8 +182,8 @@ module _ (way : ObjectId → List ObjectId) (h : Commits ObjectId) (before row h
       let next = freeing.counted same_id same_id_apart way xs xs_once before row m y here in
       record {
         more = r.more;
-        counted = subst (λ (ds : List ℕ). EachCount known.hidden known.ids.keys ds (λ z c. c + named_so_far same_id way before row (m + 1) z ≡ names_of same_id way z xs)) (sym e)
-            (each_set known.hidden known.ids.keys cs (λ z c. c + named_so_far same_id way before row m z ≡ names_of same_id way z xs) (λ z c. c + named_so_far same_id way before row (m + 1) z ≡ names_of same_id way z xs) n count y r.counted goes.keys_once a (slice_get_within cs n (count + 1) b)
+        counted = subst (λ (ds : List ℕ). EachCount (hidden_in known.nodes.items) known.ids.keys ds (λ z c. c + named_so_far same_id way before row (m + 1) z ≡ names_of same_id way z xs)) (sym e)
+            (each_set (hidden_in known.nodes.items) known.ids.keys cs (λ z c. c + named_so_far same_id way before row m z ≡ names_of same_id way z xs) (λ z c. c + named_so_far same_id way before row (m + 1) z ≡ names_of same_id way z xs) n count y r.counted goes.keys_once a (slice_get_within cs n (count + 1) b)
             (omega arith)
             (λ z c d p. let g = freeing.not_counted same_id same_id_apart way xs xs_once before row m y here z d in omega arith));
         freed = freeing.freed_keep same_id same_id_apart way xs xs_once before row m y here (ids_of known.ids.keys r.more) r.freed (goes.room m y here) (λ c w. left (omega arith));
@@ -198,21 +198,21 @@ module _ (way : ObjectId → List ObjectId) (h : Commits ObjectId) (before row h
       let named : ids_of known.ids.keys (r.more ++ pending ∷ []) ≡ ids_of known.ids.keys r.more ++ y ∷ [] = map_push (λ (p : Pending). id_at known.ids.keys p.number.0) r.more pending ∙ ap (λ (z : ObjectId). ids_of known.ids.keys r.more ++ z ∷ []) (at_id known.ids.keys pending.number.0 y (subst (λ (k : ℕ). At known.ids.keys k y) (sym at_n) a)) in
       record {
         more = r.more ++ pending ∷ [];
-        counted = subst (λ (ds : List ℕ). EachCount known.hidden known.ids.keys ds (λ z c. c + named_so_far same_id way before row (m + 1) z ≡ names_of same_id way z xs)) (sym e)
-            (each_set known.hidden known.ids.keys cs (λ z c. c + named_so_far same_id way before row m z ≡ names_of same_id way z xs) (λ z c. c + named_so_far same_id way before row (m + 1) z ≡ names_of same_id way z xs) n 0 y r.counted goes.keys_once a (slice_get_within cs n 1 b)
+        counted = subst (λ (ds : List ℕ). EachCount (hidden_in known.nodes.items) known.ids.keys ds (λ z c. c + named_so_far same_id way before row (m + 1) z ≡ names_of same_id way z xs)) (sym e)
+            (each_set (hidden_in known.nodes.items) known.ids.keys cs (λ z c. c + named_so_far same_id way before row m z ≡ names_of same_id way z xs) (λ z c. c + named_so_far same_id way before row (m + 1) z ≡ names_of same_id way z xs) n 0 y r.counted goes.keys_once a (slice_get_within cs n 1 b)
             (omega arith)
             (λ z c d p. let g = freeing.not_counted same_id same_id_apart way xs xs_once before row m y here z d in omega arith));
         freed = subst (λ (zs : List ObjectId). Freed same_id way xs before row (m + 1) zs) (sym named) (freeing.freed_push same_id same_id_apart way xs xs_once before row m y here (ids_of known.ids.keys r.more) r.freed there (omega arith));
         joined = joined_more ready ready' ready'' r.more pending r.joined j;
         numbered = λ p c. elim (Contains-push_cases r.more pending p c) [
           | inl d ↦ r.numbered p d
-          | inr g ↦ subst (λ (q : Pending). (x : ObjectId) × (known.hidden ≤ q.number.0) × At known.ids.keys q.number.0 x × (q.time ≡ (h x).time)) g
+          | inr g ↦ subst (λ (q : Pending). (x : ObjectId) × (hidden_in known.nodes.items ≤ q.number.0) × At known.ids.keys q.number.0 x × (q.time ≡ (h x).time)) g
               (y, omega (arith, at_n), subst (λ (k : ℕ). At known.ids.keys k y) (sym at_n) a, timed ∙ goes.timed n y facts l a (contains_from_at row m y here) told)
         ];
       }
 
   -- what is still to be counted off is left
-  pub still_counted : (m : ℕ) (y : ObjectId) (cs : List ℕ) (ready' : Ready) → At row m y → length cs ≡ length known.ids.keys → RowOff known.hidden known.ids.keys way h before row xs ready m cs ready' → NotCounted known.hidden known.ids.keys cs y → ⊥
+  pub still_counted : (m : ℕ) (y : ObjectId) (cs : List ℕ) (ready' : Ready) → At row m y → length cs ≡ length known.ids.keys → RowOff (hidden_in known.nodes.items) known.ids.keys way h before row xs ready m cs ready' → NotCounted (hidden_in known.nodes.items) known.ids.keys cs y → ⊥
   still_counted m y cs ready' here long r (n, l, a, inl past) = let w = slice_get_within known.ids.keys n y a in omega arith
   still_counted m y cs ready' here long r (n, l, a, inr none) =
       let now = r.counted n y 0 l a none in

@@ -15,7 +15,7 @@ use Rattle.gix_traverse_graph.specs.declared.rows.Row.{Row}
 use Rattle.gix_traverse_graph.proofs.Lists.{at_from_contains, contains_from_at, none_at_nil, three}
 use Rattle.gix_traverse_topo.specs.Exploring.{IsPainted, Numbers, IsExplored}
 use Rattle.gix_traverse_topo.specs.Faults.{StopsAtEnds, IsFaultOf}
-use Rattle.gix_traverse_topo.specs.Nodes.{all_facts, counts, EachCount, IsOnce, AreFacts, ParentsFrom}
+use Rattle.gix_traverse_topo.specs.Nodes.{all_facts, counts, EachCount, IsOnce, AreFacts, ParentsFrom, hidden_in}
 use Rattle.gix_traverse_topo.specs.Standing.{as_read}
 use Rattle.gix_traverse_topo.specs.Turns.{names_of}
 use Rattle.gix_traverse_topo.specs.Walking.{Walking}
@@ -62,21 +62,21 @@ module _ (honest may_fail : Type 0) (rows : List Row) (table : Table) (ends : Li
   read n x facts a b = w.read n x facts (omega arith) (let m = slice_get_within keys n x a in omega arith) a b
 
   -- all that the ends reach is read
-  pub painted : (known : Known) → known.ids.keys ≡ keys → known.nodes.items ≡ nodes → known.hidden ≡ length keys → ((n : ℕ) (facts : Facts) → At (all_facts nodes) n facts → facts.fault ≡ None) → IsPainted honest may_fail rows table ends known
+  pub painted : (known : Known) → known.ids.keys ≡ keys → all_facts known.nodes.items ≡ all_facts nodes → hidden_in known.nodes.items ≡ length keys → ((n : ℕ) (facts : Facts) → At (all_facts nodes) n facts → facts.fault ≡ None) → IsPainted honest may_fail rows table ends known
   painted known e f l no_fault = record {
     once = subst (λ (ks : List ObjectId). IsOnce ks) (sym e) once;
-    all_read = ap length f ∙ as_many ∙ sym (ap length e);
+    all_read = sym (length_map (λ (v : Node). v.facts) known.nodes.items) ∙ ap length f ∙ length_map (λ (v : Node). v.facts) nodes ∙ as_many ∙ sym (ap length e);
     all_hidden = l ∙ sym (ap length e);
     read = λ n x facts a b. read n x facts (key e n x a) (told f n facts b);
     no_fault = λ n facts b. no_fault n facts (told f n facts b);
-    hides = λ h t x. subst (λ (ks : List ObjectId). Contains ks x ↔ ReachedFrom h ends x) (sym e) (one_by_one h (λ n y r m a b. t n y r m (subst (λ (ks : List ObjectId). At ks n y) (sym e) a) (subst (λ (ns : List Node). At (all_facts ns) n r) (sym f) b)) x);
+    hides = λ h t x. subst (λ (ks : List ObjectId). Contains ks x ↔ ReachedFrom h ends x) (sym e) (one_by_one h (λ n y r m a b. t n y r m (subst (λ (ks : List ObjectId). At ks n y) (sym e) a) (subst (λ (rs : List Facts). At rs n r) (sym f) b)) x);
   }
     where
       key : known.ids.keys ≡ keys → (n : ℕ) (x : ObjectId) → At known.ids.keys n x → At keys n x
       key e n x a = subst (λ (ks : List ObjectId). At ks n x) e a
 
-      told : known.nodes.items ≡ nodes → (n : ℕ) (r : Facts) → At (all_facts known.nodes.items) n r → At (all_facts nodes) n r
-      told f n r b = subst (λ (ns : List Node). At (all_facts ns) n r) f b
+      told : all_facts known.nodes.items ≡ all_facts nodes → (n : ℕ) (r : Facts) → At (all_facts known.nodes.items) n r → At (all_facts nodes) n r
+      told f n r b = subst (λ (rs : List Facts). At rs n r) f b
 
   -- a commit that isn't read is one that the ends reach
   pub stops : (n : ℕ) (facts : Facts) (error : Error) → At (all_facts nodes) n facts → facts.fault ≡ Some error → StopsAtEnds honest may_fail rows table ends error
@@ -92,7 +92,7 @@ module _ (honest may_fail : Type 0) (rows : List Row) (table : Table) (ends : Li
 
 -- ---- after it what the tips reach
 
-module _ (honest may_fail : Type 0) (rows : List Row) (table : Table) (tips ends : List ObjectId) (parents : Parents) (old mid : Known) (high : ℕ) (p : IsPainted honest may_fail rows table ends old) (w : Walking honest may_fail rows table parents tips old.ids.keys old.nodes.items high mid.ids.keys mid.nodes.items) (full : length mid.ids.keys ≤ high) (hidden : mid.hidden ≡ old.hidden) where
+module _ (honest may_fail : Type 0) (rows : List Row) (table : Table) (tips ends : List ObjectId) (parents : Parents) (old mid : Known) (high : ℕ) (p : IsPainted honest may_fail rows table ends old) (w : Walking honest may_fail rows table parents tips old.ids.keys old.nodes.items high mid.ids.keys mid.nodes.items) (full : length mid.ids.keys ≤ high) (hidden : hidden_in mid.nodes.items ≡ hidden_in old.nodes.items) where
   forward : (n : ℕ) (r : Facts) → At (all_facts old.nodes.items) n r → At (all_facts mid.nodes.items) n r
   forward n r b = w.told_kept n r (let l = slice_get_within (all_facts old.nodes.items) n r b in omega (arith, length_map (λ (v : Node). v.facts) old.nodes.items)) b
 
@@ -112,7 +112,7 @@ module _ (honest may_fail : Type 0) (rows : List Row) (table : Table) (tips ends
     | inr (inr gt) ↦ w.read n x facts (omega arith) (below n x a) a b
   ]
 
-  mid_hidden : mid.hidden ≡ length old.ids.keys
+  mid_hidden : hidden_in mid.nodes.items ≡ length old.ids.keys
   mid_hidden = hidden ∙ p.all_hidden
 
   pub explored : IsExplored honest may_fail rows table tips ends parents mid

@@ -5,6 +5,7 @@ pub mod Moved
 pub mod Begins
 pub mod Freeing
 pub mod Meeting
+pub mod Flagged
 pub mod Counting
 pub mod Walking
 pub mod Found

@@ -24,7 +24,7 @@ use Rattle.gix_traverse_graph.proofs.Ids.{same_id_apart}
 use Rattle.gix_traverse_graph.proofs.Listing.{listed_reached}
 use Rattle.gix_traverse_graph.proofs.Lists.{at_one, at_from_contains, contains_from_at, none_at_nil, three}
 use Rattle.gix_traverse_topo.specs.Exploring.{Numbers, IsExplored}
-use Rattle.gix_traverse_topo.specs.Nodes.{all_facts, counts, IsOnce, Tells}
+use Rattle.gix_traverse_topo.specs.Nodes.{all_facts, counts, IsOnce, Tells, hidden_in}
 use Rattle.gix_traverse_topo.specs.Standing.{id_at, ids_of, Comes, Ranks, Standing, Stands, Begins, as_read, topo_request, all_accepted}
 use Rattle.gix_traverse_topo.specs.Turns.{times, names_of, Waits}
 use Rattle.gix_traverse_topo.specs.Waiting.{pending_cmp, waiting, Sorted, IsFree}
@@ -104,7 +104,7 @@ times_once (x ∷ xs) (suc k) (suc l) y t lt a b = times_once xs k l y (omega ar
 abbrev pub found_in : Known → Commits ObjectId → Commits ObjectId
 found_in known g = as_read (fault_in known.ids.keys (all_facts known.nodes.items)) g
 
-module _ (honest may_fail : Type 0) (rows : List Row) (table : Table) (tips ends : List ObjectId) (parents : Parents) (known : Known) (e : IsExplored honest may_fail rows table tips ends parents known) (sorting : Sorting) (first : List Pending) (ready : Ready) (f : IsFree known.hidden (all_facts known.nodes.items) (counts known.nodes.items) first) (same : IsPermutation first (waiting ready)) (sorted : Sorted sorting ready) where
+module _ (honest may_fail : Type 0) (rows : List Row) (table : Table) (tips ends : List ObjectId) (parents : Parents) (known : Known) (e : IsExplored honest may_fail rows table tips ends parents known) (sorting : Sorting) (first : List Pending) (ready : Ready) (f : IsFree (hidden_in known.nodes.items) (all_facts known.nodes.items) (counts known.nodes.items) first) (same : IsPermutation first (waiting ready)) (sorted : Sorted sorting ready) where
   long_told : length (all_facts known.nodes.items) ≡ length known.ids.keys
   long_told = length_map (λ (v : Node). v.facts) known.nodes.items ∙ e.all_read
 
@@ -147,7 +147,7 @@ module _ (honest may_fail : Type 0) (rows : List Row) (table : Table) (tips ends
     num = e.numbers (found_in known g) (parents_so honest may_fail rows table known.ids.keys (all_facts known.nodes.items) e.once e.read yes g are)
 
     -- one that waits has a number, and none names it
-    free : (p : Pending) → Contains (waiting ready) p → (x : ObjectId) × (known.hidden ≤ p.number.0) × At known.ids.keys p.number.0 x × (p.time ≡ ((found_in known g) x).time) × Contains num.xs x × (names_of same_id (asked_parents parents (found_in known g)) x num.xs ≡ 0)
+    free : (p : Pending) → Contains (waiting ready) p → (x : ObjectId) × (hidden_in known.nodes.items ≤ p.number.0) × At known.ids.keys p.number.0 x × (p.time ≡ ((found_in known g) x).time) × Contains num.xs x × (names_of same_id (asked_parents parents (found_in known g)) x num.xs ≡ 0)
     free p c =
         let (l, a, (r, b, t)) = f.each p (from_waiting p c) in
         let (x, k) = at_within known.ids.keys p.number.0 (omega (arith, slice_get_within (all_facts known.nodes.items) p.number.0 r b, long_told)) in
@@ -171,7 +171,7 @@ module _ (honest may_fail : Type 0) (rows : List Row) (table : Table) (tips ends
         let within = slice_get_within known.ids.keys m x k in
         let (facts, b) = at_within (all_facts known.nodes.items) m (omega (arith, long_told)) in
         let (count, a) = at_within (counts known.nodes.items) m (omega (arith, long_counts)) in
-        let low : known.hidden ≤ m = omega (arith, num.hidden_are) in
+        let low : hidden_in known.nodes.items ≤ m = omega (arith, num.hidden_are) in
         let zero_is : count ≡ 0 = num.counted m x count low k a ∙ n in
         let (p, c, i) = f.every m facts low (subst (λ (v : ℕ). At (counts known.nodes.items) m v) zero_is a) b in
         named p c m x i k
@@ -207,7 +207,7 @@ module _ (honest may_fail : Type 0) (rows : List Row) (table : Table) (tips ends
           | inr (s, le) ↦ inr (sym time_x ∙ s ∙ time_y, above low_p low_q le apart)
         ])
       where
-        above : known.hidden ≤ p.number.0 → known.hidden ≤ q.number.0 → p.number.0 ≤ q.number.0 → (p.number.0 ≡ q.number.0 → ⊥) → p.number.0 - length num.hs < q.number.0 - length num.hs
+        above : hidden_in known.nodes.items ≤ p.number.0 → hidden_in known.nodes.items ≤ q.number.0 → p.number.0 ≤ q.number.0 → (p.number.0 ≡ q.number.0 → ⊥) → p.number.0 - length num.hs < q.number.0 - length num.hs
         above a b c d = elim (three p.number.0 q.number.0) [
           | inl lt ↦ omega (arith, num.hidden_are)
           | inr (inl s) ↦ absurd (d s)

@@ -14,7 +14,7 @@ use Rattle.gix_traverse_graph.specs.declared.parents.Parents.{Parents}
 use Rattle.gix_traverse_graph.specs.declared.rows.Row.{Row}
 use Rattle.gix_traverse_graph.proofs.Ids.{same_id_apart}
 use Rattle.gix_traverse_graph.proofs.Lists.{at_one, at_from_contains, contains_from_at, none_at_nil, at_append}
-use Rattle.gix_traverse_topo.specs.Nodes.{all_facts, counts, IsOnce}
+use Rattle.gix_traverse_topo.specs.Nodes.{all_facts, counts, IsOnce, hidden_in}
 use Rattle.gix_traverse_topo.specs.Standing.{id_at, ids_of, Comes, Ranks, GoesOff, RowOff, Standing}
 use Rattle.gix_traverse_topo.specs.Turns.{times, names_of, named_so_far, SameBag, Fresh, Rising, Waits, Ranked}
 use Rattle.gix_traverse_topo.specs.Waiting.{waiting, Joined, Popped}
@@ -138,7 +138,7 @@ module _ (way : ObjectId → List ObjectId) (tips : List ObjectId) (time : Objec
 -- ---- one step
 
 module _ (sorting : Sorting) (rows : List Row) (h : Commits ObjectId) (tips : List ObjectId) (parents : Parents) (hs xs finished : List ObjectId) (known : Known) (ready : Ready) (st : Standing sorting rows h tips parents hs xs finished known ready) (p : Pending) (ready' : Ready) (popped : Popped ready p ready') where
-  pub x_of : (x : ObjectId) × (known.hidden ≤ p.number.0) × At known.ids.keys p.number.0 x × (p.time ≡ (h x).time)
+  pub x_of : (x : ObjectId) × (hidden_in known.nodes.items ≤ p.number.0) × At known.ids.keys p.number.0 x × (p.time ≡ (h x).time)
   x_of = st.numbered p (popped_in ready ready' p popped)
 
   module _ (x : ObjectId) (here : At known.ids.keys p.number.0 x) where
@@ -178,7 +178,7 @@ module _ (sorting : Sorting) (rows : List Row) (h : Commits ObjectId) (tips : Li
         none y (z ∷ zs) = refl
 
     -- the step
-    pub step : (row : List ObjectId) (m : ℕ) (known' : Known) (ready'' : Ready) → row ≡ asked_parents parents h x → length row ≤ m → RowOff known.hidden known.ids.keys (asked_parents parents h) h finished row xs ready' m (counts known'.nodes.items) ready'' → known'.ids ≡ known.ids → known'.hidden ≡ known.hidden → length known'.nodes.items ≡ length known.nodes.items → ((k : ℕ) (facts : Facts) → (k ≡ p.number.0 → ⊥) → At (all_facts known'.nodes.items) k facts → At (all_facts known.nodes.items) k facts) → Standing sorting rows h tips parents hs xs (finished ++ x ∷ []) known' ready''
+    pub step : (row : List ObjectId) (m : ℕ) (known' : Known) (ready'' : Ready) → row ≡ asked_parents parents h x → length row ≤ m → RowOff (hidden_in known.nodes.items) known.ids.keys (asked_parents parents h) h finished row xs ready' m (counts known'.nodes.items) ready'' → known'.ids ≡ known.ids → hidden_in known'.nodes.items ≡ hidden_in known.nodes.items → length known'.nodes.items ≡ length known.nodes.items → ((k : ℕ) (facts : Facts) → (k ≡ p.number.0 → ⊥) → At (all_facts known'.nodes.items) k facts → At (all_facts known.nodes.items) k facts) → Standing sorting rows h tips parents hs xs (finished ++ x ∷ []) known' ready''
     step row m known' ready'' e long r same_ids same_hidden same_length others = record {
       keys_are = ap (λ i. i.keys) same_ids ∙ st.keys_are;
       hidden_are = same_hidden ∙ st.hidden_are;
@@ -221,6 +221,6 @@ module _ (sorting : Sorting) (rows : List Row) (h : Commits ObjectId) (tips : Li
             let b : times (same_id y) (take m row) ≡ times (same_id y) (asked_parents parents h x) = ap (times (same_id y)) (whole row m long ∙ e) in
             omega arith
 
-        numbered : (q : Pending) → Contains (waiting ready') q ⊎ Contains r.more q → (y : ObjectId) × (known'.hidden ≤ q.number.0) × At known'.ids.keys q.number.0 y × (q.time ≡ (h y).time)
+        numbered : (q : Pending) → Contains (waiting ready') q ⊎ Contains r.more q → (y : ObjectId) × (hidden_in known'.nodes.items ≤ q.number.0) × At known'.ids.keys q.number.0 y × (q.time ≡ (h y).time)
         numbered q (inl c) = let (y, l, a, t) = st.numbered q (popped_rest ready ready' p q popped c) in (y, subst (λ (k : ℕ). k ≤ q.number.0) (sym same_hidden) l, subst (λ (zs : List ObjectId). At zs q.number.0 y) (sym keys_same) a, t)
         numbered q (inr c) = let (y, l, a, t) = r.numbered q c in (y, subst (λ (k : ℕ). k ≤ q.number.0) (sym same_hidden) l, subst (λ (zs : List ObjectId). At zs q.number.0 y) (sym keys_same) a, t)

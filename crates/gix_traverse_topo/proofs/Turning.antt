@@ -14,7 +14,7 @@ use Rattle.gix_traverse_graph.specs.declared.rows.Row.{Row}
 use Rattle.gix_traverse_graph.proofs.Ids.{same_id_apart}
 use Rattle.gix_traverse_graph.proofs.Lists.{at_one, at_from_contains, none_at_nil}
 use Rattle.gix_traverse_graph.proofs.Listing.{asked_parent, listed_reached, listed_from_reached}
-use Rattle.gix_traverse_topo.specs.Nodes.{all_facts, counts, Tells, IsOnce}
+use Rattle.gix_traverse_topo.specs.Nodes.{all_facts, counts, Tells, IsOnce, hidden_in}
 use Rattle.gix_traverse_topo.specs.Standing.{id_at, ids_of, Comes, Gives, GoesOff, RowOff, Standing, Steps, IsInfo, IsNext, Stands, as_read, IsTurn, IsTurnOf, topo_request, all_accepted, Answers, NoneReachesItself, weight}
 use Rattle.gix_traverse_topo.specs.Turns.{total}
 use Rattle.gix_traverse_topo.specs.Waiting.{waiting, Popped}
@@ -55,7 +55,7 @@ module _ (sorting : Sorting) (rows : List Row) (h : Commits ObjectId) (tips : Li
   row_of : (x : ObjectId) (facts : Facts) → At known.ids.keys p.number.0 x → At (all_facts known.nodes.items) p.number.0 facts → asked parents facts.parents.items ≡ asked_parents parents h x
   row_of x facts here at = ap (asked parents) (told_of x facts here at).parents ∙ sym (asked_same parents h x)
 
-  pub steps : (new : Known) (ready'' : Ready) (info : Info) → new.ids ≡ known.ids → new.hidden ≡ known.hidden → Gives p.number.0 parents known ready' new ready'' info → Steps sorting rows h tips parents hs xs finished known ready new ready'' info
+  pub steps : (new : Known) (ready'' : Ready) (info : Info) → new.ids ≡ known.ids → hidden_in new.nodes.items ≡ hidden_in known.nodes.items → Gives p.number.0 parents known ready' new ready'' info → Steps sorting rows h tips parents hs xs finished known ready new ready'' info
   steps new ready'' info same_ids same_hidden gives =
       let x : ObjectId = info.id in
       let tells = told_of x gives.facts gives.id gives.at in
@@ -151,7 +151,7 @@ module _ (sorting : Sorting) (rows : List Row) (faults : ObjectId → Option Err
       back : (n : ℕ) (x : ObjectId) → At new.ids.keys n x → At old.ids.keys n x
       back n x a = subst (λ (zs : List ObjectId). At zs n x) (ap (λ i. i.keys) same_ids) a
 
-      hidden_same : new.hidden ≡ old.hidden
+      hidden_same : hidden_in new.nodes.items ≡ hidden_in old.nodes.items
       hidden_same = s.standing.hidden_are ∙ sym sd.standing.hidden_are
 
       more : (x : ObjectId) → Contains sd.finished x → Contains (sd.finished ++ info.id ∷ []) x
@@ -232,7 +232,7 @@ module _ (sorting : Sorting) (rows : List Row) (faults : ObjectId → Option Err
 -- ---- what a call gave
 
 pub gives_of : (r : Result Info Error) (n : ℕ) (along : Parents) (old mid new : Known) (ready ready' : Ready) → mid.ids ≡ old.ids → all_facts mid.nodes.items ≡ all_facts old.nodes.items → counts new.nodes.items ≡ counts mid.nodes.items → length new.nodes.items ≡ length old.nodes.items → ((facts : Facts) → At (all_facts old.nodes.items) n facts → facts.fault ≡ None) → ((k : ℕ) (facts : Facts) → (k ≡ n → ⊥) → At (all_facts new.nodes.items) k facts → At (all_facts mid.nodes.items) k facts)
-    → ((way : ObjectId → List ObjectId) (h : Commits ObjectId) (before hs xs : List ObjectId) (facts : Facts) → At (all_facts old.nodes.items) n facts → GoesOff way h before (asked along facts.parents.items) hs xs old → IsOnce xs → (m : ℕ) × (length (asked along facts.parents.items) ≤ m) × RowOff old.hidden old.ids.keys way h before (asked along facts.parents.items) xs ready m (counts mid.nodes.items) ready')
+    → ((way : ObjectId → List ObjectId) (h : Commits ObjectId) (before hs xs : List ObjectId) (facts : Facts) → At (all_facts old.nodes.items) n facts → GoesOff way h before (asked along facts.parents.items) hs xs old → IsOnce xs → (m : ℕ) × (length (asked along facts.parents.items) ≤ m) × RowOff (hidden_in old.nodes.items) old.ids.keys way h before (asked along facts.parents.items) xs ready m (counts mid.nodes.items) ready')
     → IfOk r (λ info. At mid.ids.keys n info.id × ((facts : Facts) × At (all_facts mid.nodes.items) n facts × (info.parent_ids.items ≡ facts.parents.items) × (info.generation ≡ facts.generation) × (info.commit_time ≡ Some facts.time)))
     → IfOk r (Gives n along old ready new ready')
 gives_of (Ok info) n along old mid new ready ready' ids told same_counts many unfaulted others off (id, (facts, at, ps, generation, time)) =
@@ -247,7 +247,7 @@ gives_of (Ok info) n along old mid new ready ready' ids told same_counts many un
       time = time;
       off = λ way h before hs xs goes once.
           let (m, l, r) = off way h before hs xs facts at' goes once in
-          (m, l, subst (λ (cs : List ℕ). RowOff old.hidden old.ids.keys way h before (asked along facts.parents.items) xs ready m cs ready') (sym same_counts) r);
+          (m, l, subst (λ (cs : List ℕ). RowOff (hidden_in old.nodes.items) old.ids.keys way h before (asked along facts.parents.items) xs ready m cs ready') (sym same_counts) r);
       others = λ k other d a. subst (λ (zs : List Facts). At zs k other) told (others k other d a);
       as_many = many;
     }
@@ -263,9 +263,9 @@ take_refused (Err e) n along old mid ids told refused = λ way h before hs xs fa
     let all = goes.all_read in
     absurd (elim refused [ inl l ↦ omega arith | inr l ↦ omega arith ])
 
-pub take_falls : (r : Result Info Error) (old mid new : Known) (ready ready' : Ready) → new.hidden ≡ mid.hidden → counts new.nodes.items ≡ counts mid.nodes.items → weight mid ready' ≤ weight old ready → OnOk r (weight new ready' ≤ weight old ready)
+pub take_falls : (r : Result Info Error) (old mid new : Known) (ready ready' : Ready) → hidden_in new.nodes.items ≡ hidden_in mid.nodes.items → counts new.nodes.items ≡ counts mid.nodes.items → weight mid ready' ≤ weight old ready → OnOk r (weight new ready' ≤ weight old ready)
 take_falls (Ok info) old mid new ready ready' h e l =
-    let f : total (λ (c : ℕ). c) (drop new.hidden (counts new.nodes.items)) ≡ total (λ (c : ℕ). c) (drop mid.hidden (counts mid.nodes.items)) = ap (λ (low : ℕ). total (λ (c : ℕ). c) (drop low (counts new.nodes.items))) h ∙ ap (λ (cs : List ℕ). total (λ (c : ℕ). c) (drop mid.hidden cs)) e in
+    let f : total (λ (c : ℕ). c) (drop (hidden_in new.nodes.items) (counts new.nodes.items)) ≡ total (λ (c : ℕ). c) (drop (hidden_in mid.nodes.items) (counts mid.nodes.items)) = ap (λ (low : ℕ). total (λ (c : ℕ). c) (drop low (counts new.nodes.items))) h ∙ ap (λ (cs : List ℕ). total (λ (c : ℕ). c) (drop (hidden_in mid.nodes.items) cs)) e in
     omega arith
 take_falls (Err x) old mid new ready ready' h e l = tt
 

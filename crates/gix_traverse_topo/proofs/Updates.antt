@@ -15,6 +15,7 @@ use Rattle.std.proofs.lemmas.Option.{slice_get_within, slice_get-get_or}
 use Rattle.gix_hash.specs.declared.object_id.ObjectId.{ObjectId}
 use Rattle.gix_traverse_graph.specs.Order.{At}
 use Rattle.gix_traverse_graph.proofs.Lists.{at_from_contains, contains_from_at, none_at_nil, at_from_push, three}
+use Rattle.gix_traverse_commit_known.specs.declared.nodes.WalkFlags.{WalkFlags}
 use Rattle.gix_traverse_topo.specs.Nodes.{all_facts, counts}
 use Rattle.gix_traverse_topo.specs.Standing.{CountsOff, counted, freed}
 use Rattle.gix_traverse_topo.specs.Turns.{total}
@@ -28,18 +29,18 @@ use Rattle.gix_traverse_topo.proofs.Counting.{at_set_away, at_set_here, at_set_o
 use Rattle.gix_traverse_topo.proofs.Meeting.{at_map, from_map, length_map}
 
 -- a changed count leaves what was read
-pub set_facts : (nodes : List Node) (n k : ℕ) (node : Node) → node ≡ get_or nodes n node → all_facts (set nodes n (record { facts = node.facts; names = k })) ≡ all_facts nodes
+pub set_facts : (nodes : List Node) (n k : ℕ) (node : Node) → node ≡ get_or nodes n node → all_facts (set nodes n (record { facts = node.facts; names = k; flags = node.flags })) ≡ all_facts nodes
 set_facts [] n k node e = refl
 set_facts (x ∷ xs) zero k node e = ap (λ (v : Node). v.facts ∷ all_facts xs) e
 set_facts (x ∷ xs) (suc n) k node e = ap (λ (zs : List Facts). x.facts ∷ zs) (set_facts xs n k node e)
 
-pub set_counts : (nodes : List Node) (n k : ℕ) (r : Facts) → counts (set nodes n (record { facts = r; names = k })) ≡ set (counts nodes) n k
-set_counts [] n k r = refl
-set_counts (x ∷ xs) zero k r = refl
-set_counts (x ∷ xs) (suc n) k r = ap (λ (zs : List ℕ). x.names ∷ zs) (set_counts xs n k r)
+pub set_counts : (nodes : List Node) (n k : ℕ) (r : Facts) (f : WalkFlags) → counts (set nodes n (record { facts = r; names = k; flags = f })) ≡ set (counts nodes) n k
+set_counts [] n k r f = refl
+set_counts (x ∷ xs) zero k r f = refl
+set_counts (x ∷ xs) (suc n) k r f = ap (λ (zs : List ℕ). x.names ∷ zs) (set_counts xs n k r f)
 
 -- changed facts leave the counts
-pub same_counts : (nodes : List Node) (n : ℕ) (r : Facts) (node : Node) → node ≡ get_or nodes n node → counts (set nodes n (record { facts = r; names = node.names })) ≡ counts nodes
+pub same_counts : (nodes : List Node) (n : ℕ) (r : Facts) (node : Node) → node ≡ get_or nodes n node → counts (set nodes n (record { facts = r; names = node.names; flags = node.flags })) ≡ counts nodes
 same_counts [] n r node e = refl
 same_counts (x ∷ xs) zero r node e = ap (λ (v : Node). v.names ∷ counts xs) e
 same_counts (x ∷ xs) (suc n) r node e = ap (λ (zs : List ℕ). x.names ∷ zs) (same_counts xs n r node e)
@@ -115,12 +116,12 @@ module _ (low : ℕ) (told : List Facts) (cs : List ℕ) where
     ascending = λ k l p q lt a b. absurd (none_at_nil k p a);
   })
 
-  pub free_skip : (high : ℕ) (first : List Pending) → FreeTo low high told cs first → (At cs high 0 → ⊥) → FreeTo low (high + 1) told cs first
+  pub free_skip : (high : ℕ) (first : List Pending) → FreeTo low high told cs first → (low ≤ high → At cs high 0 → ⊥) → FreeTo low (high + 1) told cs first
   free_skip high first f none = record {
     each = λ p c. let (l, m, a, r) = f.each p c in (l, omega arith, a, r);
     every = λ n r l lt a b. elim (three n high) [
       | inl m ↦ f.every n r l m a b
-      | inr (inl e) ↦ absurd (none (subst (λ (k : ℕ). At cs k 0) e a))
+      | inr (inl e) ↦ absurd (none (subst (λ (k : ℕ). low ≤ k) e l) (subst (λ (k : ℕ). At cs k 0) e a))
       | inr (inr g) ↦ absurd (omega arith)
     ];
     ascending = f.ascending;
@@ -171,23 +172,18 @@ got items zs n o b e f l m =
     let m' : b.now ≡ get_or zs n b.now = subst (λ (p : Option (Bor Node)). IfSome p (λ x. x.now ≡ get_or zs n x.now)) f m in
     (subst (λ (ys : List Node). n < length ys) e (within_true n zs l'), subst (λ (ys : List Node). b.now ≡ get_or ys n b.now) e m')
 
+-- no node has the number that a look-up didn't find
+pub missing : (items zs : List Node) (n : ℕ) (o : Option (Bor Node)) → zs ≡ items → o ≡ None → is_some o ≡ ltb n (length zs) → length items ≤ n
+missing items zs n o e f l = subst (λ (ys : List Node). length ys ≤ n) e (no_less n (length zs) (sym l ∙ ap (λ (p : Option (Bor Node)). is_some p) f))
+  where
+    no_less : (j k : ℕ) → ltb j k ≡ false → k ≤ j
+    no_less j k e = grind (arith, nat_tests)
+
 pub some_value : (o : Option ℕ) (v w : ℕ) (P : Type 0) → o ≡ Some v → SomeIff o P w → P × (v ≡ w)
 some_value o v w P e s = subst (λ (p : Option ℕ). SomeIff p P w) e s
 
 pub copied : (o : Option (Bor ObjectId)) (b : Bor ObjectId) (s : Option ObjectId) → o ≡ Some b → option_copied o ≡ s → s ≡ Some b.now
 copied o b s e f = sym f ∙ ap option_copied e
-
-pub zero_found : (cs : List ℕ) (n : ℕ) (free : Bool) → n < length cs → ((count : ℕ) → At cs n count → free ≡ eqb count 0) → free ≡ true → At cs n 0
-zero_found cs n free l f e =
-    let (count, a) = at_within cs n l in
-    let z : count ≡ 0 = eqb_zero count (sym (f count a) ∙ e) in
-    subst (λ (k : ℕ). At cs n k) z a
-  where
-    eqb_zero : (k : ℕ) → eqb k 0 ≡ true → k ≡ 0
-    eqb_zero k e = grind (arith, nat_tests)
-
-pub not_zero : (cs : List ℕ) (n : ℕ) (free : Bool) → ((count : ℕ) → At cs n count → free ≡ eqb count 0) → free ≡ false → At cs n 0 → ⊥
-not_zero cs n free f e a = let z : free ≡ true = f 0 a in let w : ⊥ = cc in w
 
 -- ---- a name is counted off
 

@@ -9,7 +9,7 @@ use Rattle.gix_traverse_commit_known.specs.Painting.{ReachedFrom}
 use Rattle.gix_traverse_graph.specs.Standing.{NotIn}
 use Rattle.gix_traverse_graph.specs.declared.parents.Parents.{Parents}
 use Rattle.gix_traverse_graph.specs.declared.rows.Row.{Row}
-use Rattle.gix_traverse_topo.specs.Nodes.{all_facts, counts, EachCount, IsOnce, AreFacts, ParentsFrom}
+use Rattle.gix_traverse_topo.specs.Nodes.{all_facts, counts, hidden_in, EachCount, IsOnce, AreFacts, ParentsFrom}
 use Rattle.gix_traverse_topo.specs.Turns.{names_of}
 use Rattle.gix_traverse_topo.specs.declared.known.Known.{Known}
 use Rattle.gix_traverse_topo.specs.declared.known.Facts.{Facts}
@@ -19,7 +19,7 @@ pub record IsPainted (honest may_fail : Type 0) (rows : List Row) (table : Table
     (ends : List ObjectId) (known : Known) : Type 0 where
   pub once : IsOnce known.ids.keys
   pub all_read : length known.nodes.items ≡ length known.ids.keys
-  pub all_hidden : known.hidden ≡ length known.ids.keys
+  pub all_hidden : hidden_in known.nodes.items ≡ length known.ids.keys
   pub read : (n : ℕ) (x : ObjectId) (facts : Facts) → At known.ids.keys n x
       → At (all_facts known.nodes.items) n facts → AreFacts honest may_fail rows table x facts
   pub no_fault : (n : ℕ) (facts : Facts) → At (all_facts known.nodes.items) n facts
@@ -34,11 +34,11 @@ pub record Numbers (h : Commits ObjectId) (tips ends : List ObjectId) (parents :
   pub hs : List ObjectId
   pub xs : List ObjectId
   pub keys_are : known.ids.keys ≡ hs ++ xs
-  pub hidden_are : known.hidden ≡ length hs
+  pub hidden_are : hidden_in known.nodes.items ≡ length hs
   pub hides : (x : ObjectId) → Contains hs x ↔ ReachedFrom h ends x
   pub breadth : IsBreadthFirst (asked_parents parents h) tips
       (Reached (asked_parents parents h) (NotIn hs) tips) xs
-  pub counted : EachCount known.hidden known.ids.keys (counts known.nodes.items)
+  pub counted : EachCount (hidden_in known.nodes.items) known.ids.keys (counts known.nodes.items)
       (λ y count. count ≡ names_of same_id (asked_parents parents h) y xs)
 
 -- all that a walk comes to is read and numbered; those that the ends reach are read without a fault
@@ -48,7 +48,7 @@ pub record IsExplored (honest may_fail : Type 0) (rows : List Row) (table : Tabl
   pub all_read : length known.nodes.items ≡ length known.ids.keys
   pub read : (n : ℕ) (x : ObjectId) (facts : Facts) → At known.ids.keys n x
       → At (all_facts known.nodes.items) n facts → AreFacts honest may_fail rows table x facts
-  pub no_fault : (n : ℕ) (facts : Facts) → n < known.hidden
+  pub no_fault : (n : ℕ) (facts : Facts) → n < hidden_in known.nodes.items
       → At (all_facts known.nodes.items) n facts → facts.fault ≡ None
   pub numbers : (h : Commits ObjectId)
       → ParentsFrom 0 h known.ids.keys (all_facts known.nodes.items)

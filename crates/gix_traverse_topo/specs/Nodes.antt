@@ -1,15 +1,19 @@
 -- What a walk knows of commits, each by its number.
-use Rattle.std.specs.Prelude.{◌≡◌, ℕ, ◌<◌, ◌≤◌, pos, List, [], map, Contains, IsSome, IfSome, None, Some}
+use Rattle.std.specs.Prelude.{◌≡◌, ◌↔◌, Bool, true, ℕ, ◌<◌, ◌≤◌, pos, List, [], map, Contains, IsSome, IfSome, None, Some}
 use Rattle.gix_hash.specs.declared.object_id.ObjectId.{ObjectId}
 use Rattle.gix_object_lookup.specs.Table.{Table}
 use Rattle.gix_traverse_graph.specs.Commits.{Commits}
 use Rattle.gix_traverse_commit_known.specs.Fetching.{HasRowsGeneration}
 use Rattle.gix_traverse_graph.specs.Order.{At}
+use Rattle.gix_traverse_commit_known.specs.Nodes.{has}
 use Rattle.gix_traverse_commit_known.specs.Told.{AreTold}
+use Rattle.gix_traverse_commit_known.specs.declared.nodes.TheConstants.WalkFlags.{UNINTERESTING}
+use Rattle.gix_traverse_commit_known.specs.declared.nodes.WalkFlags.{WalkFlags}
 use Rattle.gix_traverse_graph.specs.declared.rows.Row.{Row}
 use Rattle.gix_traverse_commit_known.specs.declared.fetch.FetchError.{FetchError}
 use Rattle.gix_traverse_commit_known.specs.declared.fetch.FetchError.TheVariants as fetch
 use Rattle.gix_traverse_topo.specs.Faults.{IsFaultOf, error_of}
+use Rattle.gix_traverse_topo.specs.Turns.{times}
 use Rattle.gix_traverse_topo.specs.declared.known.Node.{Node}
 use Rattle.gix_traverse_topo.specs.declared.known.Facts.{Facts}
 
@@ -20,6 +24,24 @@ all_facts nodes = map (λ (node : Node). node.facts) nodes
 -- how often each is still named
 abbrev pub counts : List Node → List ℕ
 counts nodes = map (λ (node : Node). node.names) nodes
+
+-- the flags of each
+abbrev pub all_flags : List Node → List WalkFlags
+all_flags nodes = map (λ (node : Node). node.flags) nodes
+
+-- a commit of these flags is one that the ends reach
+abbrev pub is_hidden : WalkFlags → Bool
+is_hidden flags = has flags UNINTERESTING
+
+-- how many the ends reach
+abbrev pub hidden_in : List Node → ℕ
+hidden_in nodes = times is_hidden (all_flags nodes)
+
+-- those that the ends reach are the first: one is flagged so exactly if its number is below how
+-- many are
+abbrev pub AreFirst : List WalkFlags → Type 0
+AreFirst all = (n : ℕ) (flags : WalkFlags) → At all n flags
+    → (is_hidden flags ≡ true) ↔ (n < times is_hidden all)
 
 -- the facts are the commit's
 pub record Tells (rows : List Row) (g : Commits ObjectId) (id : ObjectId)

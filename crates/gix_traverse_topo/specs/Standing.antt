@@ -15,7 +15,7 @@ use Rattle.gix_traverse_graph.specs.declared.info.Info.{Info}
 use Rattle.gix_traverse_graph.specs.declared.parents.Parents.{Parents}
 use Rattle.gix_traverse_graph.specs.declared.rows.Row.{Row}
 use Rattle.gix_traverse_topo.specs.Faults.{IsFaultOf}
-use Rattle.gix_traverse_topo.specs.Nodes.{all_facts, counts, Tells, EachCount, IsOnce}
+use Rattle.gix_traverse_topo.specs.Nodes.{all_facts, counts, hidden_in, Tells, EachCount, IsOnce}
 use Rattle.gix_traverse_topo.specs.Turns.{total, names_of, named_so_far, Freed, Waits, Ranked}
 use Rattle.gix_traverse_topo.specs.Waiting.{pending_cmp, waiting, Joined}
 use Rattle.gix_traverse_topo.specs.declared.error.Error.{Error}
@@ -53,7 +53,8 @@ Ranks TopoOrder way tips time keys finished (ByDate heap) = ⊥
 -- what is still to be counted off, and what waits
 abbrev pub weight : Known → Ready → ℕ
 weight known ready =
-    total (λ count. count) (drop known.hidden (counts known.nodes.items)) + length (waiting ready)
+    total (λ count. count) (drop (hidden_in known.nodes.items) (counts known.nodes.items))
+    + length (waiting ready)
 
 -- a name of this commit is counted off, and it waits if that was the last
 pub data CountsOff (low : ℕ) (keys : List ObjectId) (told : List Facts) (cs : List ℕ)
@@ -75,15 +76,15 @@ NotCounted low keys cs id = (n : ℕ) × (low ≤ n) × At keys n id × ((length
 pub record GoesOff (way : ObjectId → List ObjectId) (h : Commits ObjectId)
     (before row hs xs : List ObjectId) (known : Known) : Type 0 where
   pub keys_are : known.ids.keys ≡ hs ++ xs
-  pub hidden_are : known.hidden ≡ length hs
+  pub hidden_are : hidden_in known.nodes.items ≡ length hs
   pub keys_once : IsOnce known.ids.keys
   pub all_read : length known.nodes.items ≡ length known.ids.keys
   pub room : (m : ℕ) (y : ObjectId) → At row m y → Contains xs y
       → named_so_far same_id way before row m y + 1 ≤ names_of same_id way y xs
-  pub timed : (n : ℕ) (y : ObjectId) (facts : Facts) → known.hidden ≤ n
+  pub timed : (n : ℕ) (y : ObjectId) (facts : Facts) → hidden_in known.nodes.items ≤ n
       → At known.ids.keys n y → Contains row y → At (all_facts known.nodes.items) n facts
       → facts.time ≡ (h y).time
-  pub counted : EachCount known.hidden known.ids.keys (counts known.nodes.items)
+  pub counted : EachCount (hidden_in known.nodes.items) known.ids.keys (counts known.nodes.items)
       (λ y count. count + named_so_far same_id way before row 0 y ≡ names_of same_id way y xs)
 
 -- the first m names of a row are counted off, and those that are free then wait too
@@ -104,18 +105,18 @@ pub record Standing (sorting : Sorting) (rows : List Row) (h : Commits ObjectId)
     (tips : List ObjectId) (parents : Parents) (hs xs finished : List ObjectId) (known : Known)
     (ready : Ready) : Type 0 where
   pub keys_are : known.ids.keys ≡ hs ++ xs
-  pub hidden_are : known.hidden ≡ length hs
+  pub hidden_are : hidden_in known.nodes.items ≡ length hs
   pub keys_once : IsOnce known.ids.keys
   pub all_read : length known.nodes.items ≡ length known.ids.keys
-  pub tells : (n : ℕ) (x : ObjectId) (facts : Facts) → known.hidden ≤ n
+  pub tells : (n : ℕ) (x : ObjectId) (facts : Facts) → hidden_in known.nodes.items ≤ n
       → At known.ids.keys n x → At (all_facts known.nodes.items) n facts
       → (Contains finished x → ⊥) → Tells rows h x facts
-  pub counted : EachCount known.hidden known.ids.keys (counts known.nodes.items)
+  pub counted : EachCount (hidden_in known.nodes.items) known.ids.keys (counts known.nodes.items)
       (λ y count. count + names_of same_id (asked_parents parents h) y finished
       ≡ names_of same_id (asked_parents parents h) y xs)
   pub numbered : (pending : Pending) → Contains (waiting ready) pending
-      → (x : ObjectId) × (known.hidden ≤ pending.number.0) × At known.ids.keys pending.number.0 x
-      × (pending.time ≡ (h x).time)
+      → (x : ObjectId) × (hidden_in known.nodes.items ≤ pending.number.0)
+      × At known.ids.keys pending.number.0 x × (pending.time ≡ (h x).time)
   pub waits : Waits same_id (asked_parents parents h) (Contains xs)
       (Comes sorting (asked_parents parents h) tips (λ x. (h x).time)) finished
       (ids_of known.ids.keys (waiting ready))
@@ -152,8 +153,8 @@ pub record Gives (number : ℕ) (along : Parents) (old : Known) (ready : Ready) 
   pub off : (way : ObjectId → List ObjectId) (h : Commits ObjectId) (before hs xs : List ObjectId)
       → GoesOff way h before (asked along facts.parents.items) hs xs old → IsOnce xs
       → (m : ℕ) × (length (asked along facts.parents.items) ≤ m)
-      × RowOff old.hidden old.ids.keys way h before (asked along facts.parents.items) xs ready m
-      (counts new.nodes.items) ready'
+      × RowOff (hidden_in old.nodes.items) old.ids.keys way h before
+      (asked along facts.parents.items) xs ready m (counts new.nodes.items) ready'
   pub others : (k : ℕ) (other : Facts) → (k ≡ number → ⊥)
       → At (all_facts new.nodes.items) k other → At (all_facts old.nodes.items) k other
   pub as_many : length new.nodes.items ≡ length old.nodes.items
@@ -167,7 +168,7 @@ pub record Steps (sorting : Sorting) (rows : List Row) (h : Commits ObjectId)
   pub number : ℕ
   pub facts : Facts
   pub new_one : Contains finished info.id → ⊥
-  pub behind : old.hidden ≤ number
+  pub behind : hidden_in old.nodes.items ≤ number
   pub id : At old.ids.keys number info.id
   pub at : At (all_facts old.nodes.items) number facts
   pub read : facts.fault ≡ None
@@ -224,7 +225,7 @@ pub record Stands (sorting : Sorting) (rows : List Row) (faults : ObjectId → O
   pub hides : (x : ObjectId)
       → Hides (as_read faults g) (topo_request tips ends parents all_accepted) x
       ↔ Hides g (topo_request tips ends parents all_accepted) x
-  pub faulty : (n : ℕ) (x : ObjectId) (facts : Facts) → known.hidden ≤ n
+  pub faulty : (n : ℕ) (x : ObjectId) (facts : Facts) → hidden_in known.nodes.items ≤ n
       → At known.ids.keys n x → At (all_facts known.nodes.items) n facts
       → (Contains finished x → ⊥) → facts.fault ≡ faults x
   pub finished_read : (x : ObjectId) → Contains finished x → faults x ≡ None

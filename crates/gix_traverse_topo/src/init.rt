@@ -14,7 +14,7 @@ ghost use Rattle.gix_traverse_topo.specs.Giving.{BeginsAs};
 ghost use Rattle.gix_traverse_topo.specs.declared.error.Error.TheVariants.{Memory};
 ghost use Rattle.gix_traverse_topo.specs.declared.init.Sorting.TheVariants.{DateOrder};
 
-use crate::known::Known;
+use crate::known::{Known, hide_all};
 use crate::ready::Ready;
 use crate::{Error, Topo};
 use gix_hash::ObjectId;
@@ -256,7 +256,7 @@ fn explore_ends<F: FindInto>(
     match known.first_fault() {
         Some(error) => Err(error),
         None => {
-            known.hidden = known.ids.len();
+            hide_all(&mut known.nodes);
             Ok(known)
         }
     }

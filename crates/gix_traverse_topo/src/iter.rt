@@ -7,7 +7,7 @@ ghost use Rattle.gix_traverse_graph.specs.Commits.{Commits, asked};
 ghost use Rattle.gix_traverse_graph.specs.Order.{At};
 ghost use Rattle.gix_traverse_graph.specs.declared.rows.Row.{Row};
 ghost use Rattle.gix_traverse_topo.specs.declared.init.Sorting.{Sorting};
-ghost use Rattle.gix_traverse_topo.specs.Nodes.{all_facts, counts, IsOnce};
+ghost use Rattle.gix_traverse_topo.specs.Nodes.{all_facts, counts, hidden_in, IsOnce};
 ghost use Rattle.gix_traverse_topo.specs.Asking.{lookups_of};
 ghost use Rattle.gix_traverse_topo.specs.Giving.{GivesNext, answers_left};
 ghost use Rattle.gix_traverse_topo.specs.Standing.{CountsOff, Gives, GoesOff, IsTurnOf, NotCounted, RowOff, StepsOn, weight};
@@ -40,14 +40,15 @@ pub struct Topo<P> {
 // last, the commit waits.
 fn count_off(known: &mut Known, ready: &mut Ready, id: &ObjectId) -> Result<(), Error>
     ensures ids { known.new.ids ≡ known.old.ids }
-    ensures hidden { known.new.hidden ≡ known.old.hidden }
+    ensures hidden { hidden_in known.new.nodes.items ≡ hidden_in known.old.nodes.items }
     ensures as_many { length known.new.nodes.items ≡ length known.old.nodes.items }
     ensures all_facts { all_facts known.new.nodes.items ≡ all_facts known.old.nodes.items }
-    ensures counted { OnOk result (CountsOff known.old.hidden known.old.ids.keys
+    ensures counted { OnOk result (CountsOff (hidden_in known.old.nodes.items) known.old.ids.keys
         (all_facts known.old.nodes.items) (counts known.old.nodes.items) ready.old id.now
         (counts known.new.nodes.items) ready.new) }
     ensures refused { IfErr result (λ error. (error ≡ Memory)
-        ⊎ NotCounted known.old.hidden known.old.ids.keys (counts known.old.nodes.items) id.now) }
+        ⊎ NotCounted (hidden_in known.old.nodes.items) known.old.ids.keys
+        (counts known.old.nodes.items) id.now) }
     ensures falls { OnOk result (weight known.new ready.new ≤ weight known.old ready.old) }
 {
     let Some(number) = known.number_of(id) else {
@@ -68,7 +69,7 @@ fn count_row_off(
     along: Parents,
 ) -> Result<(), Error>
     ensures ids { known.new.ids ≡ known.old.ids }
-    ensures hidden { known.new.hidden ≡ known.old.hidden }
+    ensures hidden { hidden_in known.new.nodes.items ≡ hidden_in known.old.nodes.items }
     ensures as_many { length known.new.nodes.items ≡ length known.old.nodes.items }
     ensures all_facts { all_facts known.new.nodes.items ≡ all_facts known.old.nodes.items }
     ensures off { (way : ObjectId → List ObjectId) (h : Commits ObjectId)
@@ -76,7 +77,7 @@ fn count_row_off(
         → At (all_facts known.old.nodes.items) number.0 facts
         → GoesOff way h before (asked along facts.parents.items) hs xs known.old → IsOnce xs
         → OnOk result ((m : ℕ) × (length (asked along facts.parents.items) ≤ m)
-        × RowOff known.old.hidden known.old.ids.keys way h before
+        × RowOff (hidden_in known.old.nodes.items) known.old.ids.keys way h before
         (asked along facts.parents.items) xs ready.old m (counts known.new.nodes.items)
         ready.new) }
     ensures refused { IfErr result (λ error. (way : ObjectId → List ObjectId) (h : Commits ObjectId)
@@ -97,7 +98,7 @@ fn count_row_off(
 // Gives the commit of this number.
 fn give(known: &mut Known, ready: &mut Ready, number: Number, along: Parents) -> Result<Info, Error>
     ensures ids { known.new.ids ≡ known.old.ids }
-    ensures hidden { known.new.hidden ≡ known.old.hidden }
+    ensures hidden { hidden_in known.new.nodes.items ≡ hidden_in known.old.nodes.items }
     ensures gives { IfOk result (Gives number.0 along known.old ready.old known.new ready.new) }
     ensures refused { IfErr result (λ error. (way : ObjectId → List ObjectId) (h : Commits ObjectId)
         (before hs xs : List ObjectId) (facts : Facts)
@@ -137,7 +138,8 @@ impl<P: Accept + Drop> Topo<P> {
     // The commit whose turn it is, whether it is accepted or not.
     fn turn(&mut self) -> Option<Result<Info, Error>>
         ensures ids { self.new.known.ids ≡ self.old.known.ids }
-        ensures hidden { self.new.known.hidden ≡ self.old.known.hidden }
+        ensures hidden { hidden_in self.new.known.nodes.items
+            ≡ hidden_in self.old.known.nodes.items }
         ensures parents { self.new.parents ≡ self.old.parents }
         ensures predicate { self.new.predicate ≡ self.old.predicate }
         ensures lookups { self.new.lookups ≡ self.old.lookups }

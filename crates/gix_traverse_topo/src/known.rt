@@ -1,6 +1,6 @@
 //! `Known`: numbers and reads commits, or their faults; counts children not yet given; finds commits without any.
 
-ghost use Rattle.std.specs.Prelude.{◌≡◌, ◌+◌, ◌^◌, ◌<◌, ◌≤◌, ◌==◌, ◌⊎◌, ℕ, [], length, OnOk, IfOk, IfErr, IfSome, IfNone, Some, None, slice_get, slice_set};
+ghost use Rattle.std.specs.Prelude.{◌≡◌, ◌↔◌, true, ◌+◌, ◌^◌, ◌<◌, ◌≤◌, ◌==◌, ◌⊎◌, ℕ, [], length, OnOk, IfOk, IfErr, IfSome, IfNone, Some, None, slice_get, slice_set};
 ghost use Rattle.indexmap.specs.IndexSet.{insert_key};
 ghost use Rattle.gix_hash.specs.declared.object_id.ObjectId.{ObjectId};
 ghost use Rattle.gix_traverse_graph.specs.Commits.{asked};
@@ -10,19 +10,21 @@ ghost use Rattle.gix_traverse_graph.specs.Numbered.{same_id};
 ghost use Rattle.gix_traverse_graph.specs.Order.{At};
 ghost use Rattle.gix_traverse_graph.specs.Rows.{AllHeld, Holds};
 ghost use Rattle.gix_traverse_commit_known.specs.Told.{rows_of};
-ghost use Rattle.gix_traverse_topo.specs.Nodes.{all_facts, counts, IsBlank, AreFacts, NamesAre, IsOnce};
+ghost use Rattle.gix_traverse_commit_known.specs.declared.nodes.WalkFlags.{WalkFlags};
+ghost use Rattle.gix_traverse_topo.specs.Nodes.{all_facts, all_flags, counts, hidden_in, is_hidden, AreFirst, IsBlank, AreFacts, NamesAre, IsOnce};
 ghost use Rattle.gix_traverse_topo.specs.Turns.{times};
 ghost use Rattle.gix_traverse_topo.specs.Waiting.{IsFree};
-ghost use Rattle.gix_traverse_topo.specs.Walking.{CountsNew, Meets, Names, Visits, WalksAll};
 ghost use Rattle.gix_traverse_topo.specs.declared.error.Error.TheVariants.{Memory, MissingStateUnexpected, MissingIndegreeUnexpected};
 ghost use Rattle.gix_traverse_topo.specs.declared.known.Node.{Node};
 ghost use Rattle.gix_traverse_topo.specs.declared.known.Facts.{Facts};
 
 use crate::Error;
 use crate::ready::Pending;
+use bitflags::Flags;
 use gix_hash::ObjectId;
 use gix_object_lookup::FindInto;
 use gix_traverse_commit_known::fetch::{FetchError, Source, asked_of};
+use gix_traverse_commit_known::nodes::WalkFlags;
 use gix_traverse_graph::{Info, ParentIds, Parents};
 use indexmap::IndexSet;
 use std::alloc::Global;
@@ -52,6 +54,8 @@ pub(crate) struct Node {
     pub facts: Facts,
     /// How often it is named as a parent by the commits that are still to be given.
     pub names: usize,
+    /// `UNINTERESTING` if the ends reach it, and no other.
+    pub flags: WalkFlags,
 }
 
 /// The commits that a walk knows: first those that the ends reach, then those that the tips reach
@@ -62,8 +66,7 @@ pub(crate) struct Known {
     pub ids: IndexSet<ObjectId>,
     /// What is known of each, by its number.
     pub nodes: Vec<Node>,
-    /// How many the ends reach.
-    pub hidden: usize,
+    ghost hidden_first: { AreFirst (all_flags nodes.items) },
 }
 
 // What fills the place of a commit until it is read.
@@ -120,6 +123,7 @@ fn read<F: FindInto>(source: &mut Source<F>, id: &ObjectId) -> Result<Facts, Err
 // Counts one more name of a commit.
 fn add_name(nodes: &mut Vec<Node>, number: Number) -> Result<(), Error>
     ensures all_facts { all_facts nodes.new.items ≡ all_facts nodes.old.items }
+    ensures flags { all_flags nodes.new.items ≡ all_flags nodes.old.items }
     ensures added { OnOk result ((count : ℕ) × At (counts nodes.old.items) number.0 count
         × (counts nodes.new.items ≡ slice_set (counts nodes.old.items) number.0 (count + 1))) }
     ensures refused { IfErr result (λ error. (error ≡ Memory)
@@ -137,6 +141,7 @@ fn add_name(nodes: &mut Vec<Node>, number: Number) -> Result<(), Error>
 fn put_facts(nodes: &mut Vec<Node>, number: Number, facts: Facts) -> Result<(), Error>
     ensures as_many { length nodes.new.items ≡ length nodes.old.items }
     ensures counts { counts nodes.new.items ≡ counts nodes.old.items }
+    ensures flags { all_flags nodes.new.items ≡ all_flags nodes.old.items }
     ensures put { OnOk result (At (all_facts nodes.new.items) number.0 facts) }
     ensures others { (k : ℕ) (other : Facts) → (k ≡ number.0 → ⊥)
         → At (all_facts nodes.old.items) k other → At (all_facts nodes.new.items) k other }
@@ -153,6 +158,7 @@ fn put_facts(nodes: &mut Vec<Node>, number: Number, facts: Facts) -> Result<(), 
 pub(crate) fn take_name(nodes: &mut Vec<Node>, number: Number) -> Result<bool, Error>
     ensures as_many { length nodes.new.items ≡ length nodes.old.items }
     ensures all_facts { all_facts nodes.new.items ≡ all_facts nodes.old.items }
+    ensures flags { all_flags nodes.new.items ≡ all_flags nodes.old.items }
     ensures taken { IfOk result (λ last. (count : ℕ)
         × At (counts nodes.old.items) number.0 (count + 1)
         × (counts nodes.new.items ≡ slice_set (counts nodes.old.items) number.0 count)
@@ -172,6 +178,17 @@ pub(crate) fn take_name(nodes: &mut Vec<Node>, number: Number) -> Result<bool, E
     Ok(left == 0)
 }
 
+/// Flags all commits as uninteresting: the ends reach them.
+pub(crate) fn hide_all(nodes: &mut Vec<Node>)
+    ensures all_facts { all_facts nodes.new.items ≡ all_facts nodes.old.items }
+    ensures flags { (n : ℕ) (flags : WalkFlags) → At (all_flags nodes.new.items) n flags
+        → is_hidden flags ≡ true }
+{
+    'places: for place in 0..nodes.as_slice().len() {
+        nodes[place].flags = nodes[place].flags.as_hidden();
+    }
+}
+
 // The parents, which are handed out.
 fn take_parents(facts: &mut Facts, alloc: Global) -> ParentIds
     ensures { result.items ≡ facts.old.parents.items }
@@ -180,16 +197,16 @@ fn take_parents(facts: &mut Facts, alloc: Global) -> ParentIds
 }
 
 impl Known {
+    ghost use Rattle.gix_traverse_topo.specs.Walking.{CountsNew, Meets, Names, Visits, WalksAll};
+
     /// No commits.
     pub fn new(alloc: Global) -> Known
         ensures ids { result.ids.keys ≡ [] }
         ensures nodes { result.nodes.items ≡ [] }
-        ensures hidden { result.hidden ≡ 0 }
     {
         Known {
             ids: IndexSet::new(alloc),
             nodes: Vec::new(alloc),
-            hidden: 0,
         }
     }
 
@@ -208,7 +225,7 @@ impl Known {
 
     // The number of a commit, a new one if it has none.
     fn number(&mut self, id: &ObjectId) -> Result<Number, Error>
-        ensures hidden { self.new.hidden ≡ self.old.hidden }
+        ensures hidden { hidden_in self.new.nodes.items ≡ hidden_in self.old.nodes.items }
         ensures keys { OnOk result
             (self.new.ids.keys ≡ insert_key same_id self.old.ids.keys id.now) }
         ensures number { IfOk result (λ number. At self.new.ids.keys number.0 id.now) }
@@ -229,6 +246,7 @@ impl Known {
             self.nodes.push(Node {
                 facts: unread_facts(alloc),
                 names: 0,
+                flags: WalkFlags::empty(),
             })?;
         }
         Ok(Number(place))
@@ -236,7 +254,7 @@ impl Known {
 
     // Numbers the commits that have no number yet.
     fn meet(&mut self, met: &[ObjectId]) -> Result<(), Error>
-        ensures hidden { self.new.hidden ≡ self.old.hidden }
+        ensures hidden { hidden_in self.new.nodes.items ≡ hidden_in self.old.nodes.items }
         ensures meets { OnOk result (Meets met.now self.old.ids.keys self.old.nodes.items
             self.new.ids.keys self.new.nodes.items) }
         ensures names { OnOk result (Names (λ _. 0) self.old.ids.keys self.old.nodes.items
@@ -251,7 +269,7 @@ impl Known {
 
     // Numbers the parents that have no number yet, and counts a name of each.
     fn name_all(&mut self, parents: &[ObjectId]) -> Result<(), Error>
-        ensures hidden { self.new.hidden ≡ self.old.hidden }
+        ensures hidden { hidden_in self.new.nodes.items ≡ hidden_in self.old.nodes.items }
         ensures meets { OnOk result (Meets parents.now self.old.ids.keys self.old.nodes.items
             self.new.ids.keys self.new.nodes.items) }
         ensures names { OnOk result (Names (λ y. times (same_id y) parents.now) self.old.ids.keys
@@ -274,7 +292,7 @@ impl Known {
         id: &ObjectId,
         along: Parents,
     ) -> Result<(), Error>
-        ensures hidden { self.new.hidden ≡ self.old.hidden }
+        ensures hidden { hidden_in self.new.nodes.items ≡ hidden_in self.old.nodes.items }
         ensures reads { LooksUpAtMost 1 source.old source.new }
         ensures one { CountsOne (rows_of source.old.rows) id.now source.old.lookups
             source.new.lookups }
@@ -303,7 +321,7 @@ impl Known {
         tips: &[ObjectId],
         along: Parents,
     ) -> Result<(), Error>
-        ensures hidden { self.new.hidden ≡ self.old.hidden }
+        ensures hidden { hidden_in self.new.nodes.items ≡ hidden_in self.old.nodes.items }
         ensures same { ReadsSame source.old source.new }
         ensures walks { OnOk result (WalksAll (F.is_honest source.old.objects)
             (F.may_fail source.old.objects) (rows_of source.old.rows) (F.table source.old.objects)
@@ -338,18 +356,29 @@ impl Known {
         None
     }
 
+    // Returns whether the ends reach this commit.
+    fn is_hidden(&self, number: Number) -> bool
+        ensures { (result ≡ true) ↔ (number.0 < hidden_in self.now.nodes.items) }
+    {
+        match self.nodes.get(number.0) {
+            Some(node) => node.flags.contains(WalkFlags::UNINTERESTING),
+            None => false,
+        }
+    }
+
     /// The number of a commit, unless it has none or the ends reach it.
     pub fn number_of(&self, id: &ObjectId) -> Option<Number>
-        ensures found { IfSome result (λ number. (self.now.hidden ≤ number.0)
+        ensures found { IfSome result (λ number. (hidden_in self.now.nodes.items ≤ number.0)
             × At self.now.ids.keys number.0 id.now) }
         ensures none { IfNone result (IsOnce self.now.ids.keys → (n : ℕ)
-            → At self.now.ids.keys n id.now → n < self.now.hidden) }
+            → At self.now.ids.keys n id.now → n < hidden_in self.now.nodes.items) }
     {
         let (place, _) = self.ids.get_full(id)?;
-        if self.hidden <= place {
-            Some(Number(place))
-        } else {
+        let number = Number(place);
+        if self.is_hidden(number) {
             None
+        } else {
+            Some(number)
         }
     }
 
@@ -379,13 +408,13 @@ impl Known {
         })
     }
 
-    // Returns whether no commit that is still to be given names this one.
-    fn has_no_child(&self, number: Number) -> bool
-        ensures { (count : ℕ) → At (counts self.now.nodes.items) number.0 count
-            → result ≡ (count == 0) }
+    // Returns whether the ends don't reach this commit, and none that is still to be given names it.
+    fn is_free(&self, number: Number) -> bool
+        ensures { (result ≡ true) ↔ ((hidden_in self.now.nodes.items ≤ number.0)
+            × At (counts self.now.nodes.items) number.0 0) }
     {
         match self.nodes.get(number.0) {
-            Some(node) => node.names == 0,
+            Some(node) => node.names == 0 && !self.is_hidden(number),
             None => false,
         }
     }
@@ -393,14 +422,15 @@ impl Known {
     /// Those that the tips reach and none names, in the order of their numbers. Returns `Memory` if
     /// no memory is left.
     pub fn without_children(&self, alloc: Global) -> Result<Vec<Pending>, Error>
-        ensures free { IfOk result (λ first. IsFree self.now.hidden (all_facts self.now.nodes.items)
-            (counts self.now.nodes.items) first.items) }
+        ensures free { IfOk result (λ first. IsFree (hidden_in self.now.nodes.items)
+            (all_facts self.now.nodes.items) (counts self.now.nodes.items) first.items) }
         ensures refused { IfErr result (λ error. error ≡ Memory) }
     {
         let mut first: Vec<Pending> = Vec::new(alloc);
-        'commits: for place in self.hidden..self.nodes.as_slice().len() {
-            if self.has_no_child(Number(place)) {
-                if let Some(pending) = self.pending(Number(place)) {
+        'commits: for place in 0..self.nodes.as_slice().len() {
+            let number = Number(place);
+            if self.is_free(number) {
+                if let Some(pending) = self.pending(number) {
                     first.push(pending)?;
                 }
             }
@@ -429,7 +459,7 @@ impl Known {
     pub fn take(&mut self, number: Number) -> Result<Info, Error>
         ensures as_many { length self.new.nodes.items ≡ length self.old.nodes.items }
         ensures ids { self.new.ids ≡ self.old.ids }
-        ensures hidden { self.new.hidden ≡ self.old.hidden }
+        ensures hidden { hidden_in self.new.nodes.items ≡ hidden_in self.old.nodes.items }
         ensures counts { counts self.new.nodes.items ≡ counts self.old.nodes.items }
         ensures others { (k : ℕ) (facts : Facts) → (k ≡ number.0 → ⊥)
             → At (all_facts self.new.nodes.items) k facts

@@ -1,4 +1,4 @@
-use Rattle.std.proofs.Common.{◌∙◌, sym, ap, refl, subst, inl, inr, List, [], take, get_or, false}
+use Rattle.std.proofs.Common.{◌∙◌, sym, ap, subst, inl, inr, List, [], take, get_or}
 use Rattle.std.specs.Prelude.{Contains}
 use Rattle.std.proofs.lemmas.Option.{slice_get-get_or}
 use Rattle.gix_hash.specs.declared.object_id.ObjectId.{ObjectId}

@@ -12,6 +12,9 @@ use Rattle.gix_traverse_topo.specs.Walking.{Walking}
 use Rattle.gix_traverse_topo.specs.declared.known.Known.{Known}
 use Rattle.gix_traverse_topo.specs.declared.known.Node.{Node}
 use Rattle.gix_traverse_topo.proofs.Exploring.{painted, stops, as_many}
+use Rattle.gix_traverse_topo.proofs.Flagged.{first_all, hidden_all}
+use Rattle.gix_traverse_topo.proofs.Meeting.{length_map}
+use Rattle.gix_traverse_topo.specs.Nodes.{all_flags}
 use Rattle.gix_traverse_topo.proofs.init.explore_ends.Goals as goal
 
 module _ {honest may_fail : Type 0} {rows : List Row} {table : Table} {ends keys : List ObjectId} {nodes : List Node} {high : ℕ} (known : Known) where
@@ -32,7 +35,11 @@ pub returns-in-None-clause-painted : goal.returns-in-None-clause-painted
 returns-in-None-clause-painted g c =
     let (high, full, walking) = c.in_ok-walk.ensures.walks in
     let w = from_none c.new-known.result c.new-known.ensures.ids c.new-known.ensures.nodes walking in
-    painted _ _ _ _ c.args.ends.now _ _ high w full (record { ids = c.walk.new.self.ids; nodes = c.walk.new.self.nodes; hidden = c.len.result }) refl refl c.len.ensures.len c.in-None.ensures.none
+    let many = as_many _ _ _ _ c.args.ends.now _ _ high w full in
+    let same = length_map (λ (v : Node). v.facts) c.walk.new.self.nodes.items in
+    let hidden = hidden_all c.hide_all.new.nodes.items c.hide_all.ensures.flags in
+    painted _ _ _ _ c.args.ends.now _ _ high w full _ refl c.hide_all.ensures.all_facts
+    (hidden ∙ sym (length_map (λ (v : Node). v.facts) c.hide_all.new.nodes.items) ∙ ap length c.hide_all.ensures.all_facts ∙ same ∙ many) c.in-None.ensures.none
 
 pub returns-in-None-clause-counted : goal.returns-in-None-clause-counted
 returns-in-None-clause-counted g c =
@@ -68,3 +75,6 @@ pub returns-in_err-walk-clause-refused : goal.returns-in_err-walk-clause-refused
 returns-in_err-walk-clause-refused g c =
     let p = err_from_is_err_and c.from_residual.result c.from_residual.ensures.1 in
     rw (p.1, p.2) (inl (c.in_err-walk.ensures.refused (ap length c.new-known.ensures.nodes ∙ sym (ap length c.new-known.ensures.ids))))
+
+pub invariant_of-known : goal.invariant_of-known
+invariant_of-known g c = record { hidden_first = first_all (all_flags c.hide_all.new.nodes.items) c.hide_all.ensures.flags }

@@ -3,7 +3,7 @@ use Rattle.std.proofs.lemmas.Result.{err_from_is_err_and}
 use Rattle.gix_hash.specs.declared.object_id.ObjectId.{ObjectId}
 use Rattle.gix_traverse_graph.specs.Commits.{asked}
 use Rattle.gix_traverse_graph.specs.Order.{At}
-use Rattle.gix_traverse_topo.specs.Nodes.{all_facts, counts}
+use Rattle.gix_traverse_topo.specs.Nodes.{all_facts, counts, hidden_in}
 use Rattle.gix_traverse_topo.specs.Standing.{weight, CountsOff}
 use Rattle.gix_traverse_topo.specs.declared.known.Known.{Known}
 use Rattle.gix_traverse_topo.specs.declared.known.Facts.{Facts}
@@ -29,10 +29,10 @@ row-preserved c =
     let cs : List ℕ = counts c.row.known.nodes.items in
     let cs' : List ℕ = counts c.count_off.new.known.nodes.items in
     let y : ObjectId = c.in-Some.parent in
-    let step : CountsOff old.hidden old.ids.keys (all_facts old.nodes.items) cs c.row.ready y cs' c.count_off.new.ready =
+    let step : CountsOff (hidden_in old.nodes.items) old.ids.keys (all_facts old.nodes.items) cs c.row.ready y cs' c.count_off.new.ready =
     subst (λ (lo : ℕ). CountsOff lo old.ids.keys (all_facts old.nodes.items) cs c.row.ready y cs' c.count_off.new.ready) inv.hidden
-    (subst (λ (ks : List ObjectId). CountsOff c.row.known.hidden ks (all_facts old.nodes.items) cs c.row.ready y cs' c.count_off.new.ready) (ap (λ (i : _). i.keys) inv.ids)
-    (subst (λ (rs : List Facts). CountsOff c.row.known.hidden c.row.known.ids.keys rs cs c.row.ready y cs' c.count_off.new.ready) inv.told c.in_ok-count_off.ensures.counted)) in
+    (subst (λ (ks : List ObjectId). CountsOff (hidden_in c.row.known.nodes.items) ks (all_facts old.nodes.items) cs c.row.ready y cs' c.count_off.new.ready) (ap (λ (i : _). i.keys) inv.ids)
+    (subst (λ (rs : List Facts). CountsOff (hidden_in c.row.known.nodes.items) c.row.known.ids.keys rs cs c.row.ready y cs' c.count_off.new.ready) inv.told c.in_ok-count_off.ensures.counted)) in
     record {
       ids = c.in_ok-count_off.ensures.ids ∙ inv.ids;
       hidden = c.in_ok-count_off.ensures.hidden ∙ inv.hidden;
@@ -61,5 +61,5 @@ returns-in_err-count_off-clause-refused c =
       | inr none ↦ absurd (
           let here = sym (c.in-Some.ensures.parent facts (subst (λ (zs : List Facts). At zs c.args.number.0 facts) (sym inv.told) at)) in
           still_counted way h before (asked c.args.along facts.parents.items) hs xs old c.args.ready.now goes once c.row.index y cs c.row.ready here (many_counts c.row.known.nodes.items old.nodes.items inv.told ∙ goes.all_read) (inv.off way h before hs xs facts at goes once)
-          (subst (λ (lo : ℕ). NotCounted lo old.ids.keys cs y) inv.hidden (subst (λ (ks : List ObjectId). NotCounted c.row.known.hidden ks cs y) (ap (λ (i : _). i.keys) inv.ids) none)))
+          (subst (λ (lo : ℕ). NotCounted lo old.ids.keys cs y) inv.hidden (subst (λ (ks : List ObjectId). NotCounted (hidden_in c.row.known.nodes.items) ks cs y) (ap (λ (i : _). i.keys) inv.ids) none)))
     ])

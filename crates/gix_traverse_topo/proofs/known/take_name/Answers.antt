@@ -1,7 +1,9 @@
-use Rattle.std.proofs.Common.{◌≡◌, ℕ, ◌+◌, ◌-◌, ◌≤◌, refl, subst, arith}
+use Rattle.std.proofs.Common.{◌≡◌, ℕ, ◌+◌, ◌-◌, ◌≤◌, ap, refl, subst, arith}
 use Rattle.gix_traverse_graph.specs.Order.{At}
 use Rattle.gix_traverse_topo.specs.Nodes.{counts}
 use Rattle.gix_traverse_topo.proofs.Updates.{set_facts, set_counts, count_at, got, some_value}
+use Rattle.std.proofs.Math.Seq.{map-set_same}
+use Rattle.gix_traverse_topo.specs.declared.known.Node.{Node}
 use Rattle.gix_traverse_topo.proofs.known.take_name.Goals as goal
 
 pub returns-clause-all_facts : goal.returns-clause-all_facts
@@ -15,6 +17,9 @@ returns-clause-taken c =
     let same : c.in_ok-names.field-0.now.names ≡ c.in_ok-left.left + 1 = omega (arith, less.0, less.1) in (
       c.in_ok-left.left,
       subst (λ (k : ℕ). At (counts c.args.nodes.now.items) c.args.number.0 k) same at,
-      set_counts c.args.nodes.now.items c.args.number.0 c.in_ok-left.left c.index_mut.result.now.facts,
+      set_counts c.args.nodes.now.items c.args.number.0 c.in_ok-left.left c.index_mut.result.now.facts c.index_mut.result.now.flags,
       refl,
     )
+
+pub returns-clause-flags : goal.returns-clause-flags
+returns-clause-flags c = map-set_same (λ (v : Node). v.flags) c.args.nodes.now.items c.args.number.0 (record { facts = c.index_mut.result.now.facts; names = c.in_ok-left.left; flags = c.index_mut.result.now.flags }) c.index_mut.result.now (ap (λ (v : Node). v.flags) c.index_mut.ensures.value)

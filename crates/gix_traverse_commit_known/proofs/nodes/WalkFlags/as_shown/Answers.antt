@@ -1,4 +1,4 @@
-use Rattle.std.proofs.Common.{◌≡◌, ◌==◌, ◌∙◌, ℕ, ap, refl}
+use Rattle.std.proofs.Common.{◌==◌, ◌∙◌, ℕ, ap, refl}
 use Rattle.std.specs.Int.RustNames.{bit_and}
 use Rattle.gix_traverse_commit_known.proofs.FlagFacts.{gone, stays}
 use Rattle.gix_traverse_commit_known.proofs.nodes.WalkFlags.as_shown.Goals as goal

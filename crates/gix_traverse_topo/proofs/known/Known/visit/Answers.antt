@@ -11,6 +11,7 @@ use Rattle.gix_traverse_topo.specs.Walking.{Meets, Names}
 use Rattle.gix_traverse_topo.specs.declared.known.Node.{Node}
 use Rattle.gix_traverse_topo.proofs.Walking.{meets_longer, names_put}
 use Rattle.gix_traverse_topo.proofs.Meeting.{row_met, met_held, asked_held}
+use Rattle.gix_traverse_topo.proofs.Flagged.{first_same, hidden_same}
 use Rattle.gix_traverse_topo.proofs.known.Known.visit.Goals as goal
 
 pub returns-clause-held : goal.returns-clause-held
@@ -47,3 +48,12 @@ returns-in_err-put_facts-clause-refused g c =
     let p = err_from_is_err_and c.from_residual-in_err-put_facts.result c.from_residual-in_err-put_facts.ensures.1 in
     let longer = meets_longer c.asked_of.result.now c.args.self.now.ids.keys c.args.self.now.nodes.items c.name_all.new.self.ids.keys c.name_all.new.self.nodes.items c.in_ok-name_all.ensures.meets in
     rw (p.1, p.2) (λ many less. absurd (let out = c.in_err-put_facts.ensures.refused in omega arith))
+
+pub returns-clause-hidden : goal.returns-clause-hidden
+returns-clause-hidden g c = hidden_same c.name_all.new.self.nodes.items c.put_facts.new.nodes.items c.put_facts.ensures.flags ∙ c.name_all.ensures.hidden
+
+pub returns-in_err-put_facts-clause-hidden : goal.returns-in_err-put_facts-clause-hidden
+returns-in_err-put_facts-clause-hidden g c = hidden_same c.name_all.new.self.nodes.items c.put_facts.new.nodes.items c.put_facts.ensures.flags ∙ c.name_all.ensures.hidden
+
+pub invariant_of-self : goal.invariant_of-self
+invariant_of-self g c = record { hidden_first = first_same c.name_all.new.self.nodes.items c.put_facts.new.nodes.items c.put_facts.ensures.flags c.name_all.new.self.hidden_first }

@@ -5,11 +5,12 @@ use Rattle.gix_traverse_topo.proofs.Lookups.{IsCountedFrom}
 use Rattle.gix_hash.specs.declared.object_id.ObjectId.{ObjectId}
 use Rattle.gix_traverse_commit_known.specs.Told.{rows_of}
 use Rattle.gix_traverse_topo.specs.Walking.{Walking}
+use Rattle.gix_traverse_topo.specs.Nodes.{hidden_in}
 use Rattle.gix_traverse_topo.proofs.known.Known.walk.Given as goal
 
 abbrev pub invariant-walk : goal.invariant-walk
 invariant-walk g l = record {
-  hidden : l.self.hidden ≡ l.fn.self.hidden;
+  hidden : hidden_in l.self.nodes.items ≡ hidden_in l.fn.self.nodes.items;
   objects : l.source.objects ≡ l.fn.source.objects;
   rows : l.source.rows ≡ l.fn.source.rows;
   walking : Walking (g.F.Lookup.is_honest l.fn.source.objects) (g.F.Lookup.may_fail l.fn.source.objects) (rows_of l.fn.source.rows) (g.F.Lookup.table l.fn.source.objects) l.along l.fn.tips l.fn.self.ids.keys l.fn.self.nodes.items l.place l.self.ids.keys l.self.nodes.items;
