@@ -11,7 +11,7 @@ import tempfile
 import time
 import unittest
 from contextlib import redirect_stderr, redirect_stdout, suppress
-from typing import Any, Callable, Dict, List, Optional, Sequence
+from typing import Any, Callable, Dict, Optional, Sequence
 from unittest import mock
 
 sys.path.insert(0, os.path.dirname(os.path.dirname(os.path.abspath(__file__))))
