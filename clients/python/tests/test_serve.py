@@ -534,21 +534,23 @@ class WithTheEngine(Served):
         self.start()
         with connect(self.address, actor=ADA) as repo:
             repo.commit("Begin", name="main").put("count", b"0").run()
-        over = threading.Event()
+        done: List[int] = []
+
+        def kill() -> None:
+            # Not before something was done since the last time, so that there is an end.
+            for count in range(4, 76, 6):
+                wait_until(lambda: len(done) >= count)
+                self.kill_engine()
 
         def add(number: int) -> None:
             if not number:
-                while not over.wait(0.3):
-                    self.kill_engine()
+                kill()
                 return
             with connect(self.address, actor=protocol.Actor(f"w{number}", "", 5), wait=PATIENCE) as repo:
                 for it in range(20):
                     repo.update("main", lambda edit: edit.put("count", b"%d" % (1 + int(repo.read("count", edit.base or "")))), f"{it}")
-            done.append(number)
-            if len(done) == 4:
-                over.set()
+                    done.append(number)
 
-        done: List[int] = []
         self.together(5, add)
         with connect(self.address) as repo:
             self.assertEqual(repo.read("count", "main"), b"80")

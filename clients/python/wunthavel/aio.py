@@ -7,7 +7,6 @@ Its calls have the names and arguments of `Repo`'s, and are awaited; any number 
 """
 import asyncio
 import inspect
-import time
 from collections import deque
 from types import TracebackType
 from typing import Any, AsyncIterator, Awaitable, Callable, Deque, Iterable, List, Mapping, Optional, Tuple, Type, TypeVar, Union
@@ -18,7 +17,6 @@ from .errors import EngineDied, Fault, NotExpected, ProtocolError, Refused, Take
 from .plans import AsOf, Change, Entry, Line, Plan, Texts
 from .protocol import ANY, NEW, Command, Commit, Content, Expected, File, Ids, LogEntry, Names
 from .repo import WINDOW, Who, actor_of
-from .served import LONGEST_WAIT
 from .texts import Text
 from .transport import PIPE, Address, Socket
 from .wire import Parts, Reply, reply
@@ -343,16 +341,8 @@ class AsyncRepo:
 
     async def wait(self, name: Text = "HEAD", known: Optional[str] = None, timeout: Optional[float] = None) -> Optional[str]:
         """Waits until a branch isn't at a commit any more, or so many seconds have passed, and returns what it is at then."""
-        full = plans.branch(name)
-        end = None if timeout is None else time.monotonic() + timeout
         async with await AsyncRepo.connect(self._address) as repo:
-            while True:
-                number = await repo.run(protocol.wait(full, 0, 0))
-                found = await repo.resolve(full)
-                left = LONGEST_WAIT if end is None else end - time.monotonic()
-                if found != known or left <= 0:
-                    return found
-                await repo.run(protocol.wait(full, number, int(min(LONGEST_WAIT, left) * 1000) + 1))
+            return await repo._do(plans.wait(name, known, timeout))
 
 
 async def _reply(future: "asyncio.Future[T]") -> Union[T, Refused, Fault]:

@@ -3,12 +3,11 @@ import contextlib
 import fcntl
 import os
 import re
-import time
 from typing import ContextManager, Dict, Iterator, Optional, Set, Tuple
 
 from .bridge import Side
 from .bridge_forms import SHA1, SHA256, BridgeError, Hashing, read_tag, shown
-from .engine import act
+from .engine import act, patiently
 from .errors import Busy, Unfinished
 from .progress import Progress
 
@@ -102,15 +101,10 @@ def held(folder: bytes, alone: bool) -> Iterator[int]:
 
 
 def _lock(folder: bytes, at: int, how: int) -> None:
-    end = time.monotonic() + WAIT
-    while True:
-        try:
-            fcntl.flock(at, how | fcntl.LOCK_NB)
-            return
-        except OSError:
-            if time.monotonic() > end:
-                raise BridgeError(f"{shown(folder)}: another process works there") from None
-            time.sleep(0.02)
+    try:
+        patiently(lambda: fcntl.flock(at, how | fcntl.LOCK_NB), WAIT, BlockingIOError)
+    except BlockingIOError:
+        raise BridgeError(f"{shown(folder)}: another process works there") from None
 
 
 class Store:
@@ -144,15 +138,7 @@ class Store:
 
     def _act(self, action: str, bar: Progress) -> None:
         """Has the engine do something, once nobody else works in the folder."""
-        end = time.monotonic() + WAIT
-        while True:
-            try:
-                act(action, self.folder, self.sha256, self.engine, lambda: bar.step(0))
-                return
-            except Busy:
-                if time.monotonic() > end:
-                    raise
-                time.sleep(0.02)
+        patiently(lambda: act(action, self.folder, self.sha256, self.engine, lambda: bar.step(0)), WAIT, Busy)
 
     def make(self, bar: Progress) -> None:
         """Makes the folder, and a history in it, if none is there, and takes away what a stop left; else it must be whole."""

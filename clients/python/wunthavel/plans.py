@@ -6,6 +6,7 @@ in the place of a reply. Who runs a plan sends the commands, waiting or not.
 import difflib
 import hashlib
 import re
+import time
 from dataclasses import dataclass
 from typing import Any, Dict, Generator, Iterable, Iterator, List, Optional, Sequence, Set, Tuple, TypeVar, Union
 
@@ -18,6 +19,8 @@ T = TypeVar("T")
 Plan = Generator[List[Command[Any]], List[Any], T]
 Texts = Union[Text, Iterable[Text]]
 HEAD = "HEAD"
+# One wait takes so many seconds at most, so that a server that is gone is noticed.
+LONGEST_WAIT = 600
 # So many commits of a file's history are looked at together.
 PAGE = 32
 
@@ -294,6 +297,19 @@ def as_of(name: Text, seconds: int) -> Plan[AsOf]:
             if commit.committer.seconds <= seconds:
                 return AsOf(commit.id, "time")
     return AsOf(None, "time")
+
+
+def wait(name: Text, known: Optional[str], timeout: Optional[float]) -> Plan[Optional[str]]:
+    """Waits at a server until a branch isn't at a commit, or so many seconds have passed, and returns what it is at then."""
+    full = branch(name)
+    end = None if timeout is None else time.monotonic() + timeout
+    while True:
+        number = yield from ask(protocol.wait(full, 0, 0))
+        found = yield from resolve(full)
+        left = LONGEST_WAIT if end is None else end - time.monotonic()
+        if found != known or left <= 0:
+            return found
+        yield from ask(protocol.wait(full, number, int(min(LONGEST_WAIT, left) * 1000) + 1))
 
 
 def blame(path: Text, at: Text) -> Plan[List[Line]]:

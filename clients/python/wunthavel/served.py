@@ -4,7 +4,6 @@
         repo.log(limit=10)
 """
 import threading
-import time
 from collections import deque
 from typing import Any, Deque, Optional, TypeVar
 
@@ -19,8 +18,6 @@ from .transport import Address, Socket
 T = TypeVar("T")
 # How often a command is sent again.
 TRIES = 3
-# A wait at a server takes so many seconds at most, so that one that is gone is noticed.
-LONGEST_WAIT = 600
 
 
 class ServedRepo(Repo):
@@ -103,22 +100,15 @@ class ServedRepo(Repo):
             if commit is None:
                 raise refused
             pending.settle(commit.id)
-        except Refused:
+        except (Refused, EngineDied):
+            # Who looks at the reply meets this again.
             pass
 
     def wait(self, name: Text = "HEAD", known: Optional[str] = None, timeout: Optional[float] = None) -> Optional[str]:
         """Waits until a branch isn't at the commit `known` (`None`: until it exists), or so many seconds have passed, and returns the id of the commit that
         it is at then. It has a connection of its own, so others may go on."""
-        full = plans.branch(name)
-        end = None if timeout is None else time.monotonic() + timeout
         with ServedRepo(self._address, timeout=None, wait=self._wait) as repo:
-            while True:
-                number = repo.run(protocol.wait(full, 0, 0))
-                found = repo.resolve(full)
-                left = LONGEST_WAIT if end is None else end - time.monotonic()
-                if found != known or left <= 0:
-                    return found
-                repo.run(protocol.wait(full, number, int(min(LONGEST_WAIT, left) * 1000) + 1))
+            return repo._do(plans.wait(name, known, timeout))
 
 
 def connect(address: Address, *, actor: Optional[Who] = None, timeout: Optional[float] = None, wait: float = 5.0) -> ServedRepo:
