@@ -16,7 +16,7 @@ from .builder import Builder
 from .errors import EngineDied, Fault, NotExpected, ProtocolError, Refused, Taken
 from .plans import AsOf, Change, Entry, Line, Plan, Texts
 from .protocol import ANY, NEW, Command, Commit, Content, Expected, File, Ids, LogEntry, Names
-from .repo import WINDOW, Who, actor_of
+from .repo import UNSENT, WINDOW, Who, actor_of
 from .texts import Text
 from .transport import PIPE, Address, Socket
 from .wire import Parts, Reply, reply
@@ -35,6 +35,11 @@ class _Connection:
         transport.put(transport.greeting)
         for source in transport.sources:
             self._loop.add_reader(source, self._receive, source)
+
+    @property
+    def unsent(self) -> int:
+        """How many bytes wait to be written."""
+        return self._transport.unsent
 
     def send(self, command: Command[T]) -> "asyncio.Future[T]":
         """Sends a command, whose reply is the future's result."""
@@ -148,7 +153,7 @@ class AsyncRepo:
         ahead: "Deque[asyncio.Future[T]]" = deque()
         for command in commands:
             ahead.append(self._connection.send(command))
-            if len(ahead) >= WINDOW:
+            while ahead and (len(ahead) >= WINDOW or self._connection.unsent > UNSENT):
                 yield await _reply(ahead.popleft())
         while ahead:
             yield await _reply(ahead.popleft())

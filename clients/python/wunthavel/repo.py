@@ -22,8 +22,8 @@ from .transport import Process
 
 T = TypeVar("T")
 Who = Union[Actor, str]
-# A batch has so many commands on their way at most.
-WINDOW = 256
+# A batch has so many commands on their way at most, and so many bytes of them waiting to be written.
+WINDOW, UNSENT = 256, 1 << 18
 
 
 class Repo:
@@ -164,7 +164,7 @@ class Repo:
         coming = iter(commands)
         more = True
         while True:
-            while more and len(ahead) < window and self._engine.transport.unsent < 1 << 18:
+            while more and len(ahead) < window and self._engine.transport.unsent < UNSENT:
                 command = next(coming, None)
                 more = command is not None
                 if command is not None:
