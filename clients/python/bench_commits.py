@@ -120,8 +120,8 @@ def main() -> int:
     asked = parser.parse_args()
     print("| A commit by | milliseconds on a disk | in memory |\n|---|---:|---:|")
     for name, way in WAYS:
-        told: List[str] = [f"{milliseconds(way, folder, asked.commits):.2f}" for folder in (asked.disk, asked.memory)]
-        print(f"| {name} | {' | '.join(told)} |", flush=True)
+        cells: List[str] = [f"{milliseconds(way, folder, asked.commits):.2f}" for folder in (asked.disk, asked.memory)]
+        print(f"| {name} | {' | '.join(cells)} |", flush=True)
     return 0
 
 

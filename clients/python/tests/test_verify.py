@@ -63,8 +63,8 @@ class Verify(WithRepo):
         self.assertEqual([it for it in os.listdir(self.store) if "place" in it or "verif" in it], [])
 
     def test_the_command(self) -> None:
-        told = self.wunthavel("verify", self.store, "--for", "600", "--socket", self.place)
-        self.assertEqual(told, (0, [{"objects": len(self.paths()), "damaged": [], "whole": True}]))
+        said = self.wunthavel("verify", self.store, "--for", "600", "--socket", self.place)
+        self.assertEqual(said, (0, [{"objects": len(self.paths()), "damaged": [], "whole": True}]))
         self.assertTrue(os.path.exists(self.place + ".verified"))
         self.spoil(self.paths()[0])
         status, lines = self.wunthavel("verify", self.store, "--for", "600", "--socket", self.place)

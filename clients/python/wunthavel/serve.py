@@ -134,10 +134,10 @@ def _open_listeners(asked: argparse.Namespace) -> Tuple[List[socket.socket], Lis
 
 async def _serve(asked: argparse.Namespace, lock: Optional[int]) -> Dict[str, Any]:
     limits = Limits(*(getattr(asked, f"limit_{name}") for name in Limits._fields))
-    tell = (lambda text: None) if asked.quiet else say
+    report = (lambda text: None) if asked.quiet else say
     sha256, engine = asked.sha256 or is_sha256(asked.folder), asked.engine or find_engine()
-    keeper = Keeper(asked.folder, sha256, engine, limits.folder, [] if lock is None else [lock], tell)
-    server = Server(keeper, limits, tell)
+    keeper = Keeper(asked.folder, sha256, engine, limits.folder, [] if lock is None else [lock], report)
+    server = Server(keeper, limits, report)
     for it in (signal.SIGTERM, signal.SIGINT, signal.SIGHUP):
         asyncio.get_running_loop().add_signal_handler(it, server.stopping.set)
     keeping = asyncio.ensure_future(keeper.run())
@@ -145,7 +145,7 @@ async def _serve(asked: argparse.Namespace, lock: Optional[int]) -> Dict[str, An
     try:
         await _first(keeper.is_open, server.stopping)
         if not server.stopping.is_set():
-            await _listen(asked, server, tell)
+            await _listen(asked, server, report)
     finally:
         keeping.cancel()
         with contextlib.suppress(asyncio.CancelledError):
@@ -161,7 +161,7 @@ async def _first(*events: asyncio.Event) -> None:
         it.cancel()
 
 
-async def _listen(asked: argparse.Namespace, server: Server, tell: Callable[[str], None]) -> None:
+async def _listen(asked: argparse.Namespace, server: Server, report: Callable[[str], None]) -> None:
     """Serves at the places that are asked for."""
     listeners, places = _open_listeners(asked)
     sockets = [it for it in (asked.socket, asked.read_only) if it in places]
@@ -169,7 +169,7 @@ async def _listen(asked: argparse.Namespace, server: Server, tell: Callable[[str
         if asked.json:
             print(json.dumps({"serving": places}), flush=True)
         else:
-            tell(f"{asked.folder} is served at {', '.join(places)}")
+            report(f"{asked.folder} is served at {', '.join(places)}")
         count = len(listeners) - (asked.read_only is not None)
         await server.run(listeners[:count], listeners[count:])
     finally:

@@ -64,7 +64,7 @@ class Transport:
 
     def put(self, data: bytes) -> None:
         """Has these bytes written by a later `write`."""
-        if self.can_write:
+        if self.can_write and data:
             self._pieces.append(memoryview(data))
             self.unsent += len(data)
 
