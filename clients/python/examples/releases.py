@@ -32,8 +32,7 @@ class Releases:
         """Gives each release, newest first: its version, the title of its notes, and the commits that came with it."""
         tags = self.tags()
         for tag, before in zip(tags, [*tags[1:], None]):
-            hidden = [before.name] if before else []
-            yield tag.name[len(TAGS) :], self.repo.past(tag.name)[0].title, list(self.repo.log(at=tag.name, hidden=hidden))
+            yield tag.name[len(TAGS) :], self.repo.past(tag.name)[0].title, list(self.repo.log(at=tag.name, hidden=before.name if before else ()))
 
 
 def main(folder: str, action: str, *words: str) -> None:
