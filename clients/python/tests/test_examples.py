@@ -102,7 +102,7 @@ class Readme(WithRepo):
         return re.findall(rf"```{language}\n(.*?)```", self.text, re.DOTALL)
 
     def test_python(self) -> None:
-        runner = doctest.DocTestRunner(optionflags=doctest.ELLIPSIS)
+        runner = doctest.DocTestRunner(verbose=False, optionflags=doctest.ELLIPSIS)
         found = doctest.DocTestParser().get_doctest("\n".join(self.blocks("python")), {}, "README", "README.md", 0)
         said: List[str] = []
         runner.run(found, out=said.append)
