@@ -45,6 +45,7 @@ __all__ = [
     "NotACommit",
     "NotEmpty",
     "NotExpected",
+    "NotHeld",
     "NothingMoves",
     "OrderWithParents",
     "PrivateName",
@@ -180,6 +181,10 @@ class NoSuchPath(Refused):
 
 class ReadOnly(Refused):
     says = "this socket of a server is for reading alone"
+
+
+class NotHeld(Refused):
+    says = "the server didn't hold changes back, or not all the time"
 
 
 class BadActor(Refused):

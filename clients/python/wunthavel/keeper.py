@@ -67,6 +67,11 @@ class Keeper:
         unsent = self._process.unsent if self._process is not None else 0
         return (self._process is not None or self._is_troubled) and len(self.flying) < MOST_FLYING and unsent < MOST_UNSENT
 
+    @property
+    def is_quiet(self) -> bool:
+        """Whether an engine runs, and has no command that changes something."""
+        return self._process is not None and not self._is_over and not any(it.changes for it in self.flying)
+
     def send(self, flight: Flight) -> None:
         """Gives the engine a command, which a later `write` writes."""
         if not self.flying:

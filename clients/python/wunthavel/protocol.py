@@ -519,6 +519,16 @@ def wait(name: Text, number: int, milliseconds: int) -> Command[int]:
     return Command("wait", b"wait %s %d %d\n" % (_name(name), number, milliseconds), _count)
 
 
+def hold(milliseconds: int) -> Command[None]:
+    """Has a server hold all changes back, for so long at most: it replies once the engine has done those that it has."""
+    return Command("hold", b"hold %d\n" % milliseconds, _nothing, True)
+
+
+def release() -> Command[None]:
+    """Has a server let changes go on. It is refused (`NotHeld`) if there could be one since they were held back."""
+    return Command("release", b"release\n", _nothing, True)
+
+
 def is_made_by(commit: Commit, command: Command[str]) -> bool:
     """Whether actors and message of a commit are those that a command asked for."""
     return command.data.endswith(_actor(b"author", commit.author) + _actor(b"committer", commit.committer) + _message(commit.message) + b"end\n")

@@ -10,10 +10,11 @@ import os
 import socket
 import time
 from collections import deque
+from dataclasses import dataclass
 from typing import Callable, Deque, Dict, Iterator, List, NamedTuple, Optional, Sequence, Set, Tuple
 
 from .keeper import Flight, Keeper
-from .wire import LONGEST_LINE, Asked, BadCommand, Parts, Whole, served_command
+from .wire import LONGEST_LINE, OWN, Asked, BadCommand, Parts, Whole, served_command
 
 # How many seconds are between two looks at the times.
 LOOK = 0.25
@@ -49,7 +50,7 @@ class Waiting(NamedTuple):
     @property
     def is_passed_on(self) -> bool:
         """Whether the engine has a part in it."""
-        return not self.refusal and not self.data.startswith(b"wait ")
+        return not self.refusal and not self.data.startswith(OWN)
 
 
 class Client(asyncio.Protocol):
@@ -163,6 +164,8 @@ class Client(asyncio.Protocol):
         """Whether its next command can be given to the engine."""
         if not self.ready or self._is_full or self.server.has_wait(self):
             return False
+        if self.ready[0].is_passed_on and self.ready[0].asked.changes and self.server.holds_back:
+            return False
         if not self.flying:
             return True
         is_room = self.transport.get_write_buffer_size() + self.flying * self._usual < self.limits.unread
@@ -180,7 +183,7 @@ class Client(asyncio.Protocol):
             self.reply(it.refusal)
             return None
         if not it.is_passed_on:
-            self.server.wait(self, it.data)
+            self.server.answer(self, it.data)
             return None
         self.flying += 1
         return Flight(self, it.data, it.asked.changes, it.asked.names)
@@ -224,6 +227,7 @@ class Client(asyncio.Protocol):
     def cut(self) -> None:
         """Gives up what it waits for. The replies that are there are still sent."""
         self.server.end_wait(self)
+        self.server.end_hold(self)
         self._is_cut, self.flying, self._ready_bytes = True, 0, 0
         self.ready.clear()
         self._coming = iter(())
@@ -261,6 +265,16 @@ class Client(asyncio.Protocol):
         return None
 
 
+@dataclass
+class Hold:
+    """Changes are held back for a client, until this timer ends that. `restarts` is how often the engine had been started when the client was given the reply
+    that there is none; until then it waits."""
+
+    client: Client
+    timer: asyncio.TimerHandle
+    restarts: Optional[int] = None
+
+
 class Server:
     """The clients of an engine, and whose turn it is."""
 
@@ -274,6 +288,7 @@ class Server:
         # How many changes were made, and who waits for one of which name, with the end of the time for that.
         self._moves = 0
         self._waits: Dict[Client, Tuple[bytes, asyncio.TimerHandle]] = {}
+        self._hold: Optional[Hold] = None
         self._folder_length = len(os.fsencode(keeper.folder))
         self.count = {"clients": 0, "commands": 0, "refused_clients": 0}
         self.stopping = asyncio.Event()
@@ -323,6 +338,56 @@ class Server:
             if largest is not None:
                 largest.parts.drop()
 
+    def answer(self, client: Client, line: bytes) -> None:
+        """Does a command that isn't passed on."""
+        if line.startswith(b"wait "):
+            self.wait(client, line)
+        elif line.startswith(b"hold "):
+            self.hold_back(client, int(line.split()[1]))
+        else:
+            self.release(client)
+
+    # A client for which changes are held back.
+
+    @property
+    def holds_back(self) -> bool:
+        """Whether no command that changes something is passed on."""
+        return self._hold is not None
+
+    def hold_back(self, client: Client, milliseconds: int) -> None:
+        """Holds changes back for a client, unless that is done for another one."""
+        if self._hold is not None:
+            client.reply(b"fault Busy\n")
+            return
+        timer = asyncio.get_running_loop().call_later(milliseconds / 1000, self.end_hold, client)
+        self._hold = Hold(client, timer)
+        self._schedule()
+
+    def _grant_hold(self) -> None:
+        hold = self._hold
+        if hold is not None and hold.restarts is None and self.keeper.is_quiet:
+            hold.restarts = self.keeper.restarts
+            hold.client.reply(b"ok hold\n")
+
+    def release(self, client: Client) -> None:
+        """Lets changes go on, and says whether there could be none. While no engine runs another process may have the folder."""
+        hold = self._hold
+        is_kept = hold is not None and hold.client is client and hold.restarts == self.keeper.restarts and self.keeper.is_quiet
+        client.reply(b"ok release\n" if is_kept else b"refused NotHeld\n")
+        self.end_hold(client)
+
+    def end_hold(self, client: Client) -> None:
+        """Lets changes go on, if they are held back for this client."""
+        hold = self._hold
+        if hold is None or hold.client is not client:
+            return
+        self._hold = None
+        hold.timer.cancel()
+        if hold.restarts is None:
+            client.reply(b"refused NotHeld\n")
+        for it in self._clients:
+            self.queue(it)
+
     # Clients that wait for a change.
 
     def wait(self, client: Client, line: bytes) -> None:
@@ -335,8 +400,8 @@ class Server:
         self._waits[client] = (name, timer)
 
     def has_wait(self, client: Client) -> bool:
-        """Whether a client waits for a change."""
-        return client in self._waits
+        """Whether a client waits for a change, or for the end of those that the engine has."""
+        return client in self._waits or self._hold is not None and self._hold.client is client and self._hold.restarts is None
 
     def end_wait(self, client: Client) -> None:
         """Replies to a client that waits."""
@@ -391,6 +456,7 @@ class Server:
     def _pass_on(self) -> None:
         """Sends replies, and gives the engine one command of each client in turn while it takes them."""
         self._is_scheduled = False
+        self._grant_hold()
         touched, self._touched = self._touched, set()
         for client in touched:
             client.flush()

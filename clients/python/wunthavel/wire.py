@@ -140,9 +140,12 @@ _COMMANDS = {
     b"past": (_form("past W"), 1, _no_more, False),
     b"show": (_form("show W(?: path N)?"), 0, _no_more, False),
 }
-# What a server alone takes: a first line that asks for notes, and a command that waits for a change.
+# What a server alone takes: a first line that asks for notes, a command that waits for a change, and two between which there is none.
 GREETING = b"notes"
 _WAIT = re.compile(rb"wait [^ \n]+ (?:0|[1-9][0-9]{0,18}) (?:0|[1-9][0-9]{0,6})")
+_HOLD = re.compile(rb"hold (?:0|[1-9][0-9]{0,5})|release")
+# How the commands begin that a server doesn't pass on.
+OWN = (b"wait ", b"hold ", b"release")
 
 
 def command() -> Reading[Asked]:
@@ -157,6 +160,9 @@ def served_command(may_greet: bool) -> Reading[Asked]:
         return Asked(False, [], [], True)
     if _WAIT.fullmatch(line):
         return Asked(False, line.split(b" ")[1:2], [])
+    if _HOLD.fullmatch(line):
+        # Who only reads holds nobody up.
+        return Asked(True, [], [])
     return (yield from _command(line))
 
 
@@ -246,7 +252,7 @@ def _bare(words: List[bytes]) -> Reading[List[Any]]:
 
 
 _REPLIES = {b"names": _lines, b"past": _lines, b"log": _ids, b"files": _files, b"show": _shown}
-_REPLIES.update(dict.fromkeys((b"commit", b"tag", b"move", b"rename", b"delete", b"switch", b"pack", b"index", b"wait"), _bare))
+_REPLIES.update(dict.fromkeys((b"commit", b"tag", b"move", b"rename", b"delete", b"switch", b"pack", b"index", b"wait", b"hold", b"release"), _bare))
 
 
 def reply() -> Reading[Reply]:

@@ -30,6 +30,12 @@ def refuse_path(path: str, done: str = "written") -> None:
             raise WorkError(f"{ascii(path)} isn't {done}: a path may not be absolute, and has no part {part!r}")
 
 
+def store_of(folder: str) -> str:
+    """Returns the folder of a history: of one that a person works in the one in it, and else the folder itself."""
+    inside = os.path.join(folder, OWN, "store")
+    return inside if os.path.isdir(inside) else folder
+
+
 @dataclass(frozen=True)
 class Here:
     """A file of the folder: its kind and path, and its place on disk."""
