@@ -5,7 +5,7 @@ import subprocess
 import sys
 import threading
 import unittest
-from typing import Any, Dict, List, Tuple
+from typing import Any, Dict, List
 from unittest import mock
 
 import wunthavel

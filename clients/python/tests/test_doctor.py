@@ -4,7 +4,6 @@ import io
 import json
 import os
 import shutil
-import subprocess
 import unittest
 from typing import List, Tuple
 

@@ -142,8 +142,8 @@ class InABrowser(unittest.TestCase):
         commits = synthetic(cls.COUNT)
         names = wunthavel.Names("refs/heads/main", (wunthavel.Name(commits[0].id, commits[0].id, "refs/heads/main"), wunthavel.Name("f" * 40, commits[5].id, "refs/tags/v1")))
         first = html.history(mock.Mock(names=lambda: names), commits, "Many")
-        paths = [f"folder/page {it}" for it in range(1000)] + ["odd/\udcff"]
-        changes = [[1, ["M", at % 1001]] for at in range(cls.COUNT)]
+        paths = [f"folder/page {it}" for it in range(1000)] + ["odd/\udcff", "row1"]
+        changes = [[1, ["M", at % 1002]] for at in range(cls.COUNT)]
         html.write_pages(cls.room, first, {"paths": paths, "changes": changes, "files": [["file", "a" * 40, it] for it in range(1001)]})
 
     @classmethod
@@ -182,7 +182,9 @@ class InABrowser(unittest.TestCase):
         self.assertIn("1 of 10,000 commits", self.page("#q=" + f"{77:040x}"))
         self.assertIn("1,001 files", self.page("#files"))
         self.assertIn("10 of 10,000 commits changed folder/page 3<", self.page("#path=folder%2Fpage%203"))
-        self.assertIn("9 of 10,000 commits changed odd/", self.page("#path=row1000"))
+        self.assertIn("9 of 10,000 commits changed odd/", self.page("#number=1000"))
+        # A path that looks like a number of one is that path.
+        self.assertIn("9 of 10,000 commits changed row1<", self.page("#path=row1"))
         self.assertIn("Nothing is found", self.page("#q=zzzz"))
 
 

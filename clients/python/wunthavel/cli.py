@@ -25,7 +25,7 @@ from .wire import LARGEST
 from .worktree import IGNORED, OWN, Here, WorkError, WorkTree, refuse_path
 
 # Commands with words of their own, each in its module.
-APART = {"serve": "serve", "git-export": "git_export", "git-import": "git_import", "fast-import": "fast_import", "mirror": "git_mirror", "html": "html", "backup": "backup", "doctor": "doctor"}
+APART = {"serve": "serve", "git-export": "git_export", "git-import": "git_import", "fast-import": "fast_import", "mirror": "git_mirror", "html": "html", "backup": "backup", "doctor": "doctor", "web": "web"}
 COLOURS = {"yellow": "33", "green": "32", "red": "31", "blue": "34", "bold": "1", "dim": "2"}
 MARKS = {"added": ("A", "green"), "removed": ("D", "red"), "changed": ("M", "yellow")}
 ABOUT = """\

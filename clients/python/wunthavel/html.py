@@ -1,26 +1,29 @@
 """`wunthavel html FOLDER OUT`: a history as static pages, for a browser without a server.
 
-`OUT/index.html` shows what `history.js` (commits, names, the graph's edges) and `changes.js` (the paths that each commit changed, the files of
+`OUT/commit/ID.html` shows what each of the newest commits changed, as text. `OUT/index.html` shows what `history.js` (commits, names, the graph's edges) and `changes.js` (the paths that each commit changed, the files of
 HEAD) hold. It draws the rows that can be seen alone, so that it is as quick with ten thousand commits as with ten.
 """
 import argparse
-import contextlib
 import heapq
 import json
 import os
 import re
+import shutil
 from functools import lru_cache
 from typing import Any, Dict, FrozenSet, Iterator, List, Optional, Sequence, Tuple
 
-from . import protocol
+from . import pages, protocol
 from .progress import Progress
 from .errors import Refused
+from .graph import lay_out
 from .protocol import Commit, text
 from .repo import Repo
-from .worktree import OWN
+from .worktree import OWN, store_of
 
 # So many changed paths of a commit are shown at most.
 MOST_CHANGES = 500
+# So many bytes the pages of commits have together at most.
+MOST_BYTES = 100_000_000
 # So many words go on a line of `log`.
 WORDS = 80
 Entry = Tuple[bytes, bytes, bytes]
@@ -91,40 +94,6 @@ def in_order(commits: Dict[str, Commit]) -> List[Commit]:
     return ordered
 
 
-def lay_out(commits: Sequence[Commit], head: Optional[str] = None) -> Tuple[List[int], List[List[int]]]:
-    """Returns the column of each row, and the edges: of each its child's row and column, its parent's row and column.
-
-    A column waits for one parent at a time, and children of the same parent share it: an edge goes over to its parent's column right below the
-    child, and then straight down. A parent that isn't shown is in a row after the last one. The first column is kept for the commit that HEAD is at.
-    """
-    rows = {it.id: row for row, it in enumerate(commits)}
-    waiting: List[Optional[str]] = [head] if head in rows else []
-    columns: List[int] = []
-    edges: List[List[int]] = []
-    for row, commit in enumerate(commits):
-        column = _column(waiting, commit.id)
-        columns.append(column)
-        waiting[column] = None
-        for it in commit.parents:
-            if it not in waiting and waiting[column] is None:
-                waiting[column] = it
-            to = _column(waiting, it)
-            waiting[to] = it
-            edges.append([row, column, rows.get(it, len(commits)), to])
-        while waiting and waiting[-1] is None:
-            waiting.pop()
-    return columns, edges
-
-
-def _column(waiting: List[Optional[str]], id: str) -> int:
-    """Returns the column that waits for this commit, else the first free one."""
-    for wanted in (id, None):
-        with contextlib.suppress(ValueError):
-            return waiting.index(wanted)
-    waiting.append(None)
-    return len(waiting) - 1
-
-
 def history(repo: Repo, commits: Sequence[Commit], title: str) -> Dict[str, Any]:
     """Returns what the page needs first."""
     names = repo.names()
@@ -160,8 +129,9 @@ def all_changes(repo: Repo, commits: Sequence[Commit]) -> Dict[str, Any]:
     return {"paths": list(paths), "changes": told, "files": files}
 
 
-def write(folder: str, out: str, limit: Optional[int] = None, title: Optional[str] = None) -> int:
-    """Writes the pages of the repository in `folder` into the folder `out`, and returns how many commits they show."""
+def write(folder: str, out: str, limit: Optional[int] = None, title: Optional[str] = None, told: int = 0, most: int = MOST_BYTES) -> int:
+    """Writes the pages of the repository in `folder` into the folder `out`, and returns how many commits they show. `told` of these, the newest ones, have a
+    page of their own, while all such pages have no more than `most` bytes."""
     os.makedirs(out, exist_ok=True)
     with Repo(folder) as repo:
         commits = read_commits(repo, limit)
@@ -170,8 +140,27 @@ def write(folder: str, out: str, limit: Optional[int] = None, title: Optional[st
             place = os.path.dirname(os.path.dirname(place))
         first = history(repo, commits, title or os.path.basename(place))
         then = all_changes(repo, commits)
+        first["told"] = write_changes(repo, out, commits[:told], str(first["title"]), most)
     write_pages(out, first, then)
     return len(commits)
+
+
+def write_changes(repo: Repo, out: str, commits: Sequence[Commit], title: str, most: int) -> int:
+    """Writes a page of each commit with its changes, until they have so many bytes, and returns how many it wrote."""
+    os.makedirs(os.path.join(out, "commit"), exist_ok=True)
+    shutil.copyfile(os.path.join(os.path.dirname(os.path.abspath(__file__)), "web.css"), os.path.join(out, "commit", "web.css"))
+    ids = {it.id for it in commits}
+    made = pages.Pages(repo, repo.folder, lambda kind, id, path: f"{id}.html" if kind == "commit" and id in ids else None)
+    count = 0
+    with Progress("writing changes", len(commits)) as bar:
+        for it in bar.each(commits):
+            page = pages.document(made.commit(it.id), title, "web.css", is_live=False)
+            most -= len(page)
+            if most < 0:
+                break
+            _replace(os.path.join(out, "commit", f"{it.id}.html"), page)
+            count += 1
+    return count
 
 
 def write_pages(out: str, first: Dict[str, Any], then: Dict[str, Any]) -> None:
@@ -179,13 +168,13 @@ def write_pages(out: str, first: Dict[str, Any], then: Dict[str, Any]) -> None:
     for name, value in (("history", first), ("changes", then)):
         # A text that is parsed as JSON is read quicker than a script, and is never run.
         told = json.dumps(json.dumps(value, separators=(",", ":")))
-        _replace(os.path.join(out, f"{name}.js"), f"received({json.dumps(name)}, {told});\n")
-    with open(os.path.join(os.path.dirname(os.path.abspath(__file__)), "page.html"), encoding="utf-8") as it:
+        _replace(os.path.join(out, f"{name}.js"), f"received({json.dumps(name)}, {told});\n".encode())
+    with open(os.path.join(os.path.dirname(os.path.abspath(__file__)), "page.html"), "rb") as it:
         _replace(os.path.join(out, "index.html"), it.read())
 
 
-def _replace(path: str, content: str) -> None:
-    with open(path + ".new", "w", encoding="utf-8") as it:
+def _replace(path: str, content: bytes) -> None:
+    with open(path + ".new", "wb") as it:
         it.write(content)
     os.replace(path + ".new", path)
 
@@ -196,12 +185,12 @@ def main(argv: Sequence[str]) -> int:
     parser.add_argument("folder", metavar="FOLDER", help="a repository, or a folder with its history in .wunthavel/store")
     parser.add_argument("out", metavar="OUT", help="the folder that the pages are written to")
     parser.add_argument("--limit", type=int, metavar="N", help="show the newest N commits alone")
+    parser.add_argument("-n", type=int, default=200, metavar="N", dest="told", help="show the changes of the newest N commits as text, each on a page of its own (200)")
+    parser.add_argument("--most", type=int, default=MOST_BYTES, metavar="BYTES", help=f"write pages of commits with so many bytes together at most ({MOST_BYTES:,})")
     parser.add_argument("--title", help="the page's title")
     parser.add_argument("--json", action="store_true", help="report what was written as JSON")
     asked = parser.parse_args(argv)
-    own = os.path.join(asked.folder, OWN, "store")
-    folder = own if os.path.isdir(own) else asked.folder
-    count = write(folder, asked.out, asked.limit, asked.title)
+    count = write(store_of(asked.folder), asked.out, asked.limit, asked.title, asked.told, asked.most)
     index = os.path.join(asked.out, "index.html")
     print(json.dumps({"page": index, "commits": count}) if asked.json else f"{index} shows {count:,} commit{'s' * (count != 1)}")
     return 0
