@@ -8,7 +8,7 @@ SHARE = $(DESTDIR)$(PREFIX)/share
 ENGINE ?= $(PROGRAM)
 UNPROVED := out/unproved/wunthavel-history
 
-.PHONY: help test quick wrong-bodies demo folder-demo clients-test bench faults install install-unproved install-files deb \
+.PHONY: help test quick wrong-bodies demo folder-demo clients-test bench faults wheel install install-unproved install-files deb \
 	program unproved unchecked
 
 help: ## lists the targets, each with what it takes
@@ -38,6 +38,9 @@ demo: ## a short story on a real folder, told by the proved program if it is bui
 clients-test: ## the tests of clients/python, over the proved program if it is built, else over an unproved one, which is built; minutes
 	@[ -x $(PROGRAM) ] || $(MAKE) --no-print-directory unproved
 	clients/python/run-tests
+
+wheel: ## a wheel of the front end for Python in the folder out/, for pip install without a network; seconds
+	@python3 clients/python/backend.py out
 
 folder-demo: SCRIPT = demo/folder ## shows the proved program on real folders, against demo/folder.wanted; seconds once it is proved
 bench: SCRIPT = bench/report ## no test: the program's workloads on real folders beside git's, with ratios; SIZE=small for a quick one; minutes once all is proved

@@ -13,7 +13,7 @@ PEOPLE = [("Ada Lovelace", "ada@example.org"), ("Grace Hopper", "grace@example.o
 WORDS = "page index menu colour search table picture letter number title answer question order parser writer reader".split()
 
 
-def commands(repo: wunthavel.Repo, count: int, seed: int) -> Iterator["Command[Any]"]:
+def commands(count: int, seed: int) -> Iterator["Command[Any]"]:
     """Gives the commands of a history: a main line and branches that are merged into it."""
     chance = random.Random(seed)
     # Of each branch the number of its last commit.
@@ -47,7 +47,7 @@ def commands(repo: wunthavel.Repo, count: int, seed: int) -> Iterator["Command[A
 
 def make(repo: wunthavel.Repo, count: int, seed: int = 1) -> None:
     """Makes a history of so many commits."""
-    for _ in repo.batch(commands(repo, count, seed)):
+    for _ in repo.batch(commands(count, seed)):
         pass
 
 

@@ -27,6 +27,7 @@ from wunthavel import connect, find_engine, protocol
 from wunthavel.engine import act
 from wunthavel.transport import tcp_address
 from wunthavel.wire import LONGEST_LINE, BadCommand, Parts, Whole, command, reply
+from tests import histories
 from tests.support import PATIENCE, running, wait_until
 
 PACKAGE = os.path.dirname(os.path.dirname(os.path.abspath(__file__)))
@@ -760,6 +761,7 @@ class WithAFakeEngine(Served):
 
 class Wire(unittest.TestCase):
     def streams(self) -> Iterator[bytes]:
+        yield b"".join(it.data for it in histories.commands(30, 1))
         top = os.path.join(PACKAGE, "../..")
         for name in ("demo/first.stream", "crates/history_program/stdin"):
             path = os.path.join(top, name)

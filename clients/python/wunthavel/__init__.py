@@ -9,7 +9,7 @@
 from . import errors, protocol
 from .aio import AsyncRepo
 from .builder import CommitBuilder
-from .engine import Pending, find_engine
+from .engine import Pending, engine_version, find_engine
 from .errors import *  # noqa: F403
 from .plans import AsOf, Change, Entry, Line, changes
 from .protocol import ANY, NEW, Actor, Command, Commit, Content, Expect, File, Ids, LogEntry, Name, Names
@@ -44,6 +44,7 @@ __all__ = [
     "ServedRepo",
     "changes",
     "connect",
+    "engine_version",
     "find_engine",
     "protocol",
 ]

@@ -1,6 +1,7 @@
 """`wunthavel`: the history of a folder at a terminal."""
 import argparse
 import base64
+import contextlib
 import getpass
 import importlib
 import json
@@ -13,8 +14,8 @@ import sys
 from typing import Any, Callable, Dict, Iterable, List, Optional, Sequence, Tuple, Union
 
 from . import protocol
-from .engine import act, is_sha256
-from .errors import HistoryError, Refused, Unfinished
+from .engine import act, engine_version, is_sha256
+from .errors import EngineError, HistoryError, ProtocolError, Refused, Syntax, Unfinished
 from .plans import Change, changes, checked, unified
 from .progress import Progress
 from .protocol import NEW, Commit, File, Names, raw, text
@@ -434,7 +435,7 @@ def _parser() -> argparse.ArgumentParser:
     common.add_argument("--json", action="store_true", default=argparse.SUPPRESS, help="write JSON, a value a line")
     common.add_argument("--colour", "--color", choices=["auto", "always", "never"], default=argparse.SUPPRESS, help="when to use colours")
     parser = argparse.ArgumentParser("wunthavel", description=ABOUT, parents=[common], formatter_class=argparse.RawDescriptionHelpFormatter)
-    parser.add_argument("--version", action="version", version=f"wunthavel {importlib.import_module('wunthavel').__version__}")
+    parser.add_argument("--version", action="version", version=f"wunthavel {_version()}")
     parser.add_argument("-C", dest="directory", metavar="DIR", help="work as if started in this directory")
     _add_commands(parser.add_subparsers(dest="command", metavar="COMMAND"), common)
     return parser
@@ -574,10 +575,25 @@ def _guarded(does: Callable[[], int], as_json: bool) -> int:
         return _complain(error, as_json)
 
 
+def _version() -> str:
+    return str(importlib.import_module("wunthavel").__version__)
+
+
+def _other_version() -> str:
+    """Returns a line about an engine of another version, which may not know what it is asked, or reply otherwise."""
+    with contextlib.suppress(EngineError):
+        found = engine_version()
+        if found != _version():
+            return f"\nthe engine is of version {found}, and this package of {_version()}"
+    return ""
+
+
 def _complain(error: Exception, as_json: bool) -> int:
     said = str(error)
     if isinstance(error, Unfinished):
         said += "\nwunthavel recover removes it"
+    if isinstance(error, (EngineError, ProtocolError, Syntax)):
+        said += _other_version()
     if as_json:
         about = {"error": getattr(error, "cause", type(error).__name__), "values": list(getattr(error, "values", ())), "message": said}
         print(json.dumps(about), file=sys.stderr)

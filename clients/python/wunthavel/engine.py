@@ -15,7 +15,7 @@ from typing import Any, Callable, Deque, Generic, Iterator, List, Optional, Tupl
 
 from .errors import Busy, EngineDied, EngineError, Fault, HistoryError, ProtocolError, Refused, Unfinished
 from .protocol import Command, raw, text
-from .transport import PIPE, Transport
+from .transport import PATIENCE, PIPE, Transport
 from .wire import Parts, Reply, reply
 
 T = TypeVar("T")
@@ -41,6 +41,19 @@ def find_engine() -> str:
     if named:
         raise EngineError(f"WUNTHAVEL_ENGINE names {named!r}, which is no program")
     raise EngineError("no engine: install wunthavel-history, or name it in WUNTHAVEL_ENGINE")
+
+
+def engine_version(engine: Optional[str] = None) -> str:
+    """Returns the version that the engine says it is of, such as `"0.2.0"`."""
+    program = engine or find_engine()
+    try:
+        done = subprocess.run([program, "--version"], stdin=subprocess.DEVNULL, stdout=subprocess.PIPE, stderr=subprocess.DEVNULL, timeout=PATIENCE)
+    except (OSError, subprocess.TimeoutExpired) as error:
+        raise EngineError(f"{program} says no version: {error}") from error
+    words = text(done.stdout).split()
+    if done.returncode or len(words) < 2 or not words[1][:1].isdigit():
+        raise EngineError(f"{program} says no version")
+    return words[1]
 
 
 def is_sha256(folder: Folder) -> bool:
