@@ -226,6 +226,46 @@ class Again(Case):
         self.assertEqual(git(self.dest, "reflog", "--format=%H %gs", "main"), git(self.source, "reflog", "--format=%H %gs", "main"))
 
 
+class Skipped(Case):
+    def setUp(self) -> None:
+        super().setUp()
+        self.init()
+        self.commit("one", a="a")
+        git(self.source, "branch", "kept")
+        git(self.source, "branch", "gone")
+        self.bring()
+        self.give()
+        self.all = {b"refs/heads/main", b"refs/heads/kept", b"refs/heads/gone", b"refs/heads/own"}
+        self.assertEqual(engine(self.store, COMMIT % (b"own", b"o"))[:9], b"ok commit")
+        git(self.dest, "branch", "own", "main")
+
+    def sides(self) -> "List[set[bytes]]":
+        return [set(bridge_folder.read_names(os.fsencode(self.store))), set(git(self.dest, "for-each-ref", "--format=%(refname)").encode().split())]
+
+    def test_a_skipped_name_is_not_pruned(self) -> None:
+        git(self.source, "branch", "-D", "gone")
+        skipped = ("--prune", "--skip-refs", "refs/heads/kept", "--skip-refs", "refs/heads/own")
+        self.assertEqual(self.bring(*skipped)["deleted"], 1)
+        self.assertEqual(self.give(*skipped)["deleted"], 1)
+        self.assertEqual(self.sides(), [self.all - {b"refs/heads/gone"}] * 2)
+        self.assertTrue(os.path.exists(os.path.join(self.store, "logs/refs/heads/kept")))
+
+    def test_it_is_not_listed_as_the_other_side_s(self) -> None:
+        self.assertEqual(self.bring("--skip-refs", "refs/heads/kept")["only_in_folder"], ["refs/heads/own"])
+        git(self.dest, "branch", "git-only", "main")
+        self.assertEqual(self.give("--skip-refs", "refs/heads/kept", "--force")["only_in_git"], ["refs/heads/git-only"])
+
+    def test_a_pattern_that_keeps_a_name_of_the_other_side_alone_has_a_use(self) -> None:
+        self.assertEqual(self.bring("--prune", "--skip-refs", "refs/heads/own")["deleted"], 0)
+        self.assertEqual(self.sides()[0], self.all)
+        for words in (("--skip-refs", "refs/heads/own"), ("--prune", "--skip-refs", "refs/heads/none")):
+            self.assertIn(f"no name: {words[-1]}", self.bring(*words, status=1)["error"])
+
+    def test_a_symbolic_name_is_left_out_twice(self) -> None:
+        git(self.source, "symbolic-ref", "refs/remotes/origin/HEAD", "refs/heads/main")
+        self.assertEqual(self.bring("--as-clone", "--skip-refs", "refs/remotes/origin/HEAD")["skipped"], ["refs/remotes/origin/HEAD"])
+
+
 class Cost(Case):
     def test_what_is_there_is_not_read_again(self) -> None:
         self.init()

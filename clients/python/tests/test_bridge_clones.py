@@ -89,7 +89,6 @@ class Mirrors(Case):
 
     def test_a_history_that_was_set_back(self) -> None:
         self.push()
-        engine(self.store, b"move\nto refs/heads/main any main~1\n")
         git(self.source, "reset", "-q", "--hard", "HEAD~1")
         self.bring("--force")
         self.push()

@@ -71,9 +71,9 @@ class Side(NamedTuple):
     names: Dict[bytes, bytes]
     logs: Dict[bytes, bytes]
 
-    def without(self, skip: Patterns, logs: bool) -> "Side":
-        """Returns it without the names that the patterns leave out and their logs, or without all logs."""
-        names = {name: id for name, id in self.names.items() if not skip.has(name)}
+    def without(self, skipped: Callable[[bytes], bool], logs: bool) -> "Side":
+        """Returns it without the names that are skipped and their logs, or without all logs."""
+        names = {name: id for name, id in self.names.items() if not skipped(name)}
         return Side(names, {name: log for name, log in self.logs.items() if logs and name in names})
 
     def tips(self, hashing: Hashing) -> Set[bytes]:
@@ -93,11 +93,11 @@ class Changes(NamedTuple):
         return bool(self.names or self.logs or self.gone)
 
 
-def compared(new: Side, old: Side, prune: bool) -> Changes:
-    """Returns what the new side has otherwise than the old one."""
+def compared(new: Side, old: Side, prune: bool, skip: Patterns) -> Changes:
+    """Returns what the new side has otherwise than the old one, whose skipped names stay as they are."""
     names = {name: id for name, id in new.names.items() if old.names.get(name) != id}
     logs = {name: log for name, log in new.logs.items() if old.logs.get(name) != log}
-    gone = old.names.keys() - new.names.keys()
+    gone = {name for name in old.names.keys() - new.names.keys() if not skip.has(name)}
     return Changes(names, logs, gone if prune else set(), [] if prune else sorted(map(shown, gone)))
 
 
@@ -159,7 +159,7 @@ def words_of(name: str, text: str, example: str, places: Sequence[Tuple[str, str
     for place, what in places:
         parser.add_argument(place.split(".")[0].lower(), metavar=place, help=what)
     parser.add_argument("--sha256", action="store_true", help="the ids are of SHA-256; objects that exist show it without this")
-    skipped = "leave names out, with what they alone reach: one, a folder of them, or with * and ?; HEAD too. May be given again"
+    skipped = "leave names out, with what they alone reach, on both sides: one, a folder of them, or with * and ?; HEAD too. May be given again"
     parser.add_argument("--skip-refs", metavar="PATTERN", action="append", default=[], help=skipped)
     parser.add_argument("--no-logs", action="store_true", help="leave the logs of names out")
     parser.add_argument("--force", action="store_true", help="also move names that were moved on the other side alone")

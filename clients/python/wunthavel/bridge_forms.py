@@ -135,8 +135,10 @@ class Patterns:
         self._unused -= found
         return bool(found)
 
-    def test_use(self) -> None:
-        """Refuses patterns that left out no name."""
+    def test_use(self, others: Iterable[bytes]) -> None:
+        """Refuses patterns that left out no name so far, and none of these others."""
+        for name in others:
+            self.has(name)
         if self._unused:
             raise BridgeError(f"--skip-refs leaves out no name: {', '.join(sorted(self._unused))}")
 

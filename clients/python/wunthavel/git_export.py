@@ -28,13 +28,13 @@ class Export:
         self.problems: List[Problem] = []
         self.count = {"commit": 0, "tree": 0, "blob": 0, "tag": 0}
 
-    def read_names(self) -> None:
-        """Reads HEAD, names and logs, without those that are left out."""
+    def read_names(self, old: Side) -> None:
+        """Reads HEAD, names and logs, without those that are left out here or, where names are pruned, in git."""
         both = self.store.side()
-        self.side = both.without(self.skip, logs=not self.asked.no_logs)
+        self.side = both.without(self.skip.has, logs=not self.asked.no_logs)
         self.skipped = sorted(map(shown, both.names.keys() - self.side.names.keys()))
         self.head = None if self.skip.has(b"HEAD") else self.store.head()
-        self.skip.test_use()
+        self.skip.test_use(old.names if self.asked.prune else ())
         self.ids = set(self.store.ids())
 
     def test_names(self) -> None:
@@ -104,7 +104,7 @@ class Export:
 
     def compare(self, old: Side, where: str) -> Changes:
         """Returns what is to be written over what git has."""
-        now = compared(self.side, old, self.asked.prune)
+        now = compared(self.side, old, self.asked.prune, self.skip)
         test_changes(now, old, self._follows, self.asked, where)
         return now
 
@@ -203,10 +203,10 @@ def git_export(folder: str, dest: str, sha256: bool = False, engine: Optional[st
     work = Export(store, asked, bars or Bars(quiet=True))
     opened = _looked_at if asked.dry_run else destination
     with store.held(alone=False), opened(dest, store.hashing) as git:
-        work.read_names()
         old = Side(git.names()[0], git.logs()) if git.is_open else Side({}, {})
+        work.read_names(old)
         missing = work.missing(git)
-        now = compared(work.side, old, asked.prune)
+        now = compared(work.side, old, asked.prune, work.skip)
         differs = missing or now or work.head not in (None, git.head()[0] if git.is_open else b"")
         if git.is_open and is_history(store.path) and not differs:
             return work.summary(missing, now)

@@ -10,7 +10,7 @@ from array import array
 from typing import Any, Dict, Iterable, List, Optional, Sequence, Tuple
 
 from .bridge import Bars, Changes, Options, Side, compared, is_reached, options_of, report, test_changes, words_of
-from .bridge_folder import Store, is_history
+from .bridge_folder import Store, is_history, read_names
 from .bridge_forms import FOLDER, MAX_CONTENT, MAX_PATH, BridgeError, CannotHold, Patterns, Problem, collisions, commit_problem, git_commit_problem
 from .bridge_forms import is_full_name, log_problems, name_problem, read_commit, read_tag, read_tree, shown, tag_problem, tree_problem, with_titles
 from .bridge_git import Git, source
@@ -49,8 +49,8 @@ class Import:
         """Reads HEAD, names and logs, without those that are left out."""
         names, symbolic = self.git.names()
         logs = {name: with_titles(log) for name, log in self.git.logs().items()}
-        kept = Side({name: id for name, id in names.items() if not (self.asked.as_clone and name in symbolic)}, logs)
-        self.side = kept.without(self.skip, logs=not self.asked.no_logs)
+        of_clone = symbolic.keys() if self.asked.as_clone else ()
+        self.side = Side(names, logs).without(lambda name: self.skip.has(name) or name in of_clone, logs=not self.asked.no_logs)
         self.skipped = sorted(map(shown, names.keys() - self.side.names.keys()))
         self.problems += [Problem(shown(it), "git can't read the name") for it in self.git.broken if not self.skip.has(it)]
         for name in sorted(self.side.names):
@@ -62,7 +62,7 @@ class Import:
             self.problems += log_problems(name, self.side.logs.get(name, b""), self.hashing)
         self.problems += collisions(self.side.names)
         self.head = self._head()
-        self.skip.test_use()
+        self.skip.test_use(read_names(self.store.path) if self.asked.prune else ())
         if not self.asked.as_clone and os.path.exists(os.path.join(self.git.path, b"logs", b"HEAD")):
             self.notes.append("HEAD's own log is left out: a history has none")
 
@@ -82,7 +82,7 @@ class Import:
         if self.problems or self.asked.unreached or not is_history(self.store.path):
             return None
         with self.store.held(alone=False):
-            now = compared(self.side, self.store.side(), self.asked.prune)
+            now = compared(self.side, self.store.side(), self.asked.prune, self.skip)
             differs = now or self.head not in (None, self.store.head()) or self.store.is_stopped()
             return None if differs else now
 
@@ -230,7 +230,7 @@ class Import:
 
     def compare(self, old: Side) -> Changes:
         """Returns what is to be written over what the folder has."""
-        now = compared(self.side, old, self.asked.prune)
+        now = compared(self.side, old, self.asked.prune, self.skip)
         test_changes(now, old, self._follows, self.asked, self.store.folder)
         return now
 
