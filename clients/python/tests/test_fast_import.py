@@ -247,6 +247,18 @@ class Streams(Case):
         self.call(fast_import, self.store, "--from", self.source)
         self.assertEqual(engine(self.store, b"names\n").split(b"\n")[0], b"ok names 1 refs/heads/trunk")
 
+    def test_a_detached_head_moves_no_branch(self) -> None:
+        self.init()
+        self.commit("one", a="a")
+        first = self.commit("two", a="b")
+        git(self.source, "checkout", "-q", "--detach", "HEAD~1")
+        git(self.source, "worktree", "add", "-q", "--detach", os.path.join(self.room, "tree"), first)
+        self.commit("on no branch", a="c")
+        self.call(fast_import, self.store, "--from", self.source)
+        self.same()
+        self.store += "2"
+        self.whole()
+
     def test_a_source_that_is_not_there_leaves_nothing(self) -> None:
         for place in (self.source, self.room):
             self.assertFalse(self.call(fast_import, self.store, "--from", place, status=1)["done"])

@@ -26,7 +26,8 @@ from .protocol import ANY, NEW, Actor, Expected
 from .repo import Repo
 from .texts import shown
 
-EXPORT = ["fast-export", "--all", "--show-original-ids", "--signed-tags=verbatim", "--reencode=no", "--mark-tags", "--use-done-feature"]
+# All names, but not HEAD as --all has it: a detached one would move the branch that HEAD names here.
+EXPORT = ["fast-export", "--glob=refs/", "--show-original-ids", "--signed-tags=verbatim", "--reencode=no", "--mark-tags", "--use-done-feature"]
 OWN_NAME = b"refs/wunthavel/fast-import"
 # So many commands are on their way at most.
 AHEAD = 200
