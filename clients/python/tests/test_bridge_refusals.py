@@ -78,6 +78,29 @@ class Refusals(Case):
         self.assertIn("(refs/heads/signed): it has a signature (gpgsig) (and 29 more like it)", lines[0])
         self.assertEqual(self.shown().count("fast-import --new-ids"), 1)
 
+    def test_reasons_that_differ_in_their_own_case_are_equal(self) -> None:
+        for number in range(3):
+            bad = self.object("commit", commit_text(self.tree, author=b"O'Brien. <a@b> %d -0000" % number))
+            git(self.source, "update-ref", f"refs/heads/offset{number}", bad)
+            bad = self.object("commit", commit_text(self.tree, author=b" <a@b> %d +0000" % number))
+            git(self.source, "update-ref", f"refs/heads/nobody{number}", bad)
+            entry = b"100664 f%d\0" % number + bytes.fromhex(git(self.source, "rev-parse", "HEAD:a"))
+            git(self.source, "update-ref", f"refs/heads/mode{number}", self.object("commit", commit_text(self.object("tree", entry))))
+        self.assertEqual(len(self.problems()), 9)
+        lines = self.shown().splitlines()[1:]
+        self.assertEqual(len(lines), 3, lines)
+        for what in ("the offset -0000 is none (and 2 more like it)", "the name is empty (and 2 more", "which none has that git writes today (and 2 more"):
+            self.assertTrue(any(what in it for it in lines), (what, lines))
+
+    def test_a_partial_clone(self) -> None:
+        self.commit("two", a="b", b="c")
+        git(self.source, "config", "uploadpack.allowFilter", "true")
+        clone = os.path.join(self.room, "clone")
+        git(self.room, "clone", "-q", "--mirror", "--filter=blob:none", "file://" + self.source, clone)
+        git(clone, "config", "--unset", "remote.origin.promisor")
+        self.source = clone
+        self.assertEqual(len(self.shown().splitlines()), 2, self.shown())
+
     def test_a_plain_clone(self) -> None:
         git(self.source, "branch", "other")
         clone = os.path.join(self.room, "clone")
@@ -163,15 +186,29 @@ class Refusals(Case):
         zero = self.object("commit", commit_text(self.tree, message=b"title\n\nbo\0dy", parents=[self.first]))
         early = self.object("commit", commit_text(self.tree, author=b"Ada <a@b> 59 -0001", parents=[zero]))
         git(self.source, "update-ref", "refs/heads/main", early)
-        git(self.source, "tag", "-a", "-m", "m", "v")
+        odd = self.object("tree", b"100644 .GIT\0" + bytes.fromhex(git(self.source, "rev-parse", "HEAD:a")))
+        git(self.source, "update-ref", "refs/heads/odd", self.object("commit", commit_text(odd)))
+        tag = self.object("tag", b"object " + zero.encode() + b"\ntype commit\ntag early\ntagger Ada <a@b> 59 -0001\n\nm\n")
+        git(self.source, "update-ref", "refs/tags/early", tag)
+        with open(os.path.join(self.source, ".git/logs/refs/heads/odd"), "ab") as log:
+            log.write(b"%s %s A <a@b> 5 +0000\tm\n" % (b"1" * 40, zero.encode()))
+            log.write(b"%s %s A <a@b> 59 -0001\tm\n" % (zero.encode(), zero.encode()))
+        git(self.source, "tag", "-a", "-m", "m", "v", zero)
         with open(os.path.join(self.source, ".git/refs/heads/tagged"), "w", encoding="ascii") as it:
             it.write(git(self.source, "rev-parse", "v") + "\n")
         notes = [it for it in self.bring()["notes"] if "git-export" in it]
-        self.assertEqual(len(notes), 3)
-        for what in (f"a zero byte, as in commit {zero}", f"outside git's range, as in commit {early}", "a branch holds a tag, as in refs/heads/tagged"):
+        self.assertEqual(len(notes), 5)
+        for what in (
+            f"1 of these: its message holds a zero byte, as in commit {zero}",
+            f"3 of these: the seconds 59 with the offset -0001 are outside git's range, as in commit {early}",
+            "1 of these: a branch holds a tag, as in refs/heads/tagged",
+            f"1 of these: '.GIT' is .git in a path, as in tree {odd}",
+            f"1 of these: it names {'1' * 40}, which isn't there, as in log of refs/heads/odd, line 2",
+        ):
             self.assertTrue(any(what in it for it in notes), (what, notes))
         refused = {it["where"] for it in self.give(status=1)["cannot_hold"]}
-        self.assertLessEqual({f"commit {zero}", f"commit {early}", "refs/heads/tagged"}, refused)
+        lines = {f"log of refs/heads/odd, line {it}" for it in (2, 3)}
+        self.assertEqual(refused, {f"commit {zero}", f"commit {early}", f"tree {odd}", f"tag {tag}", "refs/heads/tagged", *lines})
 
     def test_what_reaches_an_object_that_git_cannot_hold(self) -> None:
         self.bring()

@@ -210,6 +210,10 @@ class Store:
         digits = id.hex().encode()
         return os.path.join(self._objects, digits[:2], digits[2:])
 
+    def has(self, id: bytes) -> bool:
+        """Returns whether there is such an object."""
+        return os.path.exists(self._place(id))
+
     def read(self, id: bytes) -> Tuple[str, bytes]:
         """Returns an object's kind and content."""
         text = read_file(self._place(id))

@@ -3,7 +3,7 @@ import hashlib
 import itertools
 import re
 from dataclasses import dataclass
-from typing import Dict, Iterable, Iterator, List, NamedTuple, Optional, Sequence, Tuple
+from typing import Callable, Dict, Iterable, Iterator, List, NamedTuple, Optional, Sequence, Tuple
 
 from .errors import HistoryError
 from .texts import shown as shown
@@ -60,6 +60,18 @@ class Problem(NamedTuple):
         return f"{self.where}{self.by and ' (' + self.by + ')'}: {self.why}"
 
 
+# What a reason says of its own case: what it quotes, ids and numbers.
+_OWN = re.compile(r"(?<!\w)'.*?'(?!\w)|\b[0-9a-f]{40,64}\b|\b[0-9][0-9,]*\b", re.S)
+
+
+def alike(problems: Iterable[Problem]) -> Iterable[List[Problem]]:
+    """Returns the problems whose reasons differ at most in what they say of their own case, together."""
+    found: Dict[Tuple[str, str], List[Problem]] = {}
+    for it in problems:
+        found.setdefault((_OWN.sub("", it.why), it.hint), []).append(it)
+    return found.values()
+
+
 class CannotHold(HistoryError):
     """One side can't hold what the other one has. Nothing was written."""
 
@@ -69,14 +81,11 @@ class CannotHold(HistoryError):
 
     def lines(self) -> Iterator[str]:
         """Returns the problems as a person reads them: those with one reason together, as their count and the first of them."""
-        alike: Dict[Tuple[str, str], List[Problem]] = {}
-        for it in self.problems:
-            alike.setdefault((it.why, it.hint), []).append(it)
-        for (_, hint), them in alike.items():
+        for them in alike(self.problems):
             more = f" (and {len(them) - 1:,} more like it)" if len(them) > 1 else ""
             yield f"  {them[0]}{more}"
-            if hint:
-                yield f"    {hint}"
+            if them[0].hint:
+                yield f"    {them[0].hint}"
 
 
 class BridgeError(HistoryError):
@@ -193,6 +202,11 @@ def git_commit_problem(commit: "Commit") -> Optional[str]:
     if b"\0" in commit.message:
         return "its message holds a zero byte"
     return git_time_problem(commit.author) or git_time_problem(commit.committer)
+
+
+def git_tag_problem(tag: "Tag") -> Optional[str]:
+    """Returns why git can't hold a tag that a history holds."""
+    return git_time_problem(tag.tagger or b"  0 +0000")
 
 
 # Objects.
@@ -363,6 +377,17 @@ def git_entry_problem(mode: bytes, name: bytes) -> Optional[str]:
     return None
 
 
+# What a name has that isn't one for git. Few names do, so names are first tested together.
+_SUSPECT = re.compile(rb"(?i)git|[\xe2\xef]|(?:\A|/)\.\.?(?:/|\Z)")
+
+
+def git_tree_problem(entries: Sequence[Tuple[bytes, bytes, bytes]]) -> Optional[str]:
+    """Returns why git can't hold a tree that a history holds."""
+    if not _SUSPECT.search(b"/".join(name for _, name, _ in entries)):
+        return None
+    return next(filter(None, (git_entry_problem(mode, name) for mode, name, _ in entries)), None)
+
+
 # Logs.
 
 
@@ -390,6 +415,15 @@ def log_problems(name: bytes, log: bytes, hashing: Hashing) -> Iterator[Problem]
         problem = _log_line_problem(line, hashing)
         if problem:
             yield Problem(f"log of {shown(name)}, line {number}", problem)
+
+
+def git_log_problems(name: bytes, log: bytes, is_there: Callable[[bytes], bool], hashing: Hashing) -> Iterator[Problem]:
+    """Names the lines of a history's log that git can't hold."""
+    for number, line in enumerate(log_lines(log), 1):
+        gone = [id.hex() for id in log_ids(line, hashing) if not is_there(id)]
+        why = f"it names {gone[0]}, which isn't there" if gone else git_time_problem(line.partition(b"\t")[0])
+        if why:
+            yield Problem(f"log of {shown(name)}, line {number}", why)
 
 
 def with_titles(log: bytes) -> bytes:

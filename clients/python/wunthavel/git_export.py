@@ -10,7 +10,7 @@ from typing import Any, Dict, Iterable, Iterator, List, Optional, Sequence, Tupl
 
 from .bridge import Bars, Changes, Options, Side, compared, is_reached, links_of, options_of, reached, report, test_changes, words_of
 from .bridge_folder import Store, held, is_history
-from .bridge_forms import BridgeError, CannotHold, Hashing, Patterns, Problem, git_commit_problem, git_entry_problem, git_time_problem, log_ids, log_lines
+from .bridge_forms import BridgeError, CannotHold, Hashing, Patterns, Problem, git_commit_problem, git_log_problems, git_tag_problem, git_tree_problem
 from .bridge_forms import read_commit, read_tag, read_tree, shown
 from .bridge_git import Git
 from .bridge_graph import BLOB, Graph
@@ -43,14 +43,7 @@ class Export:
             if name.startswith(b"refs/heads/") and self.store.kind_of(id)[0] == "tag":
                 self.problems.append(Problem(shown(name), f"the branch holds a tag, {id.hex()}"))
         for name, log in sorted(self.side.logs.items()):
-            self._test_log(name, log)
-
-    def _test_log(self, name: bytes, log: bytes) -> None:
-        for number, line in enumerate(log_lines(log), 1):
-            gone = [id.hex() for id in log_ids(line, self.hashing) if id not in self.ids]
-            why = f"it names {gone[0]}, which isn't there" if gone else git_time_problem(line.partition(b"\t")[0])
-            if why:
-                self.problems.append(Problem(f"log of {shown(name)}, line {number}", why))
+            self.problems += git_log_problems(name, log, self.ids.__contains__, self.hashing)
 
     # What is brought.
 
@@ -96,10 +89,9 @@ class Export:
 
     def _problem(self, kind: str, content: bytes) -> Optional[str]:
         if kind == "tree":
-            found = (git_entry_problem(mode, name) for mode, name, _ in read_tree(content, self.hashing))
-            return next(filter(None, found), None)
+            return git_tree_problem(read_tree(content, self.hashing))
         if kind == "tag":
-            return git_time_problem(read_tag(content, self.hashing).tagger or b"  0 +0000")
+            return git_tag_problem(read_tag(content, self.hashing))
         return git_commit_problem(read_commit(content, self.hashing)) if kind == "commit" else None
 
     def compare(self, old: Side, where: str) -> Changes:

@@ -11,8 +11,8 @@ from typing import Any, Dict, Iterable, List, Optional, Sequence, Tuple
 
 from .bridge import Bars, Changes, Options, Side, compared, is_reached, options_of, report, test_changes, words_of
 from .bridge_folder import Store, is_history, read_names
-from .bridge_forms import FOLDER, MAX_CONTENT, MAX_PATH, BridgeError, CannotHold, Patterns, Problem, collisions, commit_problem, git_commit_problem
-from .bridge_forms import is_full_name, log_problems, name_problem, read_commit, read_tag, read_tree, shown, tag_problem, tree_problem, with_titles
+from .bridge_forms import FOLDER, MAX_CONTENT, MAX_PATH, BridgeError, CannotHold, Patterns, Problem, alike, collisions, commit_problem
+from .bridge_forms import git_commit_problem, git_log_problems, git_tag_problem, git_tree_problem, is_full_name, log_problems, name_problem, read_commit, read_tag, read_tree, shown, tag_problem, tree_problem, with_titles
 from .bridge_git import Git, source
 from .bridge_graph import BLOB, COMMIT, KINDS, TAG, TREE, Graph
 from .bridge_trails import NOBODY, Trails
@@ -145,7 +145,10 @@ class Import:
             tag = read_tag(content, self.hashing)
             links, problem = self._named(COMMIT, [tag.target])
             self.graph.link(number, links, (0 for _ in links))
-            return tag_problem(tag) or problem
+            problem = tag_problem(tag) or problem
+            if not problem:
+                self._note(number, git_tag_problem(tag))
+            return problem
         commit = read_commit(content, self.hashing)
         if commit.tree == self.hashing.empty_tree and commit.tree not in self.graph.number:
             # Git knows it without keeping it.
@@ -153,10 +156,15 @@ class Import:
         trees, tree_fault = self._named(TREE, [commit.tree])
         parents, parent_fault = self._named(COMMIT, commit.parents)
         self.graph.link(number, trees + parents, (0 for _ in trees + parents))
-        odd = git_commit_problem(commit) if not commit_problem(commit) else None
-        if odd:
-            self._odd[number] = odd
-        return commit_problem(commit) or tree_fault or parent_fault
+        problem = commit_problem(commit) or tree_fault or parent_fault
+        if not problem:
+            self._note(number, git_commit_problem(commit))
+        return problem
+
+    def _note(self, number: int, why: Optional[str]) -> None:
+        """Keeps why git can't take the object back."""
+        if why:
+            self._odd[number] = why
 
     def _take_tree(self, number: int, content: bytes) -> Optional[str]:
         """Keeps what a folder has; returns why a history can't hold it."""
@@ -169,7 +177,10 @@ class Import:
             self.wanted[it] = 1
         self.longest[number] = max((len(name) for _, name, _ in files), default=0)
         self.graph.link(number, trees, (min(len(name), MAX_PATH + 1) for _, name, _ in folders))
-        return tree_problem(entries, self.hashing) or blob_fault or tree_fault
+        problem = tree_problem(entries, self.hashing) or blob_fault or tree_fault
+        if not problem:
+            self._note(number, git_tree_problem(entries))
+        return problem
 
     def _named(self, expected: int, ids: Sequence[bytes]) -> Tuple[List[int], Optional[str]]:
         """Returns the numbers of the objects that another one names as of this kind, and what is wrong with the first that isn't there as such."""
@@ -216,15 +227,20 @@ class Import:
 
     def _warn(self) -> None:
         """Notes what a history can hold and git can't take back."""
-        alike: Dict[str, List[str]] = {}
+        found = []
         for number, why in self._odd.items():
             if self.wanted[number] and not self.there[number]:
-                alike.setdefault(why, []).append(f"commit {self.graph.ids[number].hex()}")
+                found.append(Problem(f"{KINDS[self.graph.kinds[number]]} {self.graph.ids[number].hex()}", why))
         for name, id in self.side.names.items():
             if name.startswith(b"refs/heads/") and self.graph.kinds[self.graph.number[id]] == TAG:
-                alike.setdefault("a branch holds a tag", []).append(shown(name))
-        for why, them in sorted(alike.items()):
-            self.notes.append(f"git-export can't give back {len(them):,} of these: {why}, as in {them[0]}")
+                found.append(Problem(shown(name), "a branch holds a tag"))
+        for name, log in self.side.logs.items():
+            found += git_log_problems(name, log, self._is_there, self.hashing)
+        for them in alike(sorted(found)):
+            self.notes.append(f"git-export can't give back {len(them):,} of these: {them[0].why}, as in {them[0].where}")
+
+    def _is_there(self, id: bytes) -> bool:
+        return id in self.graph.number or self.store.has(id)
 
     # What is written.
 
