@@ -61,4 +61,6 @@ def main(folder: str, action: str, *words: str) -> None:
 
 
 if __name__ == "__main__":
+    if len(sys.argv) < 3:
+        sys.exit(__doc__)
     main(*sys.argv[1:])

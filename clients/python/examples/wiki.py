@@ -74,4 +74,6 @@ def main(folder: str, action: str, page: str, *rest: str) -> None:
 
 
 if __name__ == "__main__":
+    if len(sys.argv) < 4:
+        sys.exit(__doc__)
     main(*sys.argv[1:])

@@ -87,6 +87,14 @@ class Programs(WithRepo):
         self.runs("releases", "release", "2.0", "Second")
         self.assertEqual(self.runs("releases", "log")[:2], ["2.0: Second", "1.3: Release 3"])
 
+    def test_usage(self) -> None:
+        for name in ("wiki", "settings", "releases"):
+            path = os.path.join(PACKAGE, "examples", f"{name}.py")
+            done = subprocess.run([sys.executable, path], env={**os.environ, "PYTHONPATH": PACKAGE}, stderr=subprocess.PIPE, timeout=PATIENCE)
+            self.assertEqual(done.returncode, 1)
+            self.assertIn(f"    {name}.py FOLDER ", done.stderr.decode())
+            self.assertNotIn("Traceback", done.stderr.decode())
+
 
 class Readme(WithRepo):
     def setUp(self) -> None:
