@@ -1,11 +1,10 @@
 -- What recovery leaves at each path, and which changes of the names part it doesn't see.
-use Rattle.std.proofs.Common.{◌≡◌, ◌≢◌, refl, sym, ◌∙◌, ap, subst, Bool, true, false, cond, not, ◌&&◌, ◌||◌, ◌==◌, [], ◌∷◌, length, Option, Some, None, option_map, is_some, unwrap_or, length-append, arith, codes}
-use Rattle.std.specs.Prelude.{IsTrue, IsFalse}
+use Rattle.std.proofs.Common.{◌≡◌, refl, sym, ◌∙◌, ap, subst, Bool, true, false, cond, not, ◌&&◌, ◌||◌, ◌==◌, [], ◌∷◌, Option, Some, None, option_map, is_some, unwrap_or}
 use Rattle.std.specs.FinMap.{get, insert, remove, retain_keys}
 use Rattle.std.proofs.lemmas.Bool.{or_from}
-use Rattle.gix_ref_file.specs.Tree.{Tree, Node, file, folder, same_path, bytes_of, bytes_at, node_at, is_folder}
-use Rattle.gix_ref_file.specs.Changes.{may_hold_file, is_file_at}
-use Rattle.gix_ref_file.proofs.Trees.{same_tree, same_path_itself, one_path, get-inserted, get-removed, no_folder}
+use Rattle.gix_ref_file.specs.Tree.{Tree, Node, file, folder, same_path, bytes_of, is_folder}
+use Rattle.gix_ref_file.specs.Changes.{is_file_at}
+use Rattle.gix_ref_file.proofs.Trees.{same_tree, same_path_itself, one_path, get-inserted, get-removed}
 use Rattle.history_model.specs.Bytes.{Bytes, has_byte}
 use Rattle.history_model.specs.Forms.{is_name}
 use Rattle.history_model.specs.Logs.{whole_lines}
@@ -13,9 +12,9 @@ use Rattle.history_model.specs.Places.{file_at, packed_place, is_log_place, log_
 use Rattle.history_model.specs.NameStates.{NameState, Absent, is_absent, name_state, loose_state, packed_text_state}
 use Rattle.history_model.specs.Recovery.{is_deserted, recovered_files, recovered_names, recovered_node}
 use Rattle.gix_hash.specs.declared.kind.Kind.{Kind}
-use Rattle.history_model.proofs.NameLemmas.{name-lock, name-log, ends_after}
+use Rattle.history_model.proofs.NameLemmas.{name-lock, name-log}
 use Rattle.history_model.proofs.RecoveryLemmas.{get-recovered_files}
-use Rattle.history_recovery.specs.Clearing.{lock_place, is_over}
+use Rattle.history_recovery.specs.Clearing.{is_over}
 
 -- ---- what is left of a path
 
@@ -115,21 +114,6 @@ without_leftover kind t (b ∷ path) is over =
     one_differs kind t (remove t k) k None (over_aside (is_lock_file k) (is_log_place k) (is_absent (name_state kind t (log_name k))) over) (get-removed t k)
     (none_stays (is_over kind t k) k (get t k) over (file_no_folder (get t k) is))
 
--- ---- a lock file is written
-
-lock_over : (kind : Kind) (t : Tree) (k : Bytes) → is_lock_file k ≡ true → is_over kind t k ≡ true
-lock_over kind t k lock = ap (λ b. b || (is_log_place k && is_absent (name_state kind t (log_name k)))) lock
-
-plain_at : (t : Tree) (k : Bytes) → IsFalse (is_folder (node_at t k)) → is_folder (get t k) ≡ false
-plain_at t [] free = cc
-plain_at t (b ∷ k) free = free
-
-pub with_lock : (kind : Kind) (t : Tree) (k bytes : Bytes) → is_lock_file k ≡ true → IsTrue (may_hold_file t k) → recovered_names kind (insert t k (file bytes)) ≡ recovered_names kind t
-with_lock kind t k bytes lock may =
-    let over = lock_over kind t k lock in
-    one_differs kind t (insert t k (file bytes)) k (Some (file bytes)) (ap (λ b. b || is_log_place k) lock) (get-inserted t k (file bytes))
-    (none_stays (is_over kind t k) k (get t k) over (plain_at t k (no_folder t k may)) ∙ sym (none_stays (is_over kind t k) k (Some (file bytes)) over refl))
-
 -- ---- a log is cut
 
 has-whole_lines : (text : Bytes) → has_byte 10 (whole_lines text) ≡ has_byte 10 text
@@ -173,55 +157,3 @@ with_log kind t k text log stands =
     same : (over : Bool) → stays over k (Some (file text)) ≡ stays over k (Some (file (whole_lines text)))
     same true = refl
     same false = twice
-
--- ---- and the lock file renamed to it
-
-pub lock_is_lock : (path : Bytes) → is_lock_file (lock_place path) ≡ true
-lock_is_lock path = ends_after path (codes ".lock")
-
-pub lock_apart : (path : Bytes) → same_path (lock_place path) path ≡ false
-lock_apart path = by_test (same_path (lock_place path) path) refl
-  where
-    by_test : (same : Bool) → same_path (lock_place path) path ≡ same → same ≡ false
-    by_test false is = refl
-    by_test true is = absurd (omega (arith, ap length (one_path (lock_place path) path is), length-append path (codes ".lock")))
-
-pub not_its_lock : (path : Bytes) → path ≢ lock_place path
-not_its_lock path same = absurd (omega (arith, ap length same, length-append path (codes ".lock")))
-
-pub apart_turned : (p q : Bytes) → same_path p q ≡ false → same_path q p ≡ false
-apart_turned p q apart = by_test (same_path q p) refl
-  where
-    by_test : (same : Bool) → same_path q p ≡ same → same ≡ false
-    by_test false is = refl
-    by_test true is = cc (sym apart ∙ ap (λ x. same_path x q) (sym (one_path q p is)) ∙ same_path_itself q)
-
-pub renamed_is : (t : Tree) (lock log : Bytes) (n : Node) → same_path lock log ≡ false → insert (remove t lock) log n ≡ remove (insert t log n) lock
-renamed_is t lock log n apart = same_tree (insert (remove t lock) log n) (remove (insert t log n) lock) (λ q.
-    get-inserted (remove t lock) log n q
-    ∙ ap (cond (same_path q log) (Some n)) (get-removed t lock q)
-    ∙ swapped q (same_path q log) refl (same_path q lock) refl
-    ∙ ap (cond (same_path q lock) None) (sym (get-inserted t log n q))
-    ∙ sym (get-removed (insert t log n) lock q))
-  where
-    swapped : (q : Bytes) (a : Bool) → same_path q log ≡ a → (b : Bool) → same_path q lock ≡ b → cond (same_path q log) (Some n) (cond (same_path q lock) None (get t q)) ≡ cond (same_path q lock) None (cond (same_path q log) (Some n) (get t q))
-    swapped q false e b f = rw e refl
-    swapped q true e false f = rw (e, f) refl
-    swapped q true e true f = absurd (cc (sym apart ∙ ap (λ p. same_path p log) (sym (one_path q lock f)) ∙ e))
-
-pub with_renamed : (kind : Kind) (t : Tree) (log text : Bytes) → is_log_place log ≡ true → get t log ≡ Some (file text) → is_file_at t (lock_place log) ≡ true → bytes_at t (lock_place log) ≡ whole_lines text
-    → recovered_names kind (insert (remove t (lock_place log)) log (file (bytes_at t (lock_place log)))) ≡ recovered_names kind t
-with_renamed kind t log text is stands there holds =
-    let lock = lock_place log in
-    let cut = insert t log (file (whole_lines text)) in
-    ap (λ bs. recovered_names kind (insert (remove t lock) log (file bs))) holds
-    ∙ ap (recovered_names kind) (renamed_is t lock log (file (whole_lines text)) (lock_apart log))
-    ∙ without_leftover kind cut lock (stays_file (lock_place log) refl) (lock_over kind cut lock (lock_is_lock log))
-    ∙ with_log kind t log text is stands
-  where
-    stays_file : (q : Bytes) → q ≡ lock_place log → is_file_at (insert t log (file (whole_lines text))) q ≡ true
-    stays_file [] same = cc (ap (is_file_at t) same ∙ there)
-    stays_file (b ∷ q) same =
-        ap (λ o. is_some (bytes_of o)) (get-inserted t log (file (whole_lines text)) (b ∷ q)
-        ∙ ap (λ s. cond s (Some (file (whole_lines text))) (get t (b ∷ q))) (ap (λ p. same_path p log) same ∙ lock_apart log))
-        ∙ ap (is_file_at t) same ∙ there

@@ -1,13 +1,11 @@
 mod Absences
 mod Below
-mod Copies
 mod Cuts
 mod Ends
+mod FilePieces
 mod Folders
 mod Left
 mod Lengths
 mod Lines
-mod Locks
 mod Recoveries
-mod Rooms
 mod Stood

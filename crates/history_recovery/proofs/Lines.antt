@@ -5,7 +5,7 @@ use Rattle.std.proofs.lemmas.List.{take_at}
 use Rattle.gix_ref_file.specs.Tree.{part}
 use Rattle.history_model.specs.Bytes.{Bytes, has_byte}
 use Rattle.history_model.specs.Logs.{whole_lines}
-use Rattle.history_recovery.proofs.Copies.{take_more}
+use Rattle.history_recovery.proofs.FilePieces.{take_more}
 
 -- ---- what is after the front of a text
 

@@ -1,12 +1,11 @@
 -- The words of private contracts: what clearing and cutting make of the names part.
-use Rattle.std.specs.Prelude.{◌≡◌, ◌⊎◌, ℕ, suc, Bool, true, false, ◌&&◌, ◌||◌, ◌∷◌, ◌++◌, [], take, Some, None, option_map, unwrap_or, is_none, IsSome, IsTrue, codes}
-use Rattle.std.specs.FinMap.{get, insert}
-use Rattle.gix_ref_file.specs.Tree.{Tree, file, bytes_at}
+use Rattle.std.specs.Prelude.{◌≡◌, ◌⊎◌, ℕ, suc, Bool, true, false, ◌&&◌, ◌||◌, ◌∷◌, ◌++◌, [], None, option_map, unwrap_or, is_none, IsSome, IsTrue, codes}
+use Rattle.std.specs.FinMap.{get}
+use Rattle.gix_ref_file.specs.Tree.{Tree}
 use Rattle.gix_ref_format.specs.Lookup.{packed_hit}
 use Rattle.gix_ref_format.specs.PackedKept.{kept}
 use Rattle.history_model.specs.Bytes.{Bytes, begins}
 use Rattle.history_model.specs.Forms.{is_name}
-use Rattle.history_model.specs.Logs.{whole_lines}
 use Rattle.history_model.specs.Places.{file_at, packed_place, is_log_place, log_name, is_lock_file}
 use Rattle.history_model.specs.NameStates.{NameState, Absent, is_absent, name_state, packed_text_state}
 use Rattle.history_model.specs.Recovery.{recovered_names, recovered_node}
@@ -76,22 +75,6 @@ abbrev pub Cuts : Tree → Tree → Type 0
 Cuts old new =
     (path : Bytes) → (get new path ≡ get old path)
     ⊎ (get new path ≡ option_map (recovered_node path) (get old path))
-
--- the path at which a file is written before it is renamed to its place
-abbrev pub lock_place : Bytes → Bytes
-lock_place path = path ++ codes ".lock"
-
--- In a tree without leftovers the whole lines of a log end here.
-pub record MayCut (kind : Kind) (log : Bytes) (end : ℕ) (tree : Tree) : Type 0 where
-  pub kept : AreAllKept kind tree
-  pub is_log : IsTrue (is_log_place log)
-  pub text : Bytes
-  pub stands : file_at tree log ≡ Some text
-  pub lines : take end text ≡ whole_lines text
-
--- the log has only its whole lines, and everything else is as before
-abbrev pub Replaces : Bytes → Tree → Tree → Type 0
-Replaces log old new = new ≡ insert old log (file (whole_lines (bytes_at old log)))
 
 -- the most bytes of a file that are read at once
 abbrev pub max_piece : ℕ

@@ -1,4 +1,4 @@
-//! Cuts logs after their last line feeds: finds the last one, copies whole lines to a lock file, and renames it.
+//! Cuts logs after their last line feeds, in place: finds the last one, and shortens the file.
 ghost use Rattle.std.specs.Prelude.{◌≡◌, length, take, IfOk, IsErrOf, IsTrue};
 ghost use Rattle.gix_ref_file.specs.Calls.{Achieves, Finds, HasFault, Passes};
 ghost use Rattle.gix_ref_file.specs.Tree.{bytes_at};
@@ -6,34 +6,30 @@ ghost use Rattle.gix_ref_file.specs.declared.files.FileError.TheVariants.{Failed
 ghost use Rattle.history_model.specs.Places.{is_log_place};
 ghost use Rattle.history_model.specs.Logs as logs;
 ghost use Rattle.gix_hash.specs.declared.kind.Kind.{Kind};
-ghost use Rattle.history_recovery.specs.Clearing.{AreAllKept, AreCutBelow, Cuts, IsCut, IsLogFolder, MayCut, Replaces, lock_place};
+ghost use Rattle.history_recovery.specs.Clearing.{AreCutBelow, Cuts, IsCut, IsLogFolder};
 ghost use Rattle.history_recovery.specs.Recovering.{NamesAlike};
 ghost use Rattle.history_recovery.specs.Changes.{ChangesHonestly};
 
-use crate::pieces::{MAX_PIECE, copy_front, piece_at};
+use crate::pieces::{MAX_PIECE, piece_at};
 use gix_ref_file::paths::{is_deeper, joined};
 use gix_ref_file::{FileError, Files, Place};
-use std::alloc::{AllocError, Global};
+use std::alloc::Global;
 
-/// Cuts the logs below a folder of logs, in a tree without leftovers.
+/// Cuts the logs below a folder of logs.
 pub(crate) fn cut_below<F: Files>(
     alloc: Global,
     files: &mut F,
     folder: &[u8],
 ) -> Result<(), FileError>
     ensures keeps { ChangesHonestly F.Files Memory files.old files.new result }
-    ensures alike { (kind : Kind) → AreAllKept kind (F.history files.old).tree
-        → IsLogFolder folder.now
+    ensures alike { (kind : Kind) → IsLogFolder folder.now
         → Passes F.is_honest F.history files.old files.new (NamesAlike kind) }
-    ensures cuts { (kind : Kind) → AreAllKept kind (F.history files.old).tree
-        → IsLogFolder folder.now
+    ensures cuts { IsLogFolder folder.now
         → Achieves F.is_honest F.history files.old files.new result Cuts }
-    ensures cut { (kind : Kind) → AreAllKept kind (F.history files.old).tree
-        → IsLogFolder folder.now → Achieves F.is_honest F.history files.old files.new result
+    ensures cut { IsLogFolder folder.now
+        → Achieves F.is_honest F.history files.old files.new result
         (λ _ new. AreCutBelow folder.now new) }
-    ensures failed { (kind : Kind) → AreAllKept kind (F.history files.old).tree
-        → IsLogFolder folder.now
-        → F.is_honest files.old → IsErrOf result Failed
+    ensures failed { F.is_honest files.old → IsErrOf result Failed
         → HasFault F.failures F.reading_may_fail files.old files.new }
 {
     for name in &files.list(alloc, folder)? {
@@ -49,29 +45,24 @@ pub(crate) fn cut_below<F: Files>(
 // Cuts the log at a path, if there is a file.
 fn cut_log<F: Files>(alloc: Global, files: &mut F, log: &[u8]) -> Result<(), FileError>
     ensures keeps { ChangesHonestly F.Files Memory files.old files.new result }
-    ensures alike { (kind : Kind) → AreAllKept kind (F.history files.old).tree
-        → IsTrue (is_log_place log.now)
+    ensures alike { (kind : Kind) → IsTrue (is_log_place log.now)
         → Passes F.is_honest F.history files.old files.new (NamesAlike kind) }
-    ensures cuts { (kind : Kind) → AreAllKept kind (F.history files.old).tree
-        → IsTrue (is_log_place log.now)
+    ensures cuts { IsTrue (is_log_place log.now)
         → Achieves F.is_honest F.history files.old files.new result Cuts }
-    ensures cut { (kind : Kind) → AreAllKept kind (F.history files.old).tree
-        → IsTrue (is_log_place log.now)
+    ensures cut { IsTrue (is_log_place log.now)
         → Achieves F.is_honest F.history files.old files.new result
         (λ _ new. IsCut new log.now) }
-    ensures failed { (kind : Kind) → AreAllKept kind (F.history files.old).tree
-        → IsTrue (is_log_place log.now)
-        → F.is_honest files.old → IsErrOf result Failed
+    ensures failed { F.is_honest files.old → IsErrOf result Failed
         → HasFault F.failures F.reading_may_fail files.old files.new }
 {
     let Place::File(len) = files.kind_of(log)? else {
         return Ok(());
     };
     let end = end_of_lines(alloc, &*files, log, len)?;
-    if end == len {
+    if end >= len {
         return Ok(());
     }
-    replace_log(alloc, files, log, end)
+    files.shorten(alloc, log, end)
 }
 
 // Returns where the last line feed of a file of so many bytes ends, 0 if it has none. The file is
@@ -95,37 +86,6 @@ fn end_of_lines<F: Files>(alloc: Global, files: &F, path: &[u8], len: u64) -> Re
         end = start;
     }
     Ok(0)
-}
-
-// Replaces a log by its first bytes, which are its whole lines: copies them to its lock file, which
-// is made anew, and renames that.
-fn replace_log<F: Files>(
-    alloc: Global,
-    files: &mut F,
-    log: &[u8],
-    end: u64,
-) -> Result<(), FileError>
-    ensures keeps { ChangesHonestly F.Files Memory files.old files.new result }
-    ensures alike { (kind : Kind) → MayCut kind log.now end (F.history files.old).tree
-        → Passes F.is_honest F.history files.old files.new (NamesAlike kind) }
-    ensures replaced { (kind : Kind) → MayCut kind log.now end (F.history files.old).tree
-        → Achieves F.is_honest F.history files.old files.new result (Replaces log.now) }
-    ensures failed { (kind : Kind) → MayCut kind log.now end (F.history files.old).tree
-        → F.is_honest files.old → IsErrOf result Failed
-        → HasFault F.failures F.reading_may_fail files.old files.new }
-{
-    let lock = lock_path(alloc, log)?;
-    copy_front(alloc, files, log, &lock, end)?;
-    files.rename(alloc, &lock, log)
-}
-
-// Returns the path at which a file is written before it is renamed to its place.
-fn lock_path(alloc: Global, path: &[u8]) -> Result<Vec<u8>, AllocError>
-    ensures { IfOk result (λ lock. lock.items ≡ lock_place path.now) }
-{
-    let mut lock = Vec::from_slice(alloc, path)?;
-    lock.extend_from_slice(b".lock")?;
-    Ok(lock)
 }
 
 // Returns the text up to its last line feed.

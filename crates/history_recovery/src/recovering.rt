@@ -48,10 +48,10 @@ impl From<FileError> for RecoverError {
 ///
 /// Removes `objects/unfinished`, and then, in the names part, each lock file (a file whose path
 /// ends with `.lock`), and each log whose name reads as absent: by its own file, by `packed-refs`,
-/// and by the rules of names. A log that doesn't end with a line feed is cut after its last one, in
-/// its lock file, which is then renamed. Folders below `refs` and `logs` that have no file below
-/// them go too. Nothing else changes. Each folder is listed, `packed-refs` is read once, and logs
-/// are read and copied in pieces.
+/// and by the rules of names. Folders below `refs` and `logs` that have no file below them go too.
+/// Then a log that doesn't end with a line feed is shortened after its last one, in place, which
+/// takes no room. Nothing else changes. Each folder is listed, `packed-refs` is read once, and logs
+/// are read in pieces.
 ///
 /// It may be stopped at any call, and run again: what is left then recovers to the same. Returns
 /// `File` if a call of the files failed, and `Memory` if no memory is left.

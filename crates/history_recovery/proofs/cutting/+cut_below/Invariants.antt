@@ -4,7 +4,7 @@ use Rattle.std.specs.declared.alloc.Global.{Global}
 use Rattle.gix_hash.specs.declared.kind.Kind.{Kind}
 use Rattle.gix_ref_file.specs.Tree.{under}
 use Rattle.gix_ref_file.specs.History.{Adds}
-use Rattle.history_recovery.specs.Clearing.{AreAllKept, Cuts, IsLogFolder}
+use Rattle.history_recovery.specs.Clearing.{Cuts, IsLogFolder}
 use Rattle.history_recovery.specs.Recovering.{NamesAlike}
 use Rattle.history_recovery.proofs.Cuts.{AreCutFrom}
 use Rattle.history_recovery.proofs.cutting.+cut_below.Given as goal
@@ -19,9 +19,9 @@ invariant-loop-name g l =
     let history = g.F.Files.history in
     record {
       honest : g.F.Files.is_honest l.fn.files → g.F.Files.is_honest l.files;
-      alike : (kind : Kind) → AreAllKept kind (history l.fn.files).tree → IsLogFolder l.folder → g.F.Files.is_honest l.fn.files → Adds (NamesAlike kind (history l.fn.files).tree) (history l.fn.files) (history l.files);
-      cuts : (kind : Kind) → AreAllKept kind (history l.fn.files).tree → IsLogFolder l.folder → g.F.Files.is_honest l.fn.files → Cuts (history l.fn.files).tree (history l.files).tree;
-      cut : (kind : Kind) → AreAllKept kind (history l.fn.files).tree → IsLogFolder l.folder → g.F.Files.is_honest l.fn.files → (i : ℕ) → i < l.name-index
+      alike : (kind : Kind) → IsLogFolder l.folder → g.F.Files.is_honest l.fn.files → Adds (NamesAlike kind (history l.fn.files).tree) (history l.fn.files) (history l.files);
+      cuts : IsLogFolder l.folder → g.F.Files.is_honest l.fn.files → Cuts (history l.fn.files).tree (history l.files).tree;
+      cut : IsLogFolder l.folder → g.F.Files.is_honest l.fn.files → (i : ℕ) → i < l.name-index
           → AreCutFrom (history l.files).tree (under l.folder (get_or (map (λ (name : Vec ℕ Global). name.items) l.name-items) i []));
       later : g.F.Files.failures l.fn.files ≤ g.F.Files.failures l.files;
       unfailed : g.F.Files.failures l.files ≡ g.F.Files.failures l.fn.files;

@@ -2,7 +2,7 @@ use Rattle.std.proofs.Common.{◌≡◌, ◌∙◌, ap, arith, length}
 use Rattle.std.specs.Prelude.{min, unwrap_or}
 use Rattle.gix_ref_file.specs.Tree.{bytes_at, bytes_of, node_at}
 use Rattle.history_recovery.specs.Clearing.{max_piece}
-use Rattle.history_recovery.proofs.Copies.{counted, piece_filled}
+use Rattle.history_recovery.proofs.FilePieces.{counted, piece_filled}
 use Rattle.history_recovery.proofs.pieces.piece_at.Goals as goal
 
 pub returns-clause-bytes : goal.returns-clause-bytes

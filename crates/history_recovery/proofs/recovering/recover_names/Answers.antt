@@ -1,7 +1,7 @@
 use Rattle.std.proofs.Common.{refl}
 use Rattle.gix_ref_file.proofs.Histories.{adds_weaker}
 use Rattle.history_recovery.proofs.Cuts.{alike_now, then_alike}
-use Rattle.history_recovery.proofs.Ends.{all_kept_there, names_end, on_ok_both}
+use Rattle.history_recovery.proofs.Ends.{names_end, on_ok_both}
 use Rattle.history_recovery.proofs.Recoveries.{clears_now, later_risen}
 use Rattle.history_recovery.proofs.recovering.recover_names.Goals as goal
 
@@ -14,11 +14,9 @@ returns-clause-alike g c = λ honest.
     let kind = c.args.kind in
     let old = g.F.Files.history c.args.names.now in
     let mid = g.F.Files.history c.clear_below.new.files in
-    let tells = c.in_ok-packed.ensures.tells honest in
-    let kept = all_kept_there kind mid.tree (c.in_ok-clear_below.ensures.kept kind honest tells) in
     then_alike kind old mid (g.F.Files.history c.cut_below.new.files)
-    (adds_weaker old mid (c.clear_below.ensures.clears kind tells honest) (λ x clears. clears.alike))
-    (c.cut_below.ensures.alike kind kept refl (c.clear_below.ensures.keeps.honest honest))
+    (adds_weaker old mid (c.clear_below.ensures.clears kind (c.in_ok-packed.ensures.tells honest) honest) (λ x clears. clears.alike))
+    (c.cut_below.ensures.alike kind refl (c.clear_below.ensures.keeps.honest honest))
 
 pub returns-clause-recovered : goal.returns-clause-recovered
 returns-clause-recovered g c = λ honest.
@@ -29,16 +27,10 @@ returns-clause-recovered g c = λ honest.
     let honest_1 = c.clear_below.ensures.keeps.honest honest in
     let tells = c.in_ok-packed.ensures.tells honest in
     let below = c.in_ok-clear_below.ensures.kept kind honest tells in
-    let kept = all_kept_there kind mid.tree below in
     on_ok_both c.cut_below.result
-    (λ cuts cut. names_end kind old.tree mid.tree new.tree (clears_now kind old mid (c.clear_below.ensures.clears kind tells honest)) below (alike_now kind mid new (c.cut_below.ensures.alike kind kept refl honest_1)) cuts cut)
-    (c.cut_below.ensures.cuts kind kept refl honest_1) (c.cut_below.ensures.cut kind kept refl honest_1)
+    (λ cuts cut. names_end kind old.tree mid.tree new.tree (clears_now kind old mid (c.clear_below.ensures.clears kind tells honest)) below (alike_now kind mid new (c.cut_below.ensures.alike kind refl honest_1)) cuts cut)
+    (c.cut_below.ensures.cuts refl honest_1) (c.cut_below.ensures.cut refl honest_1)
 
 pub returns-clause-failed : goal.returns-clause-failed
 returns-clause-failed g c = λ honest failed.
-    let kind = c.args.kind in
-    let old = g.F.Files.history c.args.names.now in
-    let mid = g.F.Files.history c.clear_below.new.files in
-    let tells = c.in_ok-packed.ensures.tells honest in
-    let kept = all_kept_there kind mid.tree (c.in_ok-clear_below.ensures.kept kind honest tells) in
-    later_risen _ _ _ c.clear_below.ensures.keeps.later (c.cut_below.ensures.failed kind kept refl (c.clear_below.ensures.keeps.honest honest) failed)
+    later_risen _ _ _ c.clear_below.ensures.keeps.later (c.cut_below.ensures.failed (c.clear_below.ensures.keeps.honest honest) failed)
