@@ -19,7 +19,7 @@ _wunthavel() {
   case $command in
     '') offers='commands' flags='--color --colour --help --json --version -C -h' ;;
     'init') offers='folders' flags='--color --colour --help --json --sha256 -h' ;;
-    'save') offers='nothing' flags='--author --color --colour --help --json -h' ;;
+    'save') offers='nothing' flags='--author --color --colour --help --json --skip-large -h' ;;
     'restore') offers='names files' flags='--color --colour --force --help --json -h' ;;
     'log') offers='files' flags='--color --colour --help --json --number --word -h -n' ;;
     'show') offers='names' flags='--color --colour --help --json -h' ;;

@@ -364,6 +364,93 @@ class Processes(AtATerminal):
         self.assertTrue(shown.endswith(b"\r\x1b[K"))
 
 
+class Stops(AtATerminal):
+    def ended(self) -> int:
+        """Returns the number of a process that has ended."""
+        process = subprocess.Popen([sys.executable, "-c", ""])
+        process.wait()
+        return process.pid
+
+    def test_what_a_stopped_command_was_writing_goes(self) -> None:
+        self.begin()
+        self.write(f"notes/.wunthavel-{self.ended()}", "half")
+        self.write(f"notes/.wunthavel-{os.getpid()}", "being written")
+        self.does("status")
+        self.assertEqual(sorted(os.listdir("notes")), [f".wunthavel-{os.getpid()}", "a b"])
+
+    def test_a_switch_that_is_stopped_is_noticed_and_goes_on_or_back(self) -> None:
+        self.begin()
+        self.does("switch", "-c", "idea")
+        self.write("page", "other\n")
+        self.write("new", "of idea\n")
+        self.does("save", "Idea")
+        self.does("switch", "main")
+        for target, head in (("idea", "idea"), ("main", "main")):
+            for stop in range(3):
+                with self.subTest(target=target, stop=stop):
+                    written, real = [], WorkTree.write
+
+                    def write(tree: WorkTree, file: File, content: bytes) -> None:
+                        written.append(file.path)
+                        if len(written) > stop:
+                            raise KeyboardInterrupt
+                        real(tree, file, content)
+
+                    switch = mock.patch.object(wunthavel.Repo, "switch", side_effect=KeyboardInterrupt)
+                    with mock.patch.object(WorkTree, "write", write), switch:
+                        self.does("switch", "idea", status=130)
+                    self.assertIn("a switch to idea was stopped", self.does("save", "Mixed", status=1))
+                    self.does("switch", target)
+                    self.assertEqual(self.changed(), [])
+                    self.assertEqual([it["branch"] for it in self.told("branch") if it["head"]], [head])
+                    self.assertEqual(os.path.exists("new"), target == "idea")
+                    if target == "idea":
+                        self.does("switch", "main")
+
+    def test_a_switch_that_is_refused_leaves_no_sign(self) -> None:
+        self.begin()
+        self.does("branch", "idea")
+        self.write("page", "saved\n")
+        self.does("save", "More")
+        self.write("page", "not saved\n")
+        self.does("switch", "idea", status=1)
+        self.does("save", "Saved")
+
+
+class Everywhere(AtATerminal):
+    def test_a_working_folder_is_named_as_such(self) -> None:
+        self.begin()
+        self.assertEqual(self.does("verify", "."), "whole\n")
+        self.assertIn("objects are digested", self.does("verify", ".", "--for", "60"))
+        self.assertTrue(os.path.exists(os.path.join(".wunthavel", "store.verified")))
+        with tempfile.TemporaryDirectory() as room:
+            self.does("backup", ".", os.path.join(room, "copy"), "--quiet")
+            wunthavel.Repo.check(os.path.join(room, "copy"))
+            self.does("git-export", ".", os.path.join(room, "copy.git"), "--quiet")
+        self.assertIn("0 flaws", self.does("doctor", "."))
+
+    def test_common_words_anywhere(self) -> None:
+        self.begin()
+        for words in (["--json", "doctor", "."], ["doctor", ".", "--json"], ["--colour", "never", "--json", "doctor", "."], ["--json", "doctor", "--colour=always", "."]):
+            self.assertEqual(json.loads(self.does(*words))["flaws"], [])
+        for words in (["--json", "status"], ["status", "--json"], ["--json", "--colour", "always", "status"], ["--colour=always", "status", "--json"]):
+            self.assertEqual(self.does(*words), "")
+
+    def test_a_file_that_is_too_large(self) -> None:
+        self.begin()
+        with open("large", "wb") as it:
+            it.truncate(wire.LARGEST + 1)
+        self.write("small", "1")
+        with mock.patch.object(WorkTree, "id_of", side_effect=AssertionError("it was read")):
+            self.assertIn("large can't be saved", self.does("save", "All", status=1))
+        saved = self.told("save", "All but one", "--skip-large")[0]
+        self.assertEqual([it["path"] for it in saved["changes"]], ["small"])
+        # One that grew stays as it was saved.
+        with open("page", "wb") as it:
+            it.truncate(wire.LARGEST + 1)
+        self.assertIsNone(self.told("save", "Nothing", "--skip-large")[0]["commit"])
+
+
 class WorkTrees(AtATerminal):
     def test_the_nearest_history_is_found(self) -> None:
         self.begin()

@@ -10,6 +10,7 @@ from .bridge_forms import SHA1, SHA256, BridgeError, Hashing, read_tag, shown
 from .engine import act, patiently
 from .errors import Busy, Unfinished
 from .progress import Progress
+from .worktree import store_of
 
 # How many seconds to wait for another process that works in a folder.
 WAIT = 5.0
@@ -111,9 +112,9 @@ class Store:
     """The folder of a history."""
 
     def __init__(self, folder: str, sha256: bool, engine: Optional[str]) -> None:
-        self.folder, self.sha256, self.engine = folder, sha256, engine
+        self.folder, self.sha256, self.engine = store_of(folder), sha256, engine
         self.hashing: Hashing = SHA256 if sha256 else SHA1
-        self.path = os.fsencode(folder)
+        self.path = os.fsencode(self.folder)
         self._objects = os.path.join(self.path, b"objects")
         self._made: Set[bytes] = set()
 

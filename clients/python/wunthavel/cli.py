@@ -11,11 +11,11 @@ import signal
 import socket
 import subprocess
 import sys
-from typing import Any, Callable, Dict, Iterable, List, Optional, Sequence, Tuple, Union
+from typing import Any, Callable, Container, Dict, Iterable, List, Optional, Sequence, Set, Tuple, Union
 
 from . import protocol
 from .engine import act, engine_version, is_sha256
-from .errors import EngineError, HistoryError, ProtocolError, Refused, Syntax, Unfinished
+from .errors import EngineError, HistoryError, NothingMoves, ProtocolError, Refused, Syntax, Unfinished
 from .plans import Change, changes, checked, unified
 from .progress import Progress
 from .protocol import NEW, Commit, File, Names, raw, text
@@ -23,7 +23,7 @@ from .repo import Repo
 from .texts import shown
 from .verify import verify as digest
 from .wire import LARGEST
-from .worktree import IGNORED, OWN, Here, WorkError, WorkTree, refuse_path
+from .worktree import IGNORED, Here, WorkError, WorkTree, refuse_path, store_of
 
 # Commands with words of their own, each in its module.
 APART = {"serve": "serve", "git-export": "git_export", "git-import": "git_import", "fast-import": "fast_import", "mirror": "git_mirror", "html": "html", "backup": "backup", "doctor": "doctor", "web": "web"}
@@ -115,7 +115,18 @@ class Session:
     def __init__(self, asked: argparse.Namespace, out: Output) -> None:
         self.asked, self.out = asked, out
         self.tree = WorkTree.find()
+        self._tell_of_stop()
         self.repo = Repo(self.tree.store, sha256=self.tree.sha256)
+
+    def _tell_of_stop(self) -> None:
+        """Says that the files here are those of two branches, and saves them in none."""
+        branch = self.tree.stopped_switch
+        if branch is not None and self.asked.command != "switch":
+            name = shown(branch[len("refs/heads/") :])
+            told = f"a switch to {name} was stopped, and some files are its already: wunthavel switch {name} goes on, and a switch to another branch goes there"
+            if self.asked.command == "save":
+                raise WorkError(told)
+            print(f"wunthavel: {told}", file=sys.stderr)
 
     def tip(self) -> Optional[str]:
         """The commit that HEAD's branch is at, or `None` if it has none yet."""
@@ -125,9 +136,9 @@ class Session:
         """The files of a commit, or none without a word."""
         return self.repo.files(word) if word is not None else []
 
-    def present(self) -> Tuple[List[File], Dict[str, Here]]:
-        """The files on disk, ascending, with the ids that their contents have."""
-        here = {it.path: it for it in self.tree.files()}
+    def present(self, without: Container[str] = ()) -> Tuple[List[File], Dict[str, Here]]:
+        """The files on disk but those at these paths, ascending, with the ids that their contents have."""
+        here = {it.path: it for it in self.tree.files() if it.path not in without}
         with Progress("reading files", len(here)) as bar:
             files = [File(it.kind, self.tree.id_of(it, self.repo.sha256), it.path) for it in bar.each(here[one] for one in sorted(here, key=raw))]
         self.tree.remember()
@@ -151,8 +162,9 @@ def init(asked: argparse.Namespace, out: Output) -> int:
 def save(at: Session) -> int:
     """Saves what changed."""
     tip = at.tip()
-    present, here = at.present()
-    found = list(changes(at.saved(tip), present))
+    large = _large(at)
+    present, here = at.present(large)
+    found = [it for it in changes(at.saved(tip), present) if it.path not in large]
     if not found:
         at.out.say("nothing has changed")
         at.out.tell({"commit": None, "changes": []})
@@ -169,11 +181,23 @@ def save(at: Session) -> int:
     return 0
 
 
+def _large(at: Session) -> Set[str]:
+    """Returns the files that are too large to be saved, which are left out, and named, if that is wanted. Nothing is read before."""
+    large = sorted((it.path for it in at.tree.files() if it.size > LARGEST), key=raw)
+    if large and not at.asked.skip_large:
+        raise WorkError(f"{_few(large)} can't be saved: a file has {LARGEST:,} bytes at most (--skip-large leaves it out, and {IGNORED} can name it)")
+    for it in large:
+        print(f"wunthavel: {shown(it)} is too large, and left out", file=sys.stderr)
+    return set(large)
+
+
+def _few(paths: Sequence[str]) -> str:
+    return ", ".join(map(shown, paths[:5])) + (", .." if len(paths) > 5 else "")
+
+
 def _put(at: Session, here: Here, file: File) -> bytes:
     """Returns the edit that saves a file."""
     refuse_path(here.path, "saved")
-    if here.size > LARGEST:
-        raise WorkError(f"{shown(here.path)} isn't saved: a file has {LARGEST:,} bytes at most ({IGNORED} can name it)")
     return protocol.put(here.path, at.tree.read(here), file.kind)
 
 
@@ -301,6 +325,13 @@ def _is_below(path: str, folder: str) -> bool:
 
 def _restore(at: Session, saved: Dict[str, File], wanted: Dict[str, File], force: bool) -> Tuple[List[str], List[str]]:
     """Writes the wanted files, and removes the saved ones that aren't wanted and what is in the way; refuses to lose what was never saved."""
+    written, removed = _needed(at, saved, wanted, force)
+    _write(at, wanted, written, removed)
+    return written, removed
+
+
+def _needed(at: Session, saved: Dict[str, File], wanted: Dict[str, File], force: bool) -> Tuple[List[str], List[str]]:
+    """Returns which files are to be written, and which removed; refuses to lose what was never saved."""
     for it in wanted:
         refuse_path(it)
     here = {it.path: it for it in at.tree.at(saved.keys() | wanted.keys())}
@@ -308,6 +339,11 @@ def _restore(at: Session, saved: Dict[str, File], wanted: Dict[str, File], force
     written = [it for it in wanted if present.get(it) != wanted[it]]
     removed = sorted((it for it in present if it not in wanted), key=raw)
     _refuse_loss(at, [present[it] for it in (*written, *removed) if it in present], saved, force)
+    return written, removed
+
+
+def _write(at: Session, wanted: Dict[str, File], written: List[str], removed: List[str]) -> None:
+    """Writes and removes files."""
     for it in removed:
         at.tree.remove(it)
     word = at.repo.resolve(at.asked.word)
@@ -317,7 +353,6 @@ def _restore(at: Session, saved: Dict[str, File], wanted: Dict[str, File], force
         for path, content in zip(written, bar.each(contents)):
             at.tree.write(wanted[path], checked(content, path).data)
     at.tree.remember()
-    return written, removed
 
 
 def _refuse_loss(at: Session, files: List[File], saved: Dict[str, File], force: bool) -> None:
@@ -325,10 +360,9 @@ def _refuse_loss(at: Session, files: List[File], saved: Dict[str, File], force: 
     if not force:
         asked = [it for it in files if it != saved.get(it.path)]
         replies = at.repo.results(protocol.show(it.id) for it in asked)
-        lost = [shown(it.path) for it, reply in zip(asked, replies) if isinstance(reply, Refused) and reply.cause == "UnknownWord"]
+        lost = [it.path for it, reply in zip(asked, replies) if isinstance(reply, Refused) and reply.cause == "UnknownWord"]
         if lost:
-            names = ", ".join(lost[:5]) + (", .." if len(lost) > 5 else "")
-            raise WorkError(f"these have changes that aren't saved: {names} (save them, or add --force)")
+            raise WorkError(f"these have changes that aren't saved: {_few(lost)} (save them, or add --force)")
 
 
 def branch(at: Session) -> int:
@@ -359,14 +393,29 @@ def switch(at: Session) -> int:
     if at.asked.create:
         if tip is not None:
             at.repo.move([(full, NEW, "HEAD")], "branch", actor=author(None))
+        at.repo.switch(full)
     else:
-        at.asked.word = full
-        saved = {it.path: it for it in at.saved(tip)}
-        _restore(at, saved, {it.path: it for it in at.repo.files(full)}, at.asked.force)
-    at.repo.switch(full)
+        _go_over(at, full, tip)
     at.out.say(f"this is {shown(at.asked.name)} now")
     at.out.tell({"branch": at.asked.name})
     return 0
+
+
+def _go_over(at: Session, full: str, tip: Optional[str]) -> None:
+    """Makes the files here those of a branch, and then HEAD name it. Until then a file says so, since a stop leaves files of both branches."""
+    at.asked.word = full
+    # What a switch that was stopped wrote is saved in its branch, so it can go.
+    stopped, is_there = at.tree.stopped_switch, at.repo.head == full
+    if is_there and stopped is None:
+        raise NothingMoves("NothingMoves", values=[full])
+    before = at.repo.resolve(stopped) if stopped else None
+    saved = {it.path: it for word in (before, tip) for it in at.saved(word)}
+    wanted = {it.path: it for it in at.repo.files(full)}
+    written, removed = _needed(at, saved, wanted, at.asked.force)
+    with at.tree.switching(full):
+        _write(at, wanted, written, removed)
+        if not is_there:
+            at.repo.switch(full)
 
 
 def tag(at: Session) -> int:
@@ -406,8 +455,8 @@ def verify(asked: argparse.Namespace, out: Output) -> int:
     if asked.seconds is None:
         return _act("check", "whole", asked, out)
     tree = None if asked.folder else WorkTree.find()
-    beside = asked.socket or (os.path.join(tree.folder, OWN, "store") if tree else asked.folder.rstrip("/"))
-    found = digest(tree.store if tree else asked.folder, asked.seconds, beside + ".verified")
+    beside = asked.socket or (tree.store if tree else store_of(asked.folder).rstrip("/"))
+    found = digest(tree.store if tree else store_of(asked.folder), asked.seconds, beside + ".verified")
     for it in found.damaged:
         out.say(out.paint("red", str(it)))
     out.say(f"{found.objects:,} objects are digested" + (", and that is all" if found.is_whole else ""))
@@ -424,16 +473,26 @@ def _act(action: str, done: str, asked: argparse.Namespace, out: Output) -> int:
     folder = getattr(asked, "folder", None)
     tree = None if folder else WorkTree.find()
     with Progress(action) as bar:
-        act(action, tree.store if tree else folder, tree.sha256 if tree else is_sha256(folder), waiting=lambda: bar.step(0))
+        act(action, tree.store if tree else store_of(folder), tree.sha256 if tree else is_sha256(store_of(folder)), waiting=lambda: bar.step(0))
     out.say(done)
     out.tell({done: True})
     return 0
 
 
-def _parser() -> argparse.ArgumentParser:
-    common = argparse.ArgumentParser(add_help=False)
+def _colour() -> argparse.ArgumentParser:
+    colour = argparse.ArgumentParser(add_help=False, allow_abbrev=False)
+    colour.add_argument("--colour", "--color", choices=["auto", "always", "never"], default=argparse.SUPPRESS, help="when to use colours")
+    return colour
+
+
+def _common() -> argparse.ArgumentParser:
+    common = argparse.ArgumentParser(add_help=False, allow_abbrev=False, parents=[_colour()])
     common.add_argument("--json", action="store_true", default=argparse.SUPPRESS, help="write JSON, a value a line")
-    common.add_argument("--colour", "--color", choices=["auto", "always", "never"], default=argparse.SUPPRESS, help="when to use colours")
+    return common
+
+
+def _parser() -> argparse.ArgumentParser:
+    common = _common()
     parser = argparse.ArgumentParser("wunthavel", description=ABOUT, parents=[common], formatter_class=argparse.RawDescriptionHelpFormatter)
     parser.add_argument("--version", action="version", version=f"wunthavel {_version()}")
     parser.add_argument("-C", dest="directory", metavar="DIR", help="work as if started in this directory")
@@ -444,6 +503,7 @@ def _parser() -> argparse.ArgumentParser:
 Adder = Callable[..., None]
 WORD = (["word"], {"nargs": "?", "default": "HEAD", "metavar": "WORD", "help": "a name or an id (HEAD by default)"})
 AUTHOR = (["--author"], {"metavar": "'NAME <EMAIL>'", "help": "who saves this"})
+LARGE = (["--skip-large"], {"action": "store_true", "help": f"leave out files of over {LARGEST:,} bytes, which are named"})
 FORCE = (["--force"], {"action": "store_true", "help": "lose changes that aren't saved"})
 DELETE = (["-d", "--delete"], {"metavar": "NAME", "help": "delete this one"})
 NAME = (["name"], {"nargs": "?", "metavar": "NAME", "help": "make this one"})
@@ -468,7 +528,7 @@ def _add_commands(commands: Any, common: argparse.ArgumentParser) -> None:
 def _add_saving(add: Adder) -> None:
     folder = (["folder"], {"nargs": "?", "default": ".", "metavar": "FOLDER"})
     add("init", init, "wunthavel init notes", folder, (["--sha256"], {"action": "store_true", "help": "ids of SHA-256"}))
-    add("save", save, "wunthavel save 'First pages'", (["message"], {"metavar": "MESSAGE", "help": "what was done"}), AUTHOR)
+    add("save", save, "wunthavel save 'First pages'", (["message"], {"metavar": "MESSAGE", "help": "what was done"}), AUTHOR, LARGE)
     restored = (["path"], {"nargs": "?", "metavar": "PATH", "help": "this file, or what is in this folder"})
     add("restore", restore, "wunthavel restore HEAD notes", (["word"], {"metavar": "WORD"}), restored, FORCE)
 
@@ -527,11 +587,13 @@ def _count(word: str) -> int:
 def main(argv: Optional[Sequence[str]] = None) -> int:
     """Does what the words say, and returns the exit status: 0, 1 if it can't be done, 2 if the words are none."""
     words = list(sys.argv[1:] if argv is None else argv)
+    common, _ = _common().parse_known_args(words)
     at = 0
-    while at < len(words) and words[at] in ("--json", "-C"):
-        at += 2 if words[at] == "-C" else 1
+    while at < len(words) and words[at].startswith("-"):
+        at += 2 if words[at] in ("-C", "--colour", "--color") else 1
     if at < len(words) and words[at] in APART:
-        return _guarded(lambda: _run_apart(words[:at], words[at], words[at + 1 :]), "--json" in words)
+        _, rest = _colour().parse_known_args(words[at + 1 :])
+        return _guarded(lambda: _run_apart(words[:at], words[at], rest), hasattr(common, "json"))
     parser = _parser()
     asked = parser.parse_args(words)
     if asked.command is None:

@@ -9,12 +9,13 @@ from typing import Any, Dict, Optional, Sequence
 from .bridge import Bars, add_common_words, report
 from .bridge_git import Git
 from .git_export import git_export
+from .worktree import store_of
 
 
 def mirror(folder: str, remote: str, sha256: bool = False, engine: Optional[str] = None, bars: Optional[Bars] = None) -> Dict[str, Any]:
     """Exports a history into `FOLDER.mirror.git`, has git push its names to the remote, and returns a summary."""
     bars = bars or Bars(quiet=True)
-    between = folder.rstrip("/") + ".mirror.git"
+    between = store_of(folder).rstrip("/") + ".mirror.git"
     summary = git_export(folder, between, sha256, engine, bars, no_logs=True, force=True, prune=True)
     git = Git(between)
     git.open()

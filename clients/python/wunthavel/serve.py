@@ -21,6 +21,7 @@ from .errors import HistoryError
 from .keeper import Keeper, ServeError
 from .server import Limits, Server
 from .transport import tcp_address
+from .worktree import store_of
 
 
 def say(text: str) -> None:
@@ -179,6 +180,7 @@ async def _listen(asked: argparse.Namespace, server: Server, report: Callable[[s
 
 
 def _run(asked: argparse.Namespace) -> Dict[str, Any]:
+    asked.folder = store_of(asked.folder)
     if not os.path.isdir(asked.folder):
         raise ServeError(f"there is no folder {asked.folder}")
     lock = None if asked.socket == "-" else lock_beside(asked.socket, asked.limit_folder)

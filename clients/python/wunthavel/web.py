@@ -14,7 +14,7 @@ import threading
 from typing import Any, Callable, Dict, Iterator, Optional, Sequence
 from urllib.parse import parse_qs, unquote_to_bytes, urlsplit
 
-from .errors import Busy, EngineError, Fault, HistoryError
+from .errors import Busy, EngineError, Fault, HistoryError, Unfinished
 from .markup import element
 from .pages import Page, Pages, document
 from .repo import Repo
@@ -105,7 +105,7 @@ class Handler(http.server.BaseHTTPRequestHandler):
                 self._answer(Pages(repo, self.server.reading.folder), asked.path, parse_qs(asked.query, errors="surrogateescape"))
         except Busy as error:
             self._page(503, Page("Another process works in the folder", element("p", str(error))))
-        except (Fault, EngineError, OSError) as error:
+        except (Fault, EngineError, Unfinished, OSError) as error:
             self._page(503, Page("The history can't be read", element("p", str(error))))
         except (HistoryError, ValueError) as error:
             self._page(404, Page("Nothing is here", element("p", str(error))))

@@ -143,7 +143,7 @@ _COMMANDS = {
 # What a server alone takes: a first line that asks for notes, a command that waits for a change, and two between which there is none.
 GREETING = b"notes"
 _WAIT = re.compile(rb"wait [^ \n]+ (?:0|[1-9][0-9]{0,18}) (?:0|[1-9][0-9]{0,6})")
-_HOLD = re.compile(rb"hold (?:0|[1-9][0-9]{0,5})|release")
+_HOLD = re.compile(rb"hold (?:0|[1-9][0-9]{0,4})|release")
 # How the commands begin that a server doesn't pass on.
 OWN = (b"wait ", b"hold ", b"release")
 

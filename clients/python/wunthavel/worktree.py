@@ -4,6 +4,7 @@ import fnmatch
 import hashlib
 import json
 import os
+import re
 import stat
 import tempfile
 import time
@@ -34,6 +35,16 @@ def store_of(folder: str) -> str:
     """Returns the folder of a history: of one that a person works in the one in it, and else the folder itself."""
     inside = os.path.join(folder, OWN, "store")
     return inside if os.path.isdir(inside) else folder
+
+
+def _runs(pid: int) -> bool:
+    try:
+        os.kill(pid, 0)
+    except ProcessLookupError:
+        return False
+    except OSError:
+        return True
+    return True
 
 
 @dataclass(frozen=True)
@@ -76,6 +87,22 @@ class WorkTree:
             folder = above
         return cls(folder)
 
+    @contextlib.contextmanager
+    def switching(self, branch: str) -> Iterator[None]:
+        """Keeps that the files are being made those of a branch, until HEAD names it. A stop leaves that to be seen."""
+        place = os.path.join(self.folder, OWN, "switching")
+        with open(place, "w", encoding="utf-8", errors="surrogateescape") as it:
+            it.write(branch)
+        yield
+        os.unlink(place)
+
+    @property
+    def stopped_switch(self) -> Optional[str]:
+        """The branch whose files were being made here when a switch was stopped."""
+        with contextlib.suppress(OSError), open(os.path.join(self.folder, OWN, "switching"), encoding="utf-8", errors="surrogateescape") as it:
+            return it.read()
+        return None
+
     def place(self, path: str) -> bytes:
         """Returns a path's place on disk."""
         return os.path.join(os.fsencode(self.folder), raw(path))
@@ -100,9 +127,12 @@ class WorkTree:
             for it in entries:
                 name = text(it.name)
                 path = below + it.name
-                if name.lower() in (".git", OWN) or name.startswith(OWN + "-") or any(fnmatch.fnmatch(name, one) or fnmatch.fnmatch(text(path), one) for one in patterns):
+                if re.fullmatch(OWN + "-[0-9]+", name) and not _runs(int(name[len(OWN) + 1 :])):
+                    # A command that was stopped was writing it.
+                    os.unlink(it.path)
+                elif name.lower() in (".git", OWN) or name.startswith(OWN + "-") or any(fnmatch.fnmatch(name, one) or fnmatch.fnmatch(text(path), one) for one in patterns):
                     continue
-                if it.is_dir(follow_symlinks=False):
+                elif it.is_dir(follow_symlinks=False):
                     yield from self._below(path + b"/", patterns)
                 elif it.is_symlink() or it.is_file(follow_symlinks=False):
                     yield self._here(text(path), it.stat(follow_symlinks=False))
