@@ -4,7 +4,7 @@ import io
 import os
 import sys
 import unittest
-from typing import Any, Dict, List, Tuple
+from typing import Any, Dict, List, Optional, Tuple
 from unittest import mock
 
 sys.path.insert(0, os.path.dirname(os.path.dirname(os.path.abspath(__file__))))
@@ -122,6 +122,30 @@ class Percentages(Case):
         with mock.patch.object(Progress, "show", lambda bar, *it: seen.update({it[0]: it[1:]})):
             self.give()
         self.assertEqual({it: seen[it] for it in ("receiving objects", "checking objects")}, {"receiving objects": (120, 120), "checking objects": (120, 120)})
+
+    def shown(self, count: int, total: Optional[int]) -> List[str]:
+        """Returns what a terminal shows of a work of three seconds."""
+        stream = mock.Mock(isatty=lambda: True)
+        with mock.patch("time.monotonic", side_effect=[0.0, 3.0]), Progress("work", total, stream) as bar:
+            bar.step(count)
+        return [it.args[0].strip("\r").replace("\x1b[K", "") for it in stream.write.call_args_list]
+
+    def test_what_a_terminal_shows(self) -> None:
+        self.assertEqual(self.shown(1500, 3000), ["work [###############               ]  50% 1,500 of 3,000, 3 s", ""])
+        self.assertEqual(self.shown(1500, None), ["work 1,500, 3 s", ""])
+        self.assertEqual(self.shown(0, None), ["work, 3 s", ""])
+
+    def test_what_is_read_tested_and_written_shows_its_part(self) -> None:
+        self.init()
+        for number in range(3):
+            self.commit(f"change {number}", a=str(number))
+        seen: Dict[str, Tuple[int, Optional[int]]] = {}
+        with mock.patch.object(Progress, "close", lambda bar: seen.update({bar.label: (bar.count, bar.total)})):
+            self.bring("--unreached")
+            parts = {"listing objects": (9, 9), "reading commits and tags": (3, 3), "reading folders": (3, 3), "writing objects": (9, 9)}
+            self.assertEqual(seen, {**parts, "checking the folder": (0, None)})
+            self.give()
+        self.assertEqual(seen["reading objects"], (9, 9))
 
     def test_it_is_no_complaint(self) -> None:
         said: List[str] = []

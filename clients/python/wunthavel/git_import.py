@@ -131,7 +131,7 @@ class Import:
     def _read(self, numbers: Sequence[int], title: str) -> None:
         small = [it for it in numbers if it not in self._large]
         contents = self.git.read(self.graph.ids[it] for it in small)
-        for number, (_, kind, content) in zip(small, self.bars.over(contents, title, len(small))):
+        for (_, kind, content), number in zip(self.bars.over(contents, title, len(small)), small):
             try:
                 problem = self._take_tree(number, content) if kind == "tree" else self._take(number, kind, content)
             except ValueError as error:

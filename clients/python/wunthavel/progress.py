@@ -43,13 +43,12 @@ class Progress:
             self.step()
 
     def _draw(self, now: float) -> None:
-        done = f"{self.count:,}"
-        bar = ""
+        # Nothing is counted of what another program does without a word.
+        done = f" {self.count:,}" if self.count else ""
         if self.total:
             part = min(self.count / self.total, 1.0)
-            bar = f" [{'#' * int(part * 30):30}] {part:4.0%}"
-            done += f" of {self.total:,}"
-        self._stream.write(f"\r{self.label}{bar} {done}, {now - self._begun:.0f} s\x1b[K")
+            done = f" [{'#' * int(part * 30):30}] {part:4.0%} {self.count:,} of {self.total:,}"
+        self._stream.write(f"\r{self.label}{done}, {now - self._begun:.0f} s\x1b[K")
         self._stream.flush()
         self._drawn = True
 
