@@ -9,7 +9,7 @@ from tests.support import ADA
 
 
 def load_tests(loader: unittest.TestLoader, tests: unittest.TestSuite, pattern: object) -> unittest.TestSuite:
-    for it in ("errors", "progress", "protocol", "texts"):
+    for it in ("errors", "markup", "progress", "protocol", "texts"):
         tests.addTests(doctest.DocTestSuite(f"wunthavel.{it}"))
     return tests
 
