@@ -4,6 +4,7 @@ import io
 import os
 import sys
 import unittest
+import zlib
 from typing import Any, Dict, List
 from unittest import mock
 
@@ -154,6 +155,16 @@ class Refusals(Case):
         with open(os.path.join(self.source, ".git/logs/refs/heads/main"), "ab") as it:
             it.write(b"%s %s A <a@b> %s +0000\tm\n" % (self.first.encode(), self.first.encode(), b"9" * 5000))
         self.assertEqual([it["where"] for it in self.problems()], ["log of refs/heads/main, line 2"])
+
+    def test_a_damaged_content(self) -> None:
+        blob = git(self.source, "rev-parse", "HEAD:d/x")
+        path = os.path.join(self.source, ".git/objects", blob[:2], blob[2:])
+        os.chmod(path, 0o644)
+        with open(path, "wb") as it:
+            it.write(zlib.compress(b"blob 1\0y"))
+        said = self.bring(status=1)["error"]
+        self.assertIn(f"the object {blob} is damaged ('d/x' of commit {self.first}, refs/heads/main)", said)
+        self.assertEqual(engine(self.store, b"names\n").split()[2], b"0")
 
     def test_an_object_of_no_bytes(self) -> None:
         blob = git(self.source, "rev-parse", "HEAD:a")

@@ -92,6 +92,14 @@ class BridgeError(HistoryError):
     """The bridge can't go on, for the reason that its text says."""
 
 
+class Damaged(BridgeError):
+    """An object of a git repository has other bytes than its id says."""
+
+    def __init__(self, folder: str, id: bytes) -> None:
+        self.id = id
+        super().__init__(f"{folder}: the object {id.hex()} is damaged")
+
+
 # Names.
 
 

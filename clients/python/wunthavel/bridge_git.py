@@ -12,7 +12,7 @@ from typing import IO, Dict, Iterable, Iterator, List, Tuple
 
 from .bridge import Bars
 from .bridge_folder import files_below, is_history, read_logs, remove_empty_folders
-from .bridge_forms import SHA1, SHA256, BridgeError, Hashing, shown
+from .bridge_forms import SHA1, SHA256, BridgeError, Damaged, Hashing, shown
 from .errors import HistoryError
 from .progress import Progress
 
@@ -241,7 +241,7 @@ class Git:
                 raise BridgeError(f"git cat-file in {self.folder}: {process.stderr.read().decode(errors='replace').strip()}")
 
     def read(self, ids: Iterable[bytes]) -> Iterator[Tuple[bytes, str, bytes]]:
-        """Returns id, kind and content of these objects, in their order. A BridgeError names an object whose bytes have another id."""
+        """Returns id, kind and content of these objects, in their order."""
         with self._process([*self._words, "cat-file", "--batch", "--buffer"]) as process:
             assert process.stdin and process.stdout
             given, out = process.stdin, process.stdout
@@ -261,7 +261,7 @@ class Git:
                 out.read(1)
                 id = bytes.fromhex(digits.decode())
                 if len(content) != int(length[0]) or self.hashing.id_of(kind.decode(), content) != id:
-                    raise BridgeError(f"{self.folder}: the object {digits.decode()} is damaged")
+                    raise Damaged(self.folder, id)
                 yield id, kind.decode(), content
             asking.join()
             if process.wait():

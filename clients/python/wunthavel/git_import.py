@@ -7,12 +7,13 @@ has already is whole, so it isn't brought again.
 import contextlib
 import os
 from array import array
-from typing import Any, Dict, Iterable, List, Optional, Sequence, Tuple
+from typing import Any, Collection, Dict, Iterable, List, Optional, Sequence, Tuple
 
 from .bridge import Bars, Changes, Options, Side, compared, is_reached, options_of, report, test_changes, words_of
 from .bridge_folder import Store, is_history, read_names
-from .bridge_forms import FOLDER, MAX_CONTENT, MAX_PATH, BridgeError, CannotHold, Patterns, Problem, alike, collisions, commit_problem
-from .bridge_forms import git_commit_problem, git_log_problems, git_tag_problem, git_tree_problem, is_full_name, log_problems, name_problem, read_commit, read_tag, read_tree, shown, tag_problem, tree_problem, with_titles
+from .bridge_forms import FOLDER, MAX_CONTENT, MAX_PATH, BridgeError, CannotHold, Damaged, Patterns, Problem, alike, collisions, commit_problem
+from .bridge_forms import git_commit_problem, git_log_problems, git_tag_problem, git_tree_problem, is_full_name, log_problems, name_problem
+from .bridge_forms import read_commit, read_tag, read_tree, shown, tag_problem, tree_problem, with_titles
 from .bridge_git import Git, source
 from .bridge_graph import BLOB, COMMIT, KINDS, TAG, TREE, Graph
 from .bridge_trails import NOBODY, Trails
@@ -214,7 +215,7 @@ class Import:
             self._faults[number] = f"its content has {length:,} bytes, over {MAX_CONTENT:,}"
         bad = {it: why for it, why in self._faults.items() if self.wanted[it] and not self.there[it]}
         if bad:
-            trails = Trails(self.git.read, self.hashing, self.graph, self.side, self.order, bad)
+            trails = self._trails(bad)
             self.problems += [Problem(trails.name(it), why, trails.by(it), _hint(why, trails.by(it))) for it, why in bad.items()]
         for name, id in sorted(self.side.names.items()):
             number = self.graph.number.get(id)
@@ -224,6 +225,9 @@ class Import:
         if self.problems:
             raise CannotHold(sorted(self.problems))
         self._warn()
+
+    def _trails(self, sought: Collection[int]) -> Trails:
+        return Trails(self.git.read, self.hashing, self.graph, self.side, self.order, sought)
 
     def _warn(self) -> None:
         """Notes what a history can hold and git can't take back."""
@@ -267,8 +271,12 @@ class Import:
     def write(self, missing: Sequence[int], now: Changes) -> None:
         """Writes objects, then names, then logs, then HEAD."""
         contents = self.git.read(self.graph.ids[it] for it in missing)
-        for id, kind, content in self.bars.over(contents, "writing objects", len(missing)):
-            self.store.write(id, kind, content)
+        try:
+            for id, kind, content in self.bars.over(contents, "writing objects", len(missing)):
+                self.store.write(id, kind, content)
+        except Damaged as error:
+            number = self.graph.number[error.id]
+            raise BridgeError(f"{error} ({self._trails([number]).by(number)})") from None
         if now.names or now.gone:
             self.store.write_names(now.names, now.gone)
         for name, log in now.logs.items():
